@@ -1,0 +1,10 @@
+pub mod Cases
+pub mod Tests
+pub mod Below
+pub mod Count
+pub mod Splice
+pub mod Tab
+pub mod Seen
+pub mod Table
+pub mod Fold
+pub mod Product

@@ -1,0 +1,108 @@
+-- A part of a list, and a list with a part replaced.
+use mathlib.Core.Path.{_≡_, refl, ap, sym, _∙_}
+use mathlib.Core.Logic.{_⊎_, inl, inr}
+use mathlib.Core.List.{List, _++_, append-assoc, append-nil}
+use Prim.Native.Nat.{ℕ, _+_, _-_, _≤_, _<_}
+use native.Mathlib.Nat.{zero-add}
+use native.Mathlib.Numerals.{add-one}
+use native.Mathlib.Omega.{arith}
+use lib.ListN.{set, length, take, drop, getD, length-append, length-take, length-drop, List·getD-append}
+use lib.Seq.{drop-length, paste, paste-suc, take-length, length-take-le, getD-take, getD-drop, getD-append-add, take-at, drop-at, ext-getD}
+use Rattle.lists.specs.Cases.{split}
+
+-- the n elements of xs from `at` on
+unfoldable pub part : List ℕ → ℕ → ℕ → List ℕ
+part xs at n = take n (drop at xs)
+
+-- xs with ys in place of its elements from `at` on
+unfoldable pub splice : List ℕ → ℕ → List ℕ → List ℕ
+splice xs at ys = take at xs ++ (ys ++ drop (at + length ys) xs)
+
+module _ (xs : List ℕ) (at n : ℕ) (fits : at + n ≤ length xs) where
+  pub length-part : length (part xs at n) ≡ n
+  unfolding part
+  length-part = simp (length-take, length-drop) (omega arith)
+
+  pub getD-part : (i : ℕ) → i < n → getD (part xs at n) i 0 ≡ getD xs (at + i) 0
+  unfolding part
+  getD-part i h = rw (getD-take, getD-drop)
+
+-- a part of a part
+pub part-part : (xs : List ℕ) (at n b m : ℕ) → at + n ≤ length xs → b + m ≤ n → part (part xs at n) b m ≡ part xs (at + b) m
+part-part xs at n b m fits inner =
+    let l : length (part xs at n) ≡ n = length-part xs at n fits in
+    let li : length (part (part xs at n) b m) ≡ m = length-part (part xs at n) b m (omega arith) in
+    let lo : length (part xs (at + b) m) ≡ m = length-part xs (at + b) m (omega arith) in
+    ext-getD 0 (part (part xs at n) b m) (part xs (at + b) m) (li ∙ sym lo)
+    (λ i h. getD-part (part xs at n) b m (omega arith) i (omega arith) ∙ getD-part xs at n fits (b + i) (omega arith)
+    ∙ (let q : at + (b + i) ≡ (at + b) + i = omega arith in ap (λ (k : ℕ). getD xs k 0) q)
+    ∙ sym (getD-part xs (at + b) m (omega arith) i (omega arith)))
+
+module _ (xs : List ℕ) (at : ℕ) (ys : List ℕ) (fits : at + length ys ≤ length xs) where
+  pub length-splice : length (splice xs at ys) ≡ length xs
+  unfolding splice
+  length-splice = simp (length-append, length-take, length-drop) (omega arith)
+
+  head-long : length (take at xs) ≡ at
+  head-long = length-take-le at xs (omega arith)
+
+  pub part-splice-same : part (splice xs at ys) at (length ys) ≡ ys
+  unfolding part splice
+  part-splice-same = rw (drop-at (take at xs) _ at head-long, take-at ys _ (length ys) refl)
+
+  pub getD-splice-in : (i : ℕ) → i < length ys → getD (splice xs at ys) (at + i) 0 ≡ getD ys i 0
+  unfolding splice
+  getD-splice-in i h =
+      rw (ap (λ (k : ℕ). getD (take at xs ++ (ys ++ drop (at + length ys) xs)) (k + i) 0) (sym head-long), getD-append-add, List·getD-append)
+
+  getD-splice-below : (i : ℕ) → i < at → getD (splice xs at ys) i 0 ≡ getD xs i 0
+  unfolding splice
+  getD-splice-below i h =
+      let l : i < length (take at xs) = omega (arith, head-long) in rw (List·getD-append (take at xs) _ 0 i l, getD-take)
+
+  getD-splice-above : (i : ℕ) → at + length ys ≤ i → getD (splice xs at ys) i 0 ≡ getD xs i 0
+  unfolding splice
+  getD-splice-above i h =
+      let m : ℕ = i - (at + length ys) in
+      let hl : length (take at xs ++ ys) ≡ at + length ys = simp (length-append, head-long) in
+      let e : i ≡ length (take at xs ++ ys) + m = omega (arith, hl) in
+      let f : i ≡ (at + length ys) + m = omega arith in
+      rw (← append-assoc) (ap (λ (k : ℕ). getD ((take at xs ++ ys) ++ drop (at + length ys) xs) k 0) e
+      ∙ getD-append-add (take at xs ++ ys) (drop (at + length ys) xs) m 0 ∙ getD-drop (at + length ys) xs m 0
+      ∙ ap (λ (k : ℕ). getD xs k 0) (sym f))
+
+  -- no element outside the part changes
+  pub getD-splice-out : (i : ℕ) → (i < at) ⊎ (at + length ys ≤ i) → getD (splice xs at ys) i 0 ≡ getD xs i 0
+  getD-splice-out i (inl h) = getD-splice-below i h
+  getD-splice-out i (inr h) = getD-splice-above i h
+
+  -- nor does a part apart from it
+  pub part-splice-other : (b n : ℕ) → b + n ≤ length xs → (b + n ≤ at) ⊎ (at + length ys ≤ b) → part (splice xs at ys) b n ≡ part xs b n
+  part-splice-other b n room apart =
+      let room′ : b + n ≤ length (splice xs at ys) = rw length-splice room in
+      let l : length (part (splice xs at ys) b n) ≡ n = length-part (splice xs at ys) b n room′ in
+      ext-getD 0 (part (splice xs at ys) b n) (part xs b n) (l ∙ sym (length-part xs b n room))
+      (λ i h. let h′ : i < n = omega (arith, l) in
+      getD-part (splice xs at ys) b n room′ i h′ ∙ getD-splice-out (b + i) (split apart (λ w. inl (omega arith)) (λ w. inr (omega arith)))
+      ∙ sym (getD-part xs b n room i h′))
+
+-- a splice over the whole of a list
+pub splice-whole : (xs ys : List ℕ) → length xs ≡ length ys → splice xs 0 ys ≡ ys
+unfolding splice
+splice-whole xs ys e = rw zero-add (rw (← e, drop-length xs) (append-nil ys))
+
+-- ---- a loop that copies ys into xs from `at` on: its turn and its end
+pub paste-more : (d l s : List ℕ) (at i : ℕ) → at + length s ≤ length d → i < length s → l ≡ paste d at s i → set l (at + i) (getD s i 0) ≡ paste d at s (i + 1)
+paste-more d l s at i fits h e = rw (e, add-one, paste-suc d at s i 0 (omega arith) h)
+
+pub paste-all : (d l s : List ℕ) (at i : ℕ) → i ≡ length s → l ≡ paste d at s i → l ≡ splice d at s
+unfolding splice
+paste-all d l s at i h e = rw (e, h, take-length, append-assoc)
+
+-- a copy out of src, written as a copy over the whole of dst
+pub splice-part : (src dst out : List ℕ) (at e : ℕ) → at + length dst ≤ length src → e ≡ at + length dst → out ≡ splice dst 0 (take (e - at) (drop at src)) → out ≡ part src at (length dst)
+unfolding part
+splice-part src dst out at e room he h =
+    let n : e - at ≡ length dst = omega arith in
+    let l : length dst ≡ length (take (length dst) (drop at src)) = simp (length-take, length-drop) (omega arith) in
+    h ∙ ap (λ (k : ℕ). splice dst 0 (take k (drop at src))) n ∙ splice-whole dst (take (length dst) (drop at src)) l
