@@ -1,0 +1,51 @@
+-- Document 01: "An image is consistent when ..".
+use mathlib.Core.Bool.{Bool, true, false, not, cond}
+use Prim.Native.Nat.{ℕ, _+_, _*_, _/_, _%_}
+use lib.Dec.{eqb, leb, ltb}
+use Rattle.lists.specs.Tests.{_and_, _or_}
+use Rattle.lists.specs.Below.{allBelow, anyBelow}
+use Rattle.lists.specs.Seen.{taken}
+use Rattle.format.specs.Diskette.{Bytes, Geometry}
+use Rattle.format.specs.Names.{nameRight}
+use Rattle.format.specs.Entries.{Rows, entryAt, slotCount, userOf, exOf, s2Of, rcOf, slotOf, empty, used, isFile, extentOf}
+
+-- ex 0 to 31, s2 0 to 63 and rc 0 to 128, of a row or an FCB
+unfoldable pub numbersRight : Bytes → Bool
+numbersRight r = leb (exOf r) 31 and leb (s2Of r) 63 and leb (rcOf r) 128
+
+-- 0, or the number of a block past the directory
+unfoldable pub slotRight : Geometry → ℕ → Bool
+slotRight G b = eqb b 0 or (leb (G .area) b and ltb b (G .blocks))
+
+unfoldable pub slotsRight : Geometry → Bytes → Bool
+slotsRight G r = allBelow (λ (j : ℕ). slotRight G (slotOf r j)) slotCount
+
+-- each entry is empty, or has a user, a name, numbers and slots in range
+unfoldable pub entryRight : Geometry → Bytes → Bool
+entryRight G r = empty r or (used r and nameRight false r 1 and numbersRight r and slotsRight G r)
+
+-- the slots of all entries, counted through
+abbrev pub slotsInAll : Geometry → ℕ
+slotsInAll G = slotCount * G .entries
+
+-- the block that slot x of them lists: 0 is none, and only used entries list blocks
+unfoldable pub listed : Rows → ℕ → ℕ
+listed d x = cond (used (d (x / slotCount))) (slotOf (d (x / slotCount)) (x % slotCount)) 0
+
+-- no block number other than 0 stands twice in the used entries
+unfoldable pub listedOnce : Rows → ℕ → Bool
+listedOnce d x = eqb (listed d x) 0 or not (taken (listed d) x (listed d x))
+
+-- no two used entries agree in user, seven-bit name and extent
+unfoldable pub sameFile : Bytes → Bytes → Bool
+sameFile r t = used r and used t and isFile (userOf t) t 1 (extentOf t) r
+
+unfoldable pub alone : Rows → ℕ → Bool
+alone d e = not (anyBelow (λ (f : ℕ). sameFile (d e) (d f)) e)
+
+unfoldable pub consistentRows : Geometry → Rows → Bool
+consistentRows G d =
+    allBelow (λ (e : ℕ). entryRight G (d e)) (G .entries) and allBelow (listedOnce d) (slotsInAll G) and allBelow (alone d) (G .entries)
+
+unfoldable pub consistent : Geometry → Bytes → Bool
+consistent G img = consistentRows G (entryAt G img)

@@ -1,0 +1,78 @@
+-- Document 01, "The diskette". Every definition takes the disk's sizes as a parameter; the 8-inch disk is one of them.
+use mathlib.Core.Path.{_≡_}
+use mathlib.Core.List.{List, [], _∷_}
+use Prim.Native.Nat.{ℕ, _+_, _-_, _*_, _/_, _%_, _≤_, _<_}
+use lib.ListN.{getD}
+use Rattle.lists.specs.Splice.{part, splice}
+
+abbrev pub Bytes : Type 0
+Bytes = List ℕ
+
+-- the sizes of a disk
+pub record Geometry : Type 0 where
+  pub tracks : ℕ
+  -- sectors a track, of one record each
+  pub sectors : ℕ
+  -- the system tracks, which are never touched
+  pub reserved : ℕ
+  -- records a block
+  pub perBlock : ℕ
+  pub blocks : ℕ
+  -- the directory is blocks 0 to area - 1
+  pub area : ℕ
+  pub entries : ℕ
+  -- the physical sector, counted from 1, of a logical one, counted from 0
+  pub physical : ℕ → ℕ
+
+-- sizes that are the same on every disk
+abbrev pub recordBytes : ℕ
+recordBytes = 128
+
+-- the physical sectors of the 8-inch disk, from logical 0 on
+unfoldable pub skew : List ℕ
+skew = 1 ∷ 7 ∷ 13 ∷ 19 ∷ 25 ∷ 5 ∷ 11 ∷ 17 ∷ 23 ∷ 3 ∷ 9 ∷ 15 ∷ 21 ∷ 2 ∷ 8 ∷ 14 ∷ 20 ∷ 26 ∷ 6 ∷ 12 ∷ 18 ∷ 24 ∷ 4 ∷ 10 ∷ 16 ∷ 22 ∷ []
+
+unfoldable pub skewed : ℕ → ℕ
+skewed s = getD skew s 0
+
+abbrev pub eightInch : Geometry
+eightInch = record { tracks = 77; sectors = 26; reserved = 2; perBlock = 8; blocks = 243; area = 2; entries = 64; physical = skewed }
+
+-- what the laws ask of a disk's sizes; the 8-inch disk's are so (crate disk). The sizes that hold on every disk enter here too:
+-- an entry's sixteen slots are enough for the 128 records of an extent
+pub record Sound (G : Geometry) : Type 0 where
+  pub some-sector : 0 < G .sectors
+  pub some-record : 0 < G .perBlock
+  pub physical-low : (s : ℕ) → s < G .sectors → 1 ≤ G .physical s
+  pub physical-high : (s : ℕ) → s < G .sectors → G .physical s ≤ G .sectors
+  pub physical-once : (s t : ℕ) → s < G .sectors → t < G .sectors → G .physical s ≡ G .physical t → s ≡ t
+  -- every record of every block lies on a track
+  pub tracks-hold : G .perBlock * G .blocks + G .sectors * G .reserved ≤ G .sectors * G .tracks
+  -- the directory lies in its blocks, from block 0 on, and leaves blocks over
+  pub area-holds : G .entries ≤ 4 * (G .perBlock * G .area)
+  pub area-some : 0 < G .area
+  pub area-below : G .area < G .blocks
+  pub slots-hold : 128 ≤ 16 * G .perBlock
+
+-- the image, stored track after track
+abbrev pub imageBytes : Geometry → ℕ
+imageBytes G = G .tracks * G .sectors * recordBytes
+
+-- record k of block b, as a disk record
+abbrev pub diskRecord : Geometry → ℕ → ℕ → ℕ
+diskRecord G b k = G .perBlock * b + k
+
+-- the sectors of the image that stand before disk record d
+unfoldable pub sectorsBefore : Geometry → ℕ → ℕ
+sectorsBefore G d = G .sectors * (G .reserved + d / G .sectors) + G .physical (d % G .sectors) - 1
+
+-- the byte of the image at which disk record d starts
+unfoldable pub offsetOf : Geometry → ℕ → ℕ
+offsetOf G d = sectorsBefore G d * recordBytes
+
+-- the bytes of disk record d, and the image with that record replaced
+unfoldable pub recordAt : Geometry → Bytes → ℕ → Bytes
+recordAt G img d = part img (offsetOf G d) recordBytes
+
+unfoldable pub withRecord : Geometry → Bytes → ℕ → Bytes → Bytes
+withRecord G img d bytes = splice img (offsetOf G d) bytes

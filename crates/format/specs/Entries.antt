@@ -1,0 +1,105 @@
+-- Document 01, "Directory entries": a row is the 32 bytes of an entry. Bytes 1 to 31 of an FCB are laid out the same way.
+use mathlib.Core.Bool.{Bool, true, false, not}
+use Prim.Native.Nat.{ℕ, _+_, _*_, _/_, _%_}
+use lib.Dec.{eqb, leb}
+use lib.ListN.{getD}
+use Rattle.lists.specs.Tests.{_and_}
+use Rattle.lists.specs.Splice.{part, splice}
+use Rattle.lists.specs.Below.{firstIn}
+use Rattle.format.specs.Diskette.{Bytes, Geometry, recordBytes, offsetOf}
+use Rattle.format.specs.Names.{nameLike}
+use Rattle.format.specs.Found.{foundBelow}
+use Rattle.format.specs.declared.Found.{Found}
+
+-- sizes that are the same on every disk
+abbrev pub entryBytes : ℕ
+entryBytes = 32
+
+abbrev pub entriesPerRecord : ℕ
+entriesPerRecord = 4
+
+abbrev pub slotCount : ℕ
+slotCount = 16
+
+-- ---- where an entry stands
+unfoldable pub entryPlace : Geometry → ℕ → ℕ
+entryPlace G e = offsetOf G (e / entriesPerRecord) + e % entriesPerRecord * entryBytes
+
+-- entry e of an image, and the image with that entry replaced
+unfoldable pub entryAt : Geometry → Bytes → ℕ → Bytes
+entryAt G img e = part img (entryPlace G e) entryBytes
+
+unfoldable pub withEntry : Geometry → Bytes → ℕ → Bytes → Bytes
+withEntry G img e row = splice img (entryPlace G e) row
+
+-- ---- the fields of a row
+abbrev pub userOf : Bytes → ℕ
+userOf r = getD r 0 0
+
+abbrev pub exOf : Bytes → ℕ
+exOf r = getD r 12 0
+
+abbrev pub s2Of : Bytes → ℕ
+s2Of r = getD r 14 0
+
+abbrev pub rcOf : Bytes → ℕ
+rcOf r = getD r 15 0
+
+-- the sixteen block numbers
+unfoldable pub slotsOf : Bytes → Bytes
+slotsOf r = part r 16 slotCount
+
+unfoldable pub slotOf : Bytes → ℕ → ℕ
+slotOf r j = getD r (16 + j) 0
+
+-- byte 0 is E5H
+unfoldable pub empty : Bytes → Bool
+empty r = eqb (userOf r) 229
+
+-- byte 0 is a user, 0 to 15
+unfoldable pub used : Bytes → Bool
+used r = leb (userOf r) 15
+
+-- t1'
+unfoldable pub readOnly : Bytes → Bool
+readOnly r = leb 128 (getD r 9 0)
+
+-- ---- what an entry says of extents: what other disks will do otherwise is told by these three alone
+unfoldable pub extentOf : Bytes → ℕ
+extentOf r = 32 * s2Of r + exOf r
+
+-- the row covers the extent
+unfoldable pub covers : Bytes → ℕ → Bool
+covers r ext = eqb (extentOf r) ext
+
+-- the records of that extent which the row counts
+unfoldable pub countIn : Bytes → ℕ → ℕ
+countIn r ext = rcOf r
+
+-- the slot that holds a record of the extent
+unfoldable pub slotFor : Geometry → ℕ → ℕ → ℕ
+slotFor G ext record′ = record′ / G .perBlock
+
+-- ---- looking for entries
+abbrev pub Rows : Type 0
+Rows = ℕ → Bytes
+
+-- the row is the user's, and its name is what the name in s at q asks for
+unfoldable pub named : Bool → ℕ → Bytes → ℕ → Bytes → Bool
+named wild user s q row = eqb (userOf row) user and nameLike wild s q row 1
+
+-- the row is the user's, of the name in s at q, and covers the extent
+unfoldable pub isFile : ℕ → Bytes → ℕ → ℕ → Bytes → Bool
+isFile user s q ext row = named false user s q row and covers row ext
+
+-- the entry of this user, name and extent
+unfoldable pub findFile : Geometry → Rows → ℕ → Bytes → ℕ → ℕ → Found
+findFile G d user s q ext = foundBelow (G .entries) (firstIn (λ (e : ℕ). isFile user s q ext (d e)) 0 (G .entries))
+
+-- the first entry from i on of this user whose name is asked for
+unfoldable pub findNamed : Geometry → Rows → Bool → ℕ → Bytes → ℕ → ℕ → Found
+findNamed G d wild user s q i = foundBelow (G .entries) (firstIn (λ (e : ℕ). named wild user s q (d e)) i (G .entries))
+
+-- the first empty entry
+unfoldable pub findEmpty : Geometry → Rows → Found
+findEmpty G d = foundBelow (G .entries) (firstIn (λ (e : ℕ). empty (d e)) 0 (G .entries))

@@ -1,0 +1,44 @@
+-- Document 01, "When an FCB is current". An FCB is 36 bytes: a row's fields in bytes 1 to 31, then cr and r0 to r2.
+use mathlib.Core.Bool.{Bool, true, false, cond}
+use Prim.Native.Nat.{ℕ, _+_, _*_}
+use lib.Dec.{eqb, leb}
+use lib.ListN.{getD}
+use Rattle.lists.specs.Tests.{_and_, _or_}
+use Rattle.lists.specs.Below.{allBelow}
+use Rattle.format.specs.Diskette.{Bytes, Geometry}
+use Rattle.format.specs.Names.{nameRight}
+use Rattle.format.specs.Entries.{Rows, slotCount, slotsOf, extentOf, findFile}
+use Rattle.format.specs.Consistent.{numbersRight}
+use Rattle.format.specs.Notes.{pendingFor, noteAt}
+use Rattle.format.specs.declared.Found.{Found}
+use Rattle.format.specs.declared.Found.the-variants.{At, Nothing}
+
+abbrev pub fcbBytes : ℕ
+fcbBytes = 36
+
+abbrev pub crOf : Bytes → ℕ
+crOf fcb = getD fcb 32 0
+
+-- r0 + 256 r1 + 65,536 r2
+unfoldable pub randomOf : Bytes → ℕ
+randomOf fcb = getD fcb 33 0 + 256 * getD fcb 34 0 + 65536 * getD fcb 35 0
+
+-- its name obeys the name rule; ex, s2, rc and cr are in range
+unfoldable pub fcbRight : Bytes → Bool
+fcbRight fcb = nameRight false fcb 1 and numbersRight fcb and leb (crOf fcb) 128
+
+-- slot j of the FCB (fs) equals the entry's (es), or the entry's is 0 and the FCB's block is noted pending for e, j
+unfoldable pub slotFits : Bytes → ℕ → Bytes → Bytes → ℕ → Bool
+slotFits map e es fs j =
+    eqb (getD fs j 0) (getD es j 0) or (eqb (getD es j 0) 0 and eqb (noteAt map (getD fs j 0)) (pendingFor e j))
+
+unfoldable pub slotsFit : Bytes → ℕ → Bytes → Bytes → Bool
+slotsFit map e es fs = allBelow (slotFits map e es fs) slotCount
+
+abbrev pub fitting : Rows → Bytes → Bytes → Found → Found
+fitting d map fcb (At e) = cond (slotsFit map e (slotsOf (d e)) (slotsOf fcb)) (At e) Nothing
+fitting d map fcb Nothing = Nothing
+
+-- the entry of a current FCB
+unfoldable pub current : Geometry → Rows → Bytes → ℕ → Bytes → Found
+current G d map user fcb = cond (fcbRight fcb) (fitting d map fcb (findFile G d user fcb 1 (extentOf fcb))) Nothing

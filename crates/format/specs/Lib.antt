@@ -1,0 +1,7 @@
+pub mod Diskette
+pub mod Names
+pub mod Entries
+pub mod Consistent
+pub mod Notes
+pub mod Fcb
+pub mod Found
