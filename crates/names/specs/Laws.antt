@@ -2,15 +2,15 @@
 use mathlib.Core.Path.{_≡_, refl, sym, ap, _∙_}
 use mathlib.Core.Bool.{Bool, true, false, not}
 use Prim.Native.Nat.{ℕ, _+_, _≤_, _<_}
+use native.Mathlib.Nat.{add-zero}
 use native.Mathlib.Omega.{arith}
-use lib.Dec.{eqb, leb}
+use lib.Dec.{eqb}
 use lib.ListN.{getD}
-use borrow.Author.Tests.{eqb-true, eq-eqb}
-use Rattle.lists.specs.Cases.{bool-ext}
-use Rattle.lists.specs.Tests.{_and_, _or_, and-left, and-right, and-both, and-fails-left, or-left, or-right, or-first, or-cases}
-use Rattle.lists.specs.Below.{allBelow, all-at, all-intro, all-cong}
+use borrow.Author.Tests.{eqb-true, eqb-false, eq-eqb, ne-eqb, leb-true, not-true}
+use Rattle.lists.specs.Tests.{_and_, _or_, and-left, and-right, and-both, or-left, or-right, or-first}
+use Rattle.lists.specs.Below.{all-at, all-intro, all-cong}
 use Rattle.format.specs.Diskette.{Bytes}
-use Rattle.format.specs.Names.{nameBytes, sevenBits, anyByte, nameByte, nameRight, byteLike, nameLike}
+use Rattle.format.specs.Names.{nameBytes, sevenBits, nameByte, nameRight, byteLike, nameLike}
 
 -- byte i of the name in r at p, in the seven bits that are compared
 abbrev pub nameBits : Bytes → ℕ → ℕ → ℕ
@@ -38,6 +38,10 @@ like-sym s q r p h = like-intro r p s q (λ i l. sym (like-at s q r p h i l))
 pub like-trans : (s : Bytes) (q : ℕ) (r : Bytes) (p : ℕ) (t : Bytes) (o : ℕ) → nameLike false s q r p ≡ true → nameLike false r p t o ≡ true → nameLike false s q t o ≡ true
 like-trans s q r p t o h k = like-intro s q t o (λ i l. like-at s q r p h i l ∙ like-at r p t o k i l)
 
+byte-cong : (wild : Bool) (x y : ℕ) → sevenBits x ≡ sevenBits y → nameByte wild x ≡ nameByte wild y
+unfolding nameByte
+byte-cong wild x y e = rw e
+
 -- ---- the tests depend on the seven bits of the eleven bytes alone
 module _ (wild : Bool) (s : Bytes) (q : ℕ) (r : Bytes) (p : ℕ) (same : (i : ℕ) → i < nameBytes → nameBits s q i ≡ nameBits r p i) where
   -- either side of a comparison
@@ -51,8 +55,37 @@ module _ (wild : Bool) (s : Bytes) (q : ℕ) (r : Bytes) (p : ℕ) (same : (i : 
 
   -- the name rule
   pub right-cong : nameRight wild s q ≡ nameRight wild r p
-  unfolding nameRight nameByte
-  right-cong = ?
+  unfolding nameRight
+  right-cong =
+      let first : sevenBits (getD s q 0) ≡ sevenBits (getD r p 0) = simp add-zero at (same 0 (omega arith)) in
+      rw (all-cong (λ (i : ℕ). nameByte wild (getD s (q + i) 0)) (λ (i : ℕ). nameByte wild (getD r (p + i) 0)) nameBytes (λ i l. byte-cong wild _ _ (same i l)), first)
+
+-- ---- the name rule, taken apart
+pub record Named (wild : Bool) (r : Bytes) (at : ℕ) : Type 0 where
+  pub bytes : (i : ℕ) → i < nameBytes → nameByte wild (getD r (at + i) 0) ≡ true
+  pub first : sevenBits (getD r at 0) ≡ 32 → ⊥
+
+pub right-elim : (wild : Bool) (r : Bytes) (at : ℕ) → nameRight wild r at ≡ true → Named wild r at
+unfolding nameRight
+right-elim wild r at h =
+    record { bytes = all-at _ nameBytes (and-left _ _ h); first = eqb-false _ _ (not-true _ (and-right _ _ h)) }
+
+pub right-intro : (wild : Bool) (r : Bytes) (at : ℕ) → Named wild r at → nameRight wild r at ≡ true
+unfolding nameRight
+right-intro wild r at n = and-both _ _ (all-intro _ nameBytes (n .bytes)) (ap not (ne-eqb _ _ (n .first)))
+
+-- 20H to 7EH, and in a name not 3FH
+pub byte-low : (wild : Bool) (b : ℕ) → nameByte wild b ≡ true → 32 ≤ sevenBits b
+unfolding nameByte
+byte-low wild b h = leb-true _ _ (and-left _ _ h)
+
+pub byte-high : (wild : Bool) (b : ℕ) → nameByte wild b ≡ true → sevenBits b ≤ 126
+unfolding nameByte
+byte-high wild b h = leb-true _ _ (and-left _ _ (and-right _ _ h))
+
+pub byte-plain : (b : ℕ) → nameByte false b ≡ true → sevenBits b ≡ 63 → ⊥
+unfolding nameByte _or_
+byte-plain b h = eqb-false _ _ (not-true _ (and-right _ _ (and-right _ _ h)))
 
 -- ---- patterns
 -- a pattern whose bytes are all 3FH asks for any name
