@@ -16,10 +16,10 @@ pub fn name_byte(wild: bool, b: u8) -> bool
     if 126 < low {
         return false;
     }
-    if wild {
+    if low != 63 {
         return true;
     }
-    low != 63
+    wild
 }
 
 // Whether the eleven bytes from `at` on obey the name rule.

@@ -1,6 +1,8 @@
 -- The tests that led to a return decide the conjunction.
-use borrow.Author.Tests.{le-leb, lt-leb}
-use Rattle.lists.specs.Tests.{_and_, _or_}
+use mathlib.Core.Path.{sym, ap}
+use mathlib.Core.Bool.{not}
+use borrow.Author.Tests.{le-leb, lt-leb, eq-eqb, ne-eqb}
+use Rattle.lists.specs.Tests.{_and_, or-right, or-first}
 use Rattle.format.specs.Names.{nameByte}
 use Rattle.names.proofs.name_byte.Statement.{statement}
 use Rattle.names.proofs.name_byte.Tie as tie
@@ -14,12 +16,12 @@ unfolding nameByte _and_
 returns-2 c = rw (le-leb _ _ (c .before .if1 .left), lt-leb _ _ (c .if2 .taken))
 
 returns-3 : tie.Need-returns-3
-unfolding nameByte _and_ _or_
-returns-3 c = rw (le-leb _ _ (c .before .before .if1 .left), le-leb _ _ (c .before .if2 .left), c .if3 .taken)
+unfolding nameByte _and_
+returns-3 c = rw (le-leb _ _ (c .before .before .if1 .left), le-leb _ _ (c .before .if2 .left)) (sym (or-right _ _ (ap not (ne-eqb _ _ (c .if3 .taken)))))
 
 returns-4 : tie.Need-returns-4
-unfolding nameByte _and_ _or_
-returns-4 c = rw (le-leb _ _ (c .before .before .if1 .left), le-leb _ _ (c .before .if2 .left), c .if3 .left)
+unfolding nameByte _and_
+returns-4 c = rw (le-leb _ _ (c .before .before .if1 .left), le-leb _ _ (c .before .if2 .left)) (sym (or-first _ _ (ap not (eq-eqb _ _ (c .if3 .left)))))
 
 pub name-byte-spec : {M : Type 1} → statement M
 name-byte-spec = tie.close (tie.spec returns returns-2 returns-3 returns-4)
