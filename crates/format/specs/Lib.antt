@@ -3,5 +3,6 @@ pub mod Names
 pub mod Entries
 pub mod Consistent
 pub mod Notes
+pub mod Marks
 pub mod Fcb
 pub mod Found

@@ -25,6 +25,9 @@ pub const BLOCKS: usize = 243;
 
 pub const AREA_BLOCKS: usize = 2;
 
+// A mark for each number that a slot can hold.
+pub const MARKS: usize = 256;
+
 pub const ENTRIES: usize = 64;
 
 pub const ENTRY_BYTES: usize = 32;
