@@ -66,5 +66,8 @@ pub listed-is : (G : Geometry) (d : Rows) (b : ℕ) → isListed G d b ≡ true 
 unfolding isListed taken
 listed-is G d b t ne =
     let s = any-some (λ (y : ℕ). eqb (listed d y) b) (slotsInAll G) t in
-    record { e = s .place / slotCount; j = s .place % slotCount;
-      stands = listed-stands G d b (s .place) (s .below) (eqb-true _ _ (s .holds)) ne }
+    record {
+      e = s .place / slotCount;
+      j = s .place % slotCount;
+      stands = listed-stands G d b (s .place) (s .below) (eqb-true _ _ (s .holds)) ne;
+    }
