@@ -57,6 +57,13 @@ unfolding allBelow
 all-cong p q zero f = refl
 all-cong p q (suc n) f = rw (all-cong p q n (λ k h. f k (omega arith)), f n (omega arith))
 
+-- two tests of each number
+pub all-both : (p q : ℕ → Bool) (n : ℕ) → allBelow (λ (k : ℕ). p k and q k) n ≡ (allBelow p n and allBelow q n)
+all-both p q n =
+    bool-ext _ _
+    (λ t. and-both _ _ (all-intro p n (λ k h. and-left _ _ (all-at _ n t k h))) (all-intro q n (λ k h. and-right _ _ (all-at _ n t k h))))
+    (λ t. all-intro _ n (λ k h. and-both _ _ (all-at p n (and-left _ _ t) k h) (all-at q n (and-right _ _ t) k h)))
+
 -- a turn of a loop that tests p i, and its end
 pub all-more : (p : ℕ → Bool) (i : ℕ) → allBelow p i ≡ true → p i ≡ true → allBelow p (i + 1) ≡ true
 all-more p i e f = all-next p i ∙ and-both _ _ e f
