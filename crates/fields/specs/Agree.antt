@@ -1,10 +1,11 @@
 -- Rows and FCBs that agree in some of their bytes agree in the fields that lie there, and in the tests that look there.
 use mathlib.Core.Path.{_≡_, refl, ap, sym, _∙_}
 use mathlib.Core.Bool.{Bool, false}
-use Prim.Native.Nat.{ℕ, _+_, _≤_, _<_}
+use Prim.Native.Nat.{ℕ, _+_, _-_, _≤_, _<_}
 use native.Mathlib.Omega.{arith}
 use lib.ListN.{length, getD}
 use lib.Seq.{ext-getD}
+use Rattle.lists.specs.Cases.{split, lt-or-le}
 use Rattle.lists.specs.Tests.{_and_}
 use Rattle.lists.specs.Below.{first-cong}
 use Rattle.lists.specs.Splice.{length-part}
@@ -14,7 +15,9 @@ use Rattle.format.specs.Entries.{Rows, userOf, exOf, s2Of, rcOf, slotOf, slotsO
 use Rattle.format.specs.Found.{foundBelow}
 use Rattle.format.specs.Consistent.{numbersRight, sameFile}
 use Rattle.format.specs.ListedLaws.{slot-at}
-use Rattle.format.specs.Fcb.{crOf, randomOf, fcbRight}
+use Rattle.format.specs.Fcb.{crOf, randomOf, fcbRight, fitting, current}
+use Rattle.format.specs.declared.Found.{Found}
+use Rattle.format.specs.declared.Found.the-variants.{At, Nothing}
 use Rattle.names.specs.Laws.{nameBits, like-cong-left, like-cong-right, right-cong}
 
 -- bytes a to b - 1 of r and t are the same
@@ -37,6 +40,14 @@ module _ (r t : Bytes) where
       let l : length (slotsOf r) ≡ 16 = length-part r 16 slotCount (omega arith) in
       ext-getD 0 (slotsOf r) (slotsOf t) (l ∙ sym (length-part t 16 slotCount (omega arith)))
       (λ j b. let b′ : j < 16 = omega arith in slot-at r j b′ ∙ slot-cong h j b′ ∙ sym (slot-at t j b′))
+
+  -- a row is its bytes below the slots, and its slots
+  pub row-ext : length r ≡ 32 → length t ≡ 32 → Agree r t 0 16 → ((j : ℕ) → j < slotCount → slotOf r j ≡ slotOf t j) → r ≡ t
+  unfolding slotOf
+  row-ext hr ht h f =
+      ext-getD 0 r t (hr ∙ sym ht)
+      (λ i b. split (lt-or-le i 16) (λ l. h i (omega arith) l)
+      (λ l. let q : 16 + (i - 16) ≡ i = omega arith in rw q at (f (i - 16) (omega arith))))
 
   pub extent-cong : Agree r t 12 15 → extentOf r ≡ extentOf t
   unfolding extentOf
@@ -123,3 +134,15 @@ module _ (f g : Bytes) where
   unfolding fcbRight
   fcbRight-cong n h =
       rw (right-cong false f 1 g 1 n, numbers-cong f g (λ i a b. h i (omega arith) (omega arith)), h 32 (omega arith) (omega arith))
+
+fitting-cong : (d : Rows) (map f g : Bytes) (x : Found) → slotsOf f ≡ slotsOf g → fitting d map f x ≡ fitting d map g x
+fitting-cong d map f g (At e) h = rw h
+fitting-cong d map f g Nothing h = refl
+
+-- whether an FCB is current, and for which entry
+pub current-cong : (f g : Bytes) → 32 ≤ length f → 32 ≤ length g → SameName f 1 g 1 → Agree f g 12 33
+    → (G : Geometry) (d : Rows) (map : Bytes) (user : ℕ) → current G d map user f ≡ current G d map user g
+unfolding current
+current-cong f g hf hg n h G d map user =
+    rw (fcbRight-cong f g n h, extent-cong f g (λ i a b. h i (omega arith) (omega arith)), findFile-asked f 1 g 1 n G d user (extentOf g),
+    fitting-cong d map f g (findFile G d user g 1 (extentOf g)) (slots-cong f g hf hg (λ i a b. h i (omega arith) (omega arith))))
