@@ -1,3 +1,5 @@
 pub mod Agree
 pub mod Closing
 pub mod Entering
+pub mod Making
+pub mod Numbers

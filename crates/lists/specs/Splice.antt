@@ -18,6 +18,10 @@ part xs at n = take n (drop at xs)
 unfoldable pub splice : List ℕ → ℕ → List ℕ → List ℕ
 splice xs at ys = take at xs ++ (ys ++ drop (at + length ys) xs)
 
+-- what stands past a first list
+pub getD-append-past : (xs ys : List ℕ) (n : ℕ) → length xs ≡ n → (k : ℕ) → getD (xs ++ ys) (n + k) 0 ≡ getD ys k 0
+getD-append-past xs ys n e k = ap (λ (m : ℕ). getD (xs ++ ys) (m + k) 0) (sym e) ∙ getD-append-add xs ys k 0
+
 module _ (xs : List ℕ) (at n : ℕ) (fits : at + n ≤ length xs) where
   pub length-part : length (part xs at n) ≡ n
   unfolding part
