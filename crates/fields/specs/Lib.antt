@@ -3,3 +3,4 @@ pub mod Closing
 pub mod Entering
 pub mod Making
 pub mod Numbers
+pub mod Target
