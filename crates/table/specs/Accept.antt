@@ -105,22 +105,56 @@ module _ (G : Geometry) (l : Lent) (s : Session) where
   own-right a call18 o = (ap not (o .on), (missed _ (o .entry), tt))
   own-right a call19 o = (ap not (o .name), (some-right G l s true 1 (o .files .some), (writable-right G l s true (o .files .writable), tt)))
   own-right a call20 o = (missed _ (o .entry), (and-fails-right _ _ (missed _ (o .entry)), (ap not (o .there), tt)))
-  own-right a call21 o =
-      (missed _ (o .entry), (o .writable, (and-fails-right _ _ (missed _ (o .entry)),
-      (lt-leb _ _ (o .extent), (either-missed _ _ (o .room), (block-right 21 (o .block), tt))))))
+  own-right a call21 o = (
+    missed _ (o .entry),
+    (
+      o .writable,
+      (
+        and-fails-right _ _ (missed _ (o .entry)),
+        (lt-leb _ _ (o .extent), (either-missed _ _ (o .room), (block-right 21 (o .block), tt))),
+      ),
+    ),
+  )
   own-right a call22 o = (ap not (o .name), (le-ltb _ _ (o .ex), (ap isFound (o .new), (missed _ (o .entry), tt))))
-  own-right a call23 o =
-      (ap not (o .name), (ap not (o .new-name), (some-right G l s false 1 (o .files .some), (writable-right G l s false (o .files .writable),
-      (none-right G l s 17 (o .new), tt)))))
+  own-right a call23 o = (
+    ap not (o .name),
+    (
+      ap not (o .new-name),
+      (
+        some-right G l s false 1 (o .files .some),
+        (
+          writable-right G l s false (o .files .writable),
+          (none-right G l s 17 (o .new), tt),
+        ),
+      ),
+    ),
+  )
   own-right a call32 o = (argument-right a o, tt)
   own-right a call33 o =
-      let below : targetExtent 33 (l .fcb) < extents = o .extent in
-      (le-ltb 262143 (randomOf (l .fcb)) (omega (arith, random-extent 33 (l .fcb) refl)), (missed _ (o .entry), (and-fails-right _ _ (missed _ (o .entry)),
-      (missed _ (o .target), (ap not (o .there), tt)))))
+      let below : targetExtent 33 (l .fcb) < extents = o .extent in (
+        le-ltb 262143 (randomOf (l .fcb)) (omega (arith, random-extent 33 (l .fcb) refl)),
+        (
+          missed _ (o .entry),
+          (
+            and-fails-right _ _ (missed _ (o .entry)),
+            (missed _ (o .target), (ap not (o .there), tt)),
+          ),
+        ),
+      )
   own-right a call34 o =
-      let below : targetExtent 34 (l .fcb) < extents = o .extent in
-      (le-ltb 262143 (randomOf (l .fcb)) (omega (arith, random-extent 34 (l .fcb) refl)), (missed _ (o .entry), (o .writable, (and-fails-right _ _ (missed _ (o .entry)),
-      (either-missed _ _ (o .room), (block-right 34 (o .block), tt))))))
+      let below : targetExtent 34 (l .fcb) < extents = o .extent in (
+        le-ltb 262143 (randomOf (l .fcb)) (omega (arith, random-extent 34 (l .fcb) refl)),
+        (
+          missed _ (o .entry),
+          (
+            o .writable,
+            (
+              and-fails-right _ _ (missed _ (o .entry)),
+              (either-missed _ _ (o .room), (block-right 34 (o .block), tt)),
+            ),
+          ),
+        ),
+      )
   own-right a call35 o = (ap not (o .name), (some-right G l s false 1 (o .some), tt))
   own-right a call36 o = (positions-right G l s o, tt)
   own-right a call46 o = tt
@@ -161,6 +195,7 @@ module _ (G : Geometry) (n argument : ℕ) (l : Lent) (s : Session) where
   pub passes : (c : Call n) → Ready G n l s → Own G l s argument c → verdict G n argument l s ≡ Passed
   passes c r o =
       verdict-rows G argument l s c
-      ∙ none-passed (rowsFor G argument l s c)
-      (ap not (parameters-right G n l s (r .fits) (r .drive)),
-      (ap not (disk-right G n l s (r .image-right) (r .map-right)), own-right G l s argument c o))
+      ∙ none-passed (rowsFor G argument l s c) (
+        ap not (parameters-right G n l s (r .fits) (r .drive)),
+        (ap not (disk-right G n l s (r .image-right) (r .map-right)), own-right G l s argument c o),
+      )

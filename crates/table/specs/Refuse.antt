@@ -212,9 +212,13 @@ module _ (G : Geometry) (argument : ℕ) (l : Lent) (s : Session) where
   pub never-not-closed : (n : ℕ) → verdict G n argument l s ≡ Refused NotClosed → ⊥
   unfolding gives codeNumber
   never-not-closed n q =
-      at-one (λ (n : ℕ). verdict G n argument l s ≡ Refused NotClosed → ⊥) n (20 ∷ 21 ∷ 33 ∷ 34 ∷ []) (refused-given n NotClosed refl refl refl q)
-      (λ v. three-20 (own-decides NotClosed call20 refl refl v), (λ v. three-21 (own-decides NotClosed call21 refl refl v),
-      (λ v. three-33 (own-decides NotClosed call33 refl refl v), (λ v. three-34 (own-decides NotClosed call34 refl refl v), tt)))) q
+      at-one (λ (n : ℕ). verdict G n argument l s ≡ Refused NotClosed → ⊥) n (20 ∷ 21 ∷ 33 ∷ 34 ∷ []) (refused-given n NotClosed refl refl refl q) (
+        λ v. three-20 (own-decides NotClosed call20 refl refl v),
+        (
+          λ v. three-21 (own-decides NotClosed call21 refl refl v),
+          (λ v. three-33 (own-decides NotClosed call33 refl refl v), (λ v. three-34 (own-decides NotClosed call34 refl refl v), tt)),
+        ),
+      ) q
 
   -- ---- a search ends only where it has found nothing
   pub data SearchEnds : ℕ → Type 0 where
