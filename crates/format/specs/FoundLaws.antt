@@ -1,5 +1,5 @@
 -- The answer of a look-up: what it is, what it says, and the turns of the loop that makes it.
-use mathlib.Core.Path.{_≡_, sym, _∙_}
+use mathlib.Core.Path.{_≡_, refl, sym, _∙_}
 use mathlib.Core.Bool.{Bool, true, false}
 use Prim.Native.Nat.{ℕ, _≤_, _<_}
 use native.Mathlib.Omega.{arith}
@@ -7,7 +7,20 @@ use borrow.Author.Tests.{lt-ltb, le-ltb}
 use Rattle.lists.specs.Cases.{split, lt-or-le}
 use Rattle.lists.specs.Below.{firstIn, first-hit, first-end, first-low, first-holds, first-before, first-is, first-none}
 use Rattle.format.specs.Found.{foundBelow, numberOf}
+use Rattle.format.specs.declared.Found.{Found}
 use Rattle.format.specs.declared.Found.the-variants.{At, Nothing}
+
+-- ---- the two answers
+pub at-not-nothing : (e : ℕ) → At e ≡ Nothing → ⊥
+at-not-nothing e q = let z : _≡_ {A = ℕ} 0 1 = cc in omega arith
+
+pub at-once : (k e : ℕ) → At k ≡ At e → k ≡ e
+at-once k e q = cc
+
+-- by cases, with the answer in hand
+pub found-cases : {A : Type 0} (f : Found) → ((k : ℕ) → f ≡ At k → A) → (f ≡ Nothing → A) → A
+found-cases (At k) a b = a k refl
+found-cases Nothing a b = b refl
 
 -- ---- a number among n
 pub found-at : (n k : ℕ) → k < n → foundBelow n k ≡ At k
@@ -17,12 +30,6 @@ found-at n k h = rw (lt-ltb k n h)
 pub found-nothing : (n k : ℕ) → n ≤ k → foundBelow n k ≡ Nothing
 unfolding foundBelow
 found-nothing n k h = rw (le-ltb k n h)
-
-at-not-nothing : (e : ℕ) → At e ≡ Nothing → ⊥
-at-not-nothing e q = let z : _≡_ {A = ℕ} 0 1 = cc in omega arith
-
-at-once : (k e : ℕ) → At k ≡ At e → k ≡ e
-at-once k e q = cc
 
 pub found-says : (n k e : ℕ) → foundBelow n k ≡ At e → (k ≡ e) × (e < n)
 found-says n k e q =
