@@ -14,7 +14,7 @@ use Rattle.format.specs.Names.{nameBytes, nameRight, nameLike, sevenBits}
 use Rattle.format.specs.Entries.{Rows, userOf, exOf, s2Of, rcOf, slotOf, slotsOf, slotCount, empty, used, readOnly, extentOf, covers, named, isFile, findFile}
 use Rattle.format.specs.Found.{foundBelow}
 use Rattle.format.specs.Consistent.{numbersRight, sameFile}
-use Rattle.format.specs.ListedLaws.{slot-at}
+use Rattle.format.specs.SlotLaws.{getD-slotsOf}
 use Rattle.format.specs.Fcb.{crOf, randomOf, fcbRight, fitting, current}
 use Rattle.format.specs.declared.Found.{Found}
 use Rattle.format.specs.declared.Found.the-variants.{At, Nothing}
@@ -39,7 +39,7 @@ module _ (r t : Bytes) where
   slots-cong hr ht h =
       let l : length (slotsOf r) ≡ 16 = length-part r 16 slotCount (omega arith) in
       ext-getD 0 (slotsOf r) (slotsOf t) (l ∙ sym (length-part t 16 slotCount (omega arith)))
-      (λ j b. let b′ : j < 16 = omega arith in slot-at r j b′ ∙ slot-cong h j b′ ∙ sym (slot-at t j b′))
+      (λ j b. let b′ : j < 16 = omega arith in getD-slotsOf r j b′ ∙ slot-cong h j b′ ∙ sym (getD-slotsOf t j b′))
 
   -- a row is its bytes below the slots, and its slots
   pub row-ext : length r ≡ 32 → length t ≡ 32 → Agree r t 0 16 → ((j : ℕ) → j < slotCount → slotOf r j ≡ slotOf t j) → r ≡ t
