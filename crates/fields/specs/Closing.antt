@@ -21,7 +21,8 @@ use Rattle.format.specs.SlotLaws.{getD-slotsOf}
 use Rattle.format.specs.Notes.{noteAt, withNote, recordedNote}
 use Rattle.format.specs.Fcb.{crOf, randomOf, fcbRight, current}
 use Rattle.model.specs.Closing.{takesSlot, mergedSlot, mergedSlots, countsMore, closedCount, closedRow, closeChanges, closedNote, closedMap, closedFcb}
-use Rattle.fields.specs.Agree.{Agree, SameName, SameFile, same-file, row-ext, slot-cong, used-cong, empty-cong, readOnly-cong, extent-cong, random-cong, fcbRight-cong, current-cong}
+use Rattle.consistency.specs.Facts.{SameFile}
+use Rattle.fields.specs.Agree.{Agree, SameName, same-file, row-ext, slot-cong, used-cong, empty-cong, readOnly-cong, extent-cong, random-cong, fcbRight-cong, current-cong}
 
 -- ---- the slots taken
 pub length-mergedSlots : (es fs : Bytes) → length (mergedSlots es fs) ≡ slotCount
