@@ -104,6 +104,11 @@ gives n NoRecord = oneOf n (20 ∷ 21 ∷ 33 ∷ [])
 gives n NoEntry = oneOf n (34 ∷ [])
 gives n DiskFull = oneOf n (21 ∷ 34 ∷ [])
 
+-- a search has found nothing: 17 from the first entry on, or 18, with a search on, from its place on
+pub data SearchEnds (G : Geometry) (l : Lent) (s : Session) : ℕ → Type 0 where
+  ends17 : findHit G (rowsOf G l) (s .user) (patternOf (l .fcb)) 0 ≡ Nothing → SearchEnds G l s 17
+  ends18 : searchOn s ≡ true → findHit G (rowsOf G l) (s .user) (s .pattern) (s .place) ≡ Nothing → SearchEnds G l s 18
+
 module _ (G : Geometry) (argument : ℕ) (l : Lent) (s : Session) where
   all-given : {n : ℕ} (c : Call n) → allCodes (gives n) (ownRows G argument l s c) ≡ true
   unfolding allCodes gives oneOf _and_ _or_
@@ -216,26 +221,38 @@ module _ (G : Geometry) (argument : ℕ) (l : Lent) (s : Session) where
       (λ v. three-20 (own-decides NotClosed call20 refl refl v), (λ v. three-21 (own-decides NotClosed call21 refl refl v),
       (λ v. three-33 (own-decides NotClosed call33 refl refl v), (λ v. three-34 (own-decides NotClosed call34 refl refl v), tt)))) q
 
-  -- ---- a search ends only where it has found nothing
-  pub data SearchEnds : ℕ → Type 0 where
-    ends17 : findHit G (rowsOf G l) (s .user) (patternOf (l .fcb)) 0 ≡ Nothing → SearchEnds 17
-    ends18 : searchOn s ≡ true → findHit G (rowsOf G l) (s .user) (s .pattern) (s .place) ≡ Nothing → SearchEnds 18
-
+  -- ---- a search ends exactly where it has found nothing
   last-row : (r : Found) (code : Code) → Decides code (when (not (isFound r)) code ∷ []) → r ≡ Nothing
   last-row r code (here t q) = not-found r (not-true _ t)
   last-row r code (later f d) = absent code [] d tt
 
-  over-17 : Decides SearchOver (ownRows G argument l s call17) → SearchEnds 17
+  over-17 : Decides SearchOver (ownRows G argument l s call17) → SearchEnds G l s 17
   unfolding codeNumber
   over-17 d =
       let p = behind SearchOver _ _ refl d in let r = behind SearchOver _ _ refl (p .rest) in ends17 (last-row _ SearchOver (r .rest))
 
-  over-18 : Decides SearchOver (ownRows G argument l s call18) → SearchEnds 18
+  over-18 : Decides SearchOver (ownRows G argument l s call18) → SearchEnds G l s 18
   unfolding codeNumber
   over-18 d = let p = behind SearchOver _ _ refl d in ends18 (not-false _ (p .failed)) (last-row _ SearchOver (p .rest))
 
-  pub search-over : (n : ℕ) → verdict G n argument l s ≡ Refused SearchOver → SearchEnds n
+  pub search-over : (n : ℕ) → verdict G n argument l s ≡ Refused SearchOver → SearchEnds G l s n
   unfolding gives codeNumber
   search-over n q =
-      at-one (λ (n : ℕ). verdict G n argument l s ≡ Refused SearchOver → SearchEnds n) n (17 ∷ 18 ∷ []) (refused-given n SearchOver refl refl refl q)
+      at-one (λ (n : ℕ). verdict G n argument l s ≡ Refused SearchOver → SearchEnds G l s n) n (17 ∷ 18 ∷ []) (refused-given n SearchOver refl refl refl q)
       (λ v. over-17 (own-decides SearchOver call17 refl refl v), (λ v. over-18 (own-decides SearchOver call18 refl refl v), tt)) q
+
+  -- a row of the call's own decides, once the first three have failed
+  pub refused-own : {n : ℕ} (c : Call n) (code : Code) → Ready G n l s → Decides code (ownRows G argument l s c) → verdict G n argument l s ≡ Refused code
+  refused-own {n} c code r d =
+      verdict-rows G argument l s c
+      ∙ decides-refused code (rowsFor G argument l s c)
+      (later (ap not (parameters-right G n l s (r .fits) (r .drive))) (later (ap not (disk-right G n l s (r .image-right) (r .map-right))) d))
+
+  pub over-first : Ready G 17 l s → nameRight true (l .fcb) 1 ≡ true → (exOf (l .fcb) ≤ 31) ⊎ (exOf (l .fcb) ≡ 63)
+      → findHit G (rowsOf G l) (s .user) (patternOf (l .fcb)) 0 ≡ Nothing → verdict G 17 argument l s ≡ Refused SearchOver
+  over-first r name ex none =
+      refused-own call17 SearchOver r (later (ap not name) (later (pattern-right _ ex) (here (ap (λ (x : Found). not (isFound x)) none) refl)))
+
+  pub over-next : Ready G 18 l s → searchOn s ≡ true → findHit G (rowsOf G l) (s .user) (s .pattern) (s .place) ≡ Nothing
+      → verdict G 18 argument l s ≡ Refused SearchOver
+  over-next r on none = refused-own call18 SearchOver r (later (ap not on) (here (ap (λ (x : Found). not (isFound x)) none) refl))
