@@ -7,3 +7,4 @@ pub mod Accept
 pub mod Refuse
 pub mod Carried
 pub mod Total
+pub mod Plans

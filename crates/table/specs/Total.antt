@@ -1,16 +1,14 @@
 -- Demand 1: every call either is refused, by the first row of the table that holds, with nothing changed, or is carried out.
 use mathlib.Core.Path.{_≡_, refl, sym, ap, subst, _∙_}
 use mathlib.Core.Logic.{_⊎_, inl, inr}
-use mathlib.Core.Bool.{Bool, true, false, cond}
-use Prim.Native.Nat.{ℕ, _+_, _≤_, _<_}
+use mathlib.Core.Bool.{true, false, cond}
+use Prim.Native.Nat.{ℕ, _≤_, _<_}
 use native.Mathlib.Omega.{arith}
 use lib.Dec.{eqb}
 use borrow.Author.Tests.{eq-eqb, ne-eqb}
-use Rattle.lists.specs.Cases.{split, eq-or-ne}
+use Rattle.lists.specs.Cases.{split}
 use Rattle.format.specs.Diskette.{Bytes, Geometry, eightInch}
-use Rattle.format.specs.Found.{foundBelow}
 use Rattle.format.specs.FoundLaws.{found-first}
-use Rattle.format.specs.declared.Found.the-variants.{At}
 use Rattle.model.specs.declared.Asked.{Asked}
 use Rattle.model.specs.declared.Session.{Session}
 use Rattle.model.specs.declared.Code.{Code}
@@ -18,16 +16,16 @@ use Rattle.model.specs.declared.Code.the-variants.{Accepted, NotListed, BadPara
 use Rattle.model.specs.declared.Verdict.{Verdict}
 use Rattle.model.specs.declared.Verdict.the-variants.{Passed, Refused}
 use Rattle.model.specs.Codes.{aOf, hOf}
-use Rattle.model.specs.Lent.{Lent, Outcome, rowsOf, ended, searching, withUser}
-use Rattle.model.specs.Search.{hit, findHit}
+use Rattle.model.specs.Lent.{Lent, Outcome, rowsOf, ended, withUser}
+use Rattle.model.specs.Search.{findHit}
 use Rattle.model.specs.Table.{table, verdict}
-use Rattle.model.specs.Step.{refusedSession, refused, effect, carriedOut, step}
+use Rattle.model.specs.Step.{refusedSession, refused, effect, step}
 use Rattle.table.specs.First.{NoneHolds, Decides, passed-none, refused-decides}
 use Rattle.table.specs.Own.{Call, call13, call15, call16, call17, call18, call19, call20, call21, call22, call23, call32, call33, call34, call35, call36, call46, call98}
-use Rattle.table.specs.Facts.{Fits, Own, Ready, AcceptedCall}
+use Rattle.table.specs.Facts.{Own, AcceptedCall}
 use Rattle.table.specs.Accept.{accepted}
 use Rattle.table.specs.Refuse.{SearchEnds, search-over, Refuses, refuses}
-use Rattle.table.specs.Carried.{AnswersEntry, GoesOn, Answers, Leaves, Done, effect-is, carried-done}
+use Rattle.table.specs.Carried.{GoesOn, Leaves, Done, effect-is, carried-done}
 
 -- only a search that has found nothing changes the session of a refusal
 refused-session : (c : Code) (s : Session) → (refusedSession c s ≡ s) ⊎ ((c ≡ SearchOver) × (refusedSession c s ≡ ended s))
