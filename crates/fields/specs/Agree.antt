@@ -10,12 +10,12 @@ use Rattle.lists.specs.Tests.{_and_}
 use Rattle.lists.specs.Below.{first-cong}
 use Rattle.lists.specs.Splice.{length-part}
 use Rattle.format.specs.Diskette.{Bytes, Geometry}
-use Rattle.format.specs.Names.{nameBytes, nameRight, nameLike, sevenBits}
-use Rattle.format.specs.Entries.{Rows, userOf, exOf, s2Of, rcOf, slotOf, slotsOf, slotCount, empty, used, readOnly, extentOf, covers, named, isFile, findFile}
+use Rattle.format.specs.Names.{nameBytes, sevenBits}
+use Rattle.format.specs.Entries.{Rows, userOf, slotOf, slotsOf, slotCount, empty, used, readOnly, extentOf, covers, named, isFile, findFile}
 use Rattle.format.specs.Found.{foundBelow}
 use Rattle.format.specs.Consistent.{numbersRight, sameFile}
 use Rattle.format.specs.SlotLaws.{getD-slotsOf}
-use Rattle.format.specs.Fcb.{crOf, randomOf, fcbRight, fitting, current}
+use Rattle.format.specs.Fcb.{randomOf, fcbRight, fitting, current}
 use Rattle.format.specs.declared.Found.{Found}
 use Rattle.format.specs.declared.Found.the-variants.{At, Nothing}
 use Rattle.consistency.specs.Facts.{SameFile}
@@ -144,5 +144,9 @@ pub current-cong : (f g : Bytes) → 32 ≤ length f → 32 ≤ length g → Sam
     → (G : Geometry) (d : Rows) (map : Bytes) (user : ℕ) → current G d map user f ≡ current G d map user g
 unfolding current
 current-cong f g hf hg n h G d map user =
-    rw (fcbRight-cong f g n h, extent-cong f g (λ i a b. h i (omega arith) (omega arith)), findFile-asked f 1 g 1 n G d user (extentOf g),
-    fitting-cong d map f g (findFile G d user g 1 (extentOf g)) (slots-cong f g hf hg (λ i a b. h i (omega arith) (omega arith))))
+    rw (
+      fcbRight-cong f g n h,
+      extent-cong f g (λ i a b. h i (omega arith) (omega arith)),
+      findFile-asked f 1 g 1 n G d user (extentOf g),
+      fitting-cong d map f g (findFile G d user g 1 (extentOf g)) (slots-cong f g hf hg (λ i a b. h i (omega arith) (omega arith))),
+    )

@@ -2,24 +2,24 @@
 use mathlib.Core.Path.{_≡_, refl, ap, sym, _∙_}
 use mathlib.Core.Logic.{_⊎_, inl, inr}
 use mathlib.Core.Bool.{Bool, true, false, cond, not}
-use Prim.Native.Nat.{ℕ, zero, suc, _+_, _≤_, _<_}
+use Prim.Native.Nat.{ℕ, zero, suc, _+_, _≤_, _<_, max}
 use native.Mathlib.Omega.{arith}
 use lib.Dec.{eqb}
 use lib.ListN.{length, getD, set, length-set}
-use lib.Seq.{getD-set-same, getD-set-other, ext-getD}
+use lib.Seq.{getD-set-same, getD-set-other}
 use borrow.Author.Tests.{eqb-true, eqb-false, eq-eqb, ne-eqb, ltb-true, ltb-false, not-true}
 use Rattle.lists.specs.Cases.{split, bool-cases, eq-or-ne, lt-or-le, not-both}
-use Rattle.lists.specs.Tests.{_and_, _or_, and-left, and-right, and-both, and-then, and-fails-left, and-fails-right, or-left, or-right, or-first, or-neither, or-cases, cond-or}
-use Rattle.lists.specs.Below.{anyBelow, any-at, any-some, any-never, any-empty}
-use Rattle.lists.specs.Splice.{splice, length-splice, getD-splice-in, getD-splice-out}
+use Rattle.lists.specs.Tests.{_and_, _or_, and-left, and-right, and-both, and-then, and-fails-left, and-fails-right, or-neither, or-cases, cond-or}
+use Rattle.lists.specs.Below.{anyBelow, any-at, any-some, any-never}
+use Rattle.lists.specs.Splice.{length-splice, getD-splice-in, getD-splice-out}
 use Rattle.lists.specs.Tab.{length-tab, getD-tab}
 use Rattle.lists.specs.Fold.{foldBelow, fold-keeps}
 use Rattle.format.specs.Diskette.{Bytes, Geometry}
 use Rattle.format.specs.Names.{sevenBits, nameRight}
-use Rattle.format.specs.Entries.{Rows, userOf, exOf, s2Of, rcOf, slotOf, slotsOf, slotCount, empty, used, readOnly, extentOf, countIn}
+use Rattle.format.specs.Entries.{Rows, rcOf, slotOf, slotsOf, slotCount, empty, used, readOnly, extentOf, countIn}
 use Rattle.format.specs.SlotLaws.{getD-slotsOf}
 use Rattle.format.specs.Notes.{noteAt, withNote, recordedNote}
-use Rattle.format.specs.Fcb.{crOf, randomOf, fcbRight, current}
+use Rattle.format.specs.Fcb.{randomOf, fcbRight, current}
 use Rattle.model.specs.Closing.{takesSlot, mergedSlot, mergedSlots, countsMore, closedCount, closedRow, closeChanges, closedNote, closedMap, closedFcb}
 use Rattle.consistency.specs.Facts.{Numbers, SameFile}
 use Rattle.names.specs.Laws.{right-cong}
@@ -72,6 +72,13 @@ module _ (row fcb : Bytes) where
   unfolding closedCount countsMore countIn
   count-closed-fcb =
       split (bool-cases (countsMore row fcb)) (λ t. rw t (omega arith)) (λ f. rw f (omega (arith, ltb-false (rcOf row) (rcOf fcb) f)))
+
+  -- the larger of the two
+  pub count-closed : closedCount row fcb ≡ max (rcOf row) (rcOf fcb)
+  unfolding closedCount countsMore countIn
+  count-closed =
+      split (bool-cases (countsMore row fcb)) (λ t. rw t (omega (arith, ltb-true (rcOf row) (rcOf fcb) t)))
+      (λ f. rw f (omega (arith, ltb-false (rcOf row) (rcOf fcb) f)))
 
   pub count-closed-high : (n : ℕ) → rcOf row ≤ n → rcOf fcb ≤ n → closedCount row fcb ≤ n
   unfolding closedCount

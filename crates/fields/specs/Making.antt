@@ -1,16 +1,15 @@
 -- The rows that are made: a new file's, a new extent's, and a renamed one, byte by byte and field by field.
-use mathlib.Core.Path.{_≡_, refl, ap, sym, _∙_}
-use mathlib.Core.Logic.{_⊎_, inl, inr}
-use mathlib.Core.Bool.{Bool, true, false}
-use mathlib.Core.List.{List, [], _∷_, _++_}
-use Prim.Native.Nat.{ℕ, suc, _+_, _-_, _*_, _/_, _%_, _≤_, _<_}
+use mathlib.Core.Path.{_≡_, refl, ap, _∙_}
+use mathlib.Core.Logic.{inl, inr}
+use mathlib.Core.Bool.{true, false}
+use mathlib.Core.List.{_∷_, _++_}
+use Prim.Native.Nat.{ℕ, suc, _+_, _-_, _/_, _%_, _≤_, _<_}
 use native.Mathlib.Omega.{arith}
-use lib.Dec.{leb}
 use lib.ListN.{length, getD, take, replicate, length-append, List·getD-append}
 use lib.Seq.{length-take-le, getD-take}
 use borrow.Author.Tests.{leb-true, le-leb, lt-leb}
-use Rattle.lists.specs.Cases.{split, bool-ext}
-use Rattle.lists.specs.Splice.{splice, length-splice, getD-splice-in, getD-splice-out, getD-append-past}
+use Rattle.lists.specs.Cases.{bool-ext}
+use Rattle.lists.specs.Splice.{length-splice, getD-splice-in, getD-splice-out, getD-append-past}
 use Rattle.lists.specs.Tab.{tab, length-tab, getD-tab, getD-zeros}
 use Rattle.format.specs.Diskette.{Bytes}
 use Rattle.format.specs.Names.{sevenBits, nameBytes}
