@@ -6,7 +6,7 @@ use Prim.Native.Nat.{ℕ, zero, suc, _+_, _≤_, _<_, max}
 use native.Mathlib.Omega.{arith}
 use lib.Dec.{eqb}
 use lib.ListN.{length, getD, set, length-set}
-use lib.Seq.{getD-set-same, getD-set-other}
+use lib.Seq.{getD-set-same, getD-set-other, ext-getD}
 use borrow.Author.Tests.{eqb-true, eqb-false, eq-eqb, ne-eqb, ltb-true, ltb-false, not-true}
 use Rattle.lists.specs.Cases.{split, bool-cases, eq-or-ne, lt-or-le, not-both}
 use Rattle.lists.specs.Tests.{_and_, _or_, and-left, and-right, and-both, and-then, and-fails-left, and-fails-right, or-neither, or-cases, cond-or}
@@ -17,7 +17,7 @@ use Rattle.lists.specs.Fold.{foldBelow, fold-keeps}
 use Rattle.format.specs.Diskette.{Bytes, Geometry}
 use Rattle.format.specs.Names.{sevenBits, nameRight}
 use Rattle.format.specs.Entries.{Rows, rcOf, slotOf, slotsOf, slotCount, empty, used, readOnly, extentOf, countIn}
-use Rattle.format.specs.SlotLaws.{getD-slotsOf}
+use Rattle.format.specs.SlotLaws.{length-slotsOf, getD-slotsOf}
 use Rattle.format.specs.Notes.{noteAt, withNote, recordedNote}
 use Rattle.format.specs.Fcb.{randomOf, fcbRight, current}
 use Rattle.model.specs.Closing.{takesSlot, mergedSlot, mergedSlots, countsMore, closedCount, closedRow, closeChanges, closedNote, closedMap, closedFcb}
@@ -123,6 +123,19 @@ module _ (row fcb : Bytes) (hr : length row ≡ 32) where
 
   pub slot-closed-new : (j : ℕ) → j < slotCount → slotOf row j ≡ 0 → slotOf (closedRow row fcb) j ≡ slotOf fcb j
   slot-closed-new j h z = slot-closed j h ∙ merged-new row fcb j h z
+
+  -- with an FCB whose slots fit, the entry's slots become the FCB's
+  pub slot-closed-fits : (j : ℕ) → j < slotCount → (slotOf fcb j ≡ slotOf row j) ⊎ (slotOf row j ≡ 0) → slotOf (closedRow row fcb) j ≡ slotOf fcb j
+  slot-closed-fits j h (inr z) = slot-closed-new j h z
+  slot-closed-fits j h (inl q) =
+      split (eq-or-ne (slotOf row j) 0) (λ z. slot-closed-new j h z) (λ n. slot-closed-old j h n ∙ sym q)
+
+  pub slots-closed : slotsOf (closedRow row fcb) ≡ mergedSlots (slotsOf row) (slotsOf fcb)
+  slots-closed =
+      let l : length (slotsOf (closedRow row fcb)) ≡ slotCount = length-slotsOf (closedRow row fcb) (omega (arith, length-closedRow)) in
+      ext-getD 0 (slotsOf (closedRow row fcb)) (mergedSlots (slotsOf row) (slotsOf fcb)) (l ∙ sym (length-mergedSlots (slotsOf row) (slotsOf fcb)))
+      (λ j h. let b : j < slotCount = omega arith in
+      getD-slotsOf (closedRow row fcb) j b ∙ slot-closed j b ∙ sym (getD-mergedSlots (slotsOf row) (slotsOf fcb) j b))
 
   -- a slot stays, or takes the FCB's block
   pub slot-closed-cases : (j : ℕ) → j < slotCount

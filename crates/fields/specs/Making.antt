@@ -122,15 +122,19 @@ module _ (row : Bytes) (ext : ℕ) (hr : length row ≡ 32) where
   unfolding numbers
   s2-next = past-head 2
 
-  pub rc-next : rcOf (nextRow row ext) ≡ 0
+  -- rc and the slots
+  pub zero-next : (i : ℕ) → 15 ≤ i → getD (nextRow row ext) i 0 ≡ 0
   unfolding numbers
-  rc-next = past-head 3
+  zero-next i h =
+      let q : i ≡ 12 + suc (suc (suc (i - 15))) = omega arith in
+      ap (λ (k : ℕ). getD (nextRow row ext) k 0) q ∙ past-head (suc (suc (suc (i - 15)))) ∙ getD-zeros 17 (i - 15)
+
+  pub rc-next : rcOf (nextRow row ext) ≡ 0
+  rc-next = zero-next 15 (omega arith)
 
   pub slot-next : (j : ℕ) → slotOf (nextRow row ext) j ≡ 0
-  unfolding numbers slotOf
-  slot-next j =
-      let q : 16 + j ≡ 12 + suc (suc (suc (suc j))) = omega arith in
-      ap (λ (k : ℕ). getD (nextRow row ext) k 0) q ∙ past-head (suc (suc (suc (suc j)))) ∙ getD-zeros slotCount j
+  unfolding slotOf
+  slot-next j = zero-next (16 + j) (omega arith)
 
   pub extent-next : extentOf (nextRow row ext) ≡ ext
   unfolding extentOf

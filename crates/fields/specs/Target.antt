@@ -16,6 +16,7 @@ use Rattle.format.specs.Notes.{noteAt, pendingFor, withNote}
 use Rattle.format.specs.Fcb.{crOf, randomOf}
 use Rattle.disk.specs.Places.{blockRecords, block-record, block-once}
 use Rattle.rows.specs.Fields.{slot-for-below}
+use Rattle.rows.specs.Entries.{areaRecords, block-past}
 use Rattle.model.specs.Lent.{Lent, rowsOf}
 use Rattle.model.specs.Closing.{closedImage, closedMap}
 use Rattle.model.specs.Entering.{entered}
@@ -96,6 +97,10 @@ module _ {G : Geometry} (S : Sound G) where
   pub place-below : (b r : ℕ) → b < G .blocks → placeIn G b r < blockRecords G
   unfolding placeIn
   place-below b r h = block-record G b (r % G .perBlock) h (mod-lt r (S .some-record))
+
+  pub place-past : (b r : ℕ) → G .area ≤ b → areaRecords G ≤ placeIn G b r
+  unfolding placeIn
+  place-past b r h = block-past G b (r % G .perBlock) h
 
   -- records of two blocks, and two records of one slot, are two places
   pub place-block : (b r c q : ℕ) → placeIn G b r ≡ placeIn G c q → b ≡ c
