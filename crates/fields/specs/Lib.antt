@@ -1,7 +1,9 @@
 pub mod Agree
 pub mod Closing
+pub mod Images
 pub mod Entering
 pub mod Making
+pub mod Fine
 pub mod Numbers
 pub mod Target
 pub mod Search
