@@ -1,0 +1,64 @@
+-- The 8-inch disk's sizes are what the laws ask of a disk. Its sector table holds each of 1 to 26 once: a second table takes every
+-- physical sector back to its logical one.
+use mathlib.Core.Path.{_≡_, refl, ap, sym, _∙_}
+use mathlib.Core.Bool.{Bool}
+use mathlib.Core.List.{List, [], _∷_}
+use mathlib.Core.Logic.{_⊎_}
+use Prim.Native.Nat.{ℕ, _+_, _-_, _≤_, _<_}
+use native.Mathlib.Omega.{arith}
+use lib.Dec.{eqb, leb}
+use lib.ListN.{getD}
+use borrow.Author.Tests.{eqb-true, leb-true}
+use Rattle.lists.specs.Table.{everyFrom, table-at}
+use Rattle.lists.specs.Tests.{_and_}
+use Rattle.format.specs.Diskette.{skew, skewed, eightInch, Sound, recordBytes, imageBytes, offsetOf}
+use Rattle.disk.specs.Places.{blockRecords, spare-fits, spare-apart}
+
+-- the logical sector, counted from 0, of each physical one
+logical : List ℕ
+logical = 0 ∷ 13 ∷ 9 ∷ 22 ∷ 5 ∷ 18 ∷ 1 ∷ 14 ∷ 10 ∷ 23 ∷ 6 ∷ 19 ∷ 2 ∷ 15 ∷ 11 ∷ 24 ∷ 7 ∷ 20 ∷ 3 ∷ 16 ∷ 12 ∷ 25 ∷ 8 ∷ 21 ∷ 4 ∷ 17 ∷ []
+
+low : ℕ → ℕ → Bool
+low s p = leb 1 p
+
+high : ℕ → ℕ → Bool
+high s p = leb p 26
+
+back : ℕ → ℕ → Bool
+back s p = eqb (getD logical (p - 1) 0) s
+
+pub skewed-low : (s : ℕ) → s < eightInch .sectors → 1 ≤ skewed s
+unfolding skew skewed low everyFrom _and_
+skewed-low s h = leb-true 1 (skewed s) (table-at low skew refl s h)
+
+pub skewed-high : (s : ℕ) → s < eightInch .sectors → skewed s ≤ eightInch .sectors
+unfolding skew skewed high everyFrom _and_
+skewed-high s h = leb-true (skewed s) 26 (table-at high skew refl s h)
+
+skewed-back : (s : ℕ) → s < eightInch .sectors → getD logical (skewed s - 1) 0 ≡ s
+unfolding skew skewed back logical everyFrom _and_
+skewed-back s h = eqb-true (getD logical (skewed s - 1) 0) s (table-at back skew refl s h)
+
+pub skewed-once : (s t : ℕ) → s < eightInch .sectors → t < eightInch .sectors → skewed s ≡ skewed t → s ≡ t
+skewed-once s t hs ht e = sym (skewed-back s hs) ∙ ap (λ (p : ℕ). getD logical (p - 1) 0) e ∙ skewed-back t ht
+
+pub eight-sound : Sound eightInch
+eight-sound = record {
+  some-sector = omega arith;
+  some-record = omega arith;
+  physical-low = skewed-low;
+  physical-high = skewed-high;
+  physical-once = skewed-once;
+  tracks-hold = omega arith;
+  area-holds = omega arith;
+  area-some = omega arith;
+  area-below = omega arith;
+  slots-hold = omega arith;
+}
+
+-- the last six logical sectors of track 76, as the disk records past the last block's: they lie in the image, and no record of a
+-- block shares a byte with them
+pub six-spare : (x : ℕ) → blockRecords eightInch ≤ x → x < blockRecords eightInch + 6
+    → (offsetOf eightInch x + recordBytes ≤ imageBytes eightInch)
+    × ((d : ℕ) → d < blockRecords eightInch → (offsetOf eightInch d + recordBytes ≤ offsetOf eightInch x) ⊎ (offsetOf eightInch x + recordBytes ≤ offsetOf eightInch d))
+six-spare x a b = (spare-fits eight-sound x (omega arith), λ d h. spare-apart eight-sound d x h a)
