@@ -20,6 +20,10 @@ bit false = 0
 unfoldable pub taken : (ℕ → ℕ) → ℕ → ℕ → Bool
 taken f x b = anyBelow (λ (y : ℕ). eqb (f y) b) x
 
+pub taken-none : (f : ℕ → ℕ) (b : ℕ) → taken f 0 b ≡ false
+unfolding taken
+taken-none f b = any-none _
+
 -- a turn: f takes b, or does not
 pub taken-hit : (f : ℕ → ℕ) (x b : ℕ) → f x ≡ b → taken f (x + 1) b ≡ true
 unfolding taken

@@ -1,0 +1,71 @@
+-- The key of a row: a number below 1,024 made of user, seven-bit name and extent, so that rows of one file have one key. Where two
+-- rows' keys differ they need no comparison.
+use mathlib.Core.Path.{_≡_, refl, ap, sym, _∙_}
+use mathlib.Core.Bool.{Bool, true, false, cond}
+use mathlib.Core.List.{List, [], _∷_}
+use Prim.Native.Nat.{ℕ, _+_, _*_, _%_, _≤_, _<_}
+use native.Mathlib.Nat.{mul-le-mul-left, mul-le-mul-right}
+use native.Mathlib.Omega.{arith}
+use lib.Dec.{leb}
+use lib.ListN.{getD, length}
+use borrow.Author.Tests.{leb-true}
+use Rattle.lists.specs.Tests.{_and_}
+use Rattle.lists.specs.Table.{everyFrom, table-at}
+use Rattle.lists.specs.Fold.{foldBelow, fold-cong, fold-none, fold-next}
+use Rattle.format.specs.Diskette.{Bytes}
+use Rattle.format.specs.Names.{nameBytes, sevenBits}
+use Rattle.format.specs.Entries.{Rows, used, userOf, extentOf}
+use Rattle.names.specs.Laws.{nameBits, like-at}
+use Rattle.consistency.specs.Facts.{SameFile}
+
+abbrev pub keyCount : ℕ
+keyCount = 1024
+
+-- what each byte of a name, the user and the extent weigh. They are odd and far apart, so that counted names, and the extents of a
+-- file, get keys of their own
+unfoldable pub weights : List ℕ
+weights = 755 ∷ 133 ∷ 1021 ∷ 877 ∷ 783 ∷ 405 ∷ 973 ∷ 425 ∷ 73 ∷ 137 ∷ 831 ∷ []
+
+abbrev pub userWeight : ℕ
+userWeight = 477
+
+abbrev pub extentWeight : ℕ
+extentWeight = 427
+
+abbrev pub weighed : Bytes → ℕ → ℕ → ℕ
+weighed r sum i = sum + getD weights i 0 * nameBits r 1 i
+
+-- the first n bytes of the name, weighed and summed
+unfoldable pub nameSum : Bytes → ℕ → ℕ
+nameSum r n = foldBelow (weighed r) 0 n
+
+unfoldable pub keyOf : Bytes → ℕ
+keyOf r = (nameSum r nameBytes + userWeight * userOf r + extentWeight * extentOf r) % keyCount
+
+-- rows of one file have one key
+pub key-same : (r t : Bytes) → SameFile r t → keyOf r ≡ keyOf t
+unfolding keyOf nameSum
+key-same r t s =
+    let sums : foldBelow (weighed r) 0 nameBytes ≡ foldBelow (weighed t) 0 nameBytes =
+        fold-cong (weighed r) (weighed t) 0 nameBytes (λ x i h. ap (λ (b : ℕ). x + getD weights i 0 * b) (sym (like-at t 1 r 1 (s .name) i h))) in
+    rw (sums, s .user, s .extent)
+
+-- ---- the sums stay small
+light : ℕ → ℕ → Bool
+light k w = leb w 1023
+
+weight-high : (i : ℕ) → i < nameBytes → getD weights i 0 ≤ 1023
+unfolding weights everyFrom light _and_
+weight-high i h = leb-true _ _ (table-at light weights refl i h)
+
+pub weighed-high : (w b : ℕ) → w ≤ 1023 → b < 128 → w * b ≤ 129921
+weighed-high w b h l =
+    let p : w * b ≤ w * 127 = mul-le-mul-left w (omega arith) in omega arith
+
+pub sum-none : (r : Bytes) → nameSum r 0 ≡ 0
+unfolding nameSum
+sum-none r = fold-none (weighed r) 0
+
+pub sum-next : (r : Bytes) (n : ℕ) → nameSum r (n + 1) ≡ weighed r (nameSum r n) n
+unfolding nameSum
+sum-next r n = fold-next (weighed r) 0 n
