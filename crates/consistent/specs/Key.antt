@@ -1,4 +1,4 @@
--- The key of a row: a number below 1,024 made of user, seven-bit name and extent, so that rows of one file have one key. Where two
+-- The key of a row: a number below 256 made of user, seven-bit name and extent, so that rows of one file have one key. Where two
 -- rows' keys differ they need no comparison.
 use mathlib.Core.Path.{_≡_, refl, ap, sym, _∙_}
 use mathlib.Core.Bool.{Bool, true, false, cond}
@@ -19,18 +19,18 @@ use Rattle.names.specs.Laws.{nameBits, like-at}
 use Rattle.consistency.specs.Facts.{SameFile}
 
 abbrev pub keyCount : ℕ
-keyCount = 1024
+keyCount = 256
 
--- what each byte of a name, the user and the extent weigh. They are odd and far apart, so that counted names, and the extents of a
--- file, get keys of their own
+-- what each byte of a name, the user and the extent weigh. Any weights are right; these were chosen because they give names that
+-- are counted through, and the extents of a file, keys of their own
 unfoldable pub weights : List ℕ
-weights = 755 ∷ 133 ∷ 1021 ∷ 877 ∷ 783 ∷ 405 ∷ 973 ∷ 425 ∷ 73 ∷ 137 ∷ 831 ∷ []
+weights = 215 ∷ 179 ∷ 227 ∷ 1 ∷ 229 ∷ 187 ∷ 225 ∷ 253 ∷ 131 ∷ 81 ∷ 171 ∷ []
 
 abbrev pub userWeight : ℕ
-userWeight = 477
+userWeight = 121
 
 abbrev pub extentWeight : ℕ
-extentWeight = 427
+extentWeight = 33
 
 abbrev pub weighed : Bytes → ℕ → ℕ → ℕ
 weighed r sum i = sum + getD weights i 0 * nameBits r 1 i
@@ -52,15 +52,18 @@ key-same r t s =
 
 -- ---- the sums stay small
 light : ℕ → ℕ → Bool
-light k w = leb w 1023
+light k w = leb w 255
 
-weight-high : (i : ℕ) → i < nameBytes → getD weights i 0 ≤ 1023
+weight-high : (i : ℕ) → i < nameBytes → getD weights i 0 ≤ 255
 unfolding weights everyFrom light _and_
 weight-high i h = leb-true _ _ (table-at light weights refl i h)
 
-pub weighed-high : (w b : ℕ) → w ≤ 1023 → b < 128 → w * b ≤ 129921
-weighed-high w b h l =
-    let p : w * b ≤ w * 127 = mul-le-mul-left w (omega arith) in omega arith
+-- one byte's share
+pub share-high : (r : Bytes) (i : ℕ) → i < nameBytes → getD weights i 0 * nameBits r 1 i ≤ 32385
+share-high r i h =
+    let w : getD weights i 0 ≤ 255 = weight-high i h in
+    let p : getD weights i 0 * nameBits r 1 i ≤ getD weights i 0 * 127 = mul-le-mul-left (getD weights i 0) (omega arith) in
+    omega arith
 
 pub sum-none : (r : Bytes) → nameSum r 0 ≡ 0
 unfolding nameSum
@@ -69,3 +72,8 @@ sum-none r = fold-none (weighed r) 0
 pub sum-next : (r : Bytes) (n : ℕ) → nameSum r (n + 1) ≡ weighed r (nameSum r n) n
 unfolding nameSum
 sum-next r n = fold-next (weighed r) 0 n
+
+-- rows have keys below keyCount
+pub key-below : (r : Bytes) → keyOf r < keyCount
+unfolding keyOf
+key-below r = omega arith

@@ -1,3 +1,4 @@
-pub mod Key
 pub mod BlockMarks
+pub mod Key
+pub mod Chain
 pub mod Pass
