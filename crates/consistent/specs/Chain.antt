@@ -10,12 +10,18 @@ use lib.ListN.{getD, length, set, length-set, replicate, getD-replicate, length-
 use lib.Seq.{getD-set-same, getD-set-other}
 use borrow.Author.Tests.{eqb-true, eqb-false, eq-eqb, ne-eqb}
 use Rattle.lists.specs.Cases.{split, bool-cases, lt-or-le, eq-or-ne, refute, not-both}
+use Rattle.lists.specs.Tests.{and-then}
 use Rattle.lists.specs.Below.{anyBelow, any-at, any-empty, lastBelow, last-none, last-hit, last-miss, last-high, last-holds, last-after}
 use Rattle.format.specs.Diskette.{Bytes}
-use Rattle.format.specs.Entries.{Rows, used}
+use Rattle.format.specs.Entries.{Rows, userOf, used, isFile, extentOf}
 use Rattle.format.specs.Consistent.{sameFile, alone}
 use Rattle.consistency.specs.Reflect.{same-elim, same-used-right}
-use Rattle.consistent.specs.Key.{keyCount, keyOf, key-same}
+use Rattle.consistent.specs.Key.{keyCount, keyOf, key-same, key-below}
+
+-- of used rows the look-up of one by the other decides
+pub file-same : (r t : Bytes) (ext : ℕ) → used r ≡ true → used t ≡ true → ext ≡ extentOf t → isFile (userOf t) t 1 ext r ≡ sameFile r t
+unfolding sameFile
+file-same r t ext u v q = sym (and-then _ _ u ∙ and-then _ _ v ∙ rw q)
 
 -- the key of entry f; keyCount, which is no key, where it is not used
 unfoldable pub keyIn : Rows → ℕ → ℕ
@@ -119,15 +125,25 @@ module _ (d : Rows) where
   pub walk-start : (e : ℕ) (links : Bytes) → used (d e) ≡ true → Links d (e + 1) links → Walk e (getD links e 0)
   walk-start e links u s = walk-to e e (getD links e 0) (omega arith) (s .link e (omega arith) u) (λ g l r. absurd (omega arith))
 
-  pub walk-more : (e f : ℕ) (links : Bytes) → keyOf (d e) < keyCount → Links d (e + 1) links → Walk e f → 0 < f → sameFile (d e) (d (f - 1)) ≡ false → Walk e (getD links (f - 1) 0)
-  walk-more e f links h s w l n =
+  pub walk-used : (e f : ℕ) → Walk e f → 0 < f → used (d (f - 1)) ≡ true
+  walk-used e f w l = key-tells (f - 1) (keyOf (d e)) (key-below (d e)) (w .key l)
+
+  pub walk-more : (e f : ℕ) (links : Bytes) → Links d (e + 1) links → Walk e f → 0 < f → sameFile (d e) (d (f - 1)) ≡ false → Walk e (getD links (f - 1) 0)
+  walk-more e f links s w l n =
       let high = w .high in
-      let key : keyIn d (f - 1) ≡ keyOf (d e) = w .key l in
-      let u : used (d (f - 1)) ≡ true = key-tells (f - 1) (keyOf (d e)) h key in
-      let same : keyOf (d (f - 1)) ≡ keyOf (d e) = sym (key-used (f - 1) u) ∙ key in
+      let u : used (d (f - 1)) ≡ true = walk-used e f w l in
+      let same : keyOf (d (f - 1)) ≡ keyOf (d e) = sym (key-used (f - 1) u) ∙ w .key l in
       walk-to e (f - 1) (getD links (f - 1) 0) (omega arith)
       (s .link (f - 1) (omega arith) u ∙ ap (λ (k : ℕ). lastBelow (hasKey d k) (f - 1)) same)
       (λ g a r. split (lt-or-le g f) (λ z. let q : f - 1 ≡ g = omega arith in ap (λ (k : ℕ). sameFile (d e) (d k)) (sym q) ∙ n) (λ z. w .passed g z r))
+
+  -- each step goes further back
+  pub walk-less : (e f : ℕ) (links : Bytes) → Links d (e + 1) links → Walk e f → 0 < f → getD links (f - 1) 0 < f
+  walk-less e f links s w l =
+      let high = w .high in
+      let h : getD links (f - 1) 0 ≤ f - 1 =
+          rw (s .link (f - 1) (omega arith) (walk-used e f w l)) (last-high (hasKey d (keyOf (d (f - 1)))) (f - 1)) in
+      omega arith
 
   pub walk-hit : (e f : ℕ) → Walk e f → 0 < f → sameFile (d e) (d (f - 1)) ≡ true → alone d e ≡ false
   unfolding alone

@@ -58,20 +58,20 @@ weight-high : (i : ℕ) → i < nameBytes → getD weights i 0 ≤ 255
 unfolding weights everyFrom light _and_
 weight-high i h = leb-true _ _ (table-at light weights refl i h)
 
--- one byte's share
-pub share-high : (r : Bytes) (i : ℕ) → i < nameBytes → getD weights i 0 * nameBits r 1 i ≤ 32385
-share-high r i h =
+-- the share of byte i, which is x in its low seven bits
+pub share-high : (r : Bytes) (i x : ℕ) → i < nameBytes → x ≡ nameBits r 1 i → getD weights i 0 * x ≤ 32385
+share-high r i x h q =
     let w : getD weights i 0 ≤ 255 = weight-high i h in
-    let p : getD weights i 0 * nameBits r 1 i ≤ getD weights i 0 * 127 = mul-le-mul-left (getD weights i 0) (omega arith) in
+    let p : getD weights i 0 * x ≤ getD weights i 0 * 127 = mul-le-mul-left (getD weights i 0) (omega arith) in
     omega arith
 
 pub sum-none : (r : Bytes) → nameSum r 0 ≡ 0
 unfolding nameSum
 sum-none r = fold-none (weighed r) 0
 
-pub sum-next : (r : Bytes) (n : ℕ) → nameSum r (n + 1) ≡ weighed r (nameSum r n) n
+pub sum-next : (r : Bytes) (n s x : ℕ) → s ≡ nameSum r n → x ≡ nameBits r 1 n → s + getD weights n 0 * x ≡ nameSum r (n + 1)
 unfolding nameSum
-sum-next r n = fold-next (weighed r) 0 n
+sum-next r n s x p q = rw (p, q) (sym (fold-next (weighed r) 0 n))
 
 -- rows have keys below keyCount
 pub key-below : (r : Bytes) → keyOf r < keyCount
