@@ -78,8 +78,10 @@ module _ (d : Rows) where
   }
 
   -- ---- a used entry, of key k
-  pub lasts-more : (e k v : ℕ) (l : Bytes) → used (d e) ≡ true → k ≡ keyOf (d e) → k < keyCount → v ≡ e + 1 → Lasts d e l → Lasts d (e + 1) (set l k v)
-  lasts-more e k v l u q h w s =
+  pub lasts-more : (e k v : ℕ) (r l : Bytes) → r ≡ d e → used r ≡ true → k ≡ keyOf r → k < keyCount → v ≡ e + 1 → Lasts d e l → Lasts d (e + 1) (set l k v)
+  lasts-more e k v r l p ur qr h w s =
+      let u : used (d e) ≡ true = rw p at ur in
+      let q : k ≡ keyOf (d e) = qr ∙ ap keyOf p in
       let long = s .long in
       record {
         long = length-set l k v ∙ s .long;
@@ -90,12 +92,17 @@ module _ (d : Rows) where
             ∙ sym (last-miss (hasKey d i) e (ne-eqb (keyIn d e) i (λ y. z (sym y ∙ key-used e u ∙ sym q)))));
       }
 
-  pub links-more : (e v : ℕ) (l : Bytes) → e < length l → v ≡ lastBelow (hasKey d (keyOf (d e))) e → Links d e l → Links d (e + 1) (set l e v)
+  links-more : (e v : ℕ) (l : Bytes) → e < length l → v ≡ lastBelow (hasKey d (keyOf (d e))) e → Links d e l → Links d (e + 1) (set l e v)
   links-more e v l h q s = record {
     link = λ f k u. split (lt-or-le f e) (λ w. getD-set-other l e f v 0 (λ z. omega arith) ∙ s .link f w u)
         (λ w. let z : e ≡ f = omega arith in
         ap (λ (n : ℕ). getD (set l e v) n 0) (sym z) ∙ getD-set-same l e v 0 h ∙ q ∙ ap (λ (n : ℕ). lastBelow (hasKey d (keyOf (d n))) n) z);
   }
+
+  -- the entry's link is the last one of its key before it
+  pub links-take : (e k : ℕ) (r lasts links : Bytes) → r ≡ d e → k ≡ keyOf r → k < keyCount → e < length links → Lasts d e lasts → Links d e links → Links d (e + 1) (set links e (getD lasts k 0))
+  links-take e k r lasts links p q h l s t =
+      links-more e (getD lasts k 0) links l (s .last k h ∙ ap (λ (x : ℕ). lastBelow (hasKey d x) e) (q ∙ ap keyOf p)) t
 
   -- ---- the walk back from entry e, which has come to the number f
   pub record Walk (e f : ℕ) : Type 0 where

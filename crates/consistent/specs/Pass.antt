@@ -18,7 +18,7 @@ use Rattle.format.specs.Marks.{markCount, Marked, UsersMarked}
 use Rattle.consistency.specs.Listed.{listed-unused}
 use Rattle.consistency.specs.Reflect.{used-low, used-full, empty-right, alone-intro, same-used-left}
 use Rattle.consistent.specs.BlockMarks.{BlockMarks, markSlots, slotsFree, marks-skip, marks-row, slots-right, marks-end}
-use Rattle.consistent.specs.Chain.{Lasts, Links}
+use Rattle.consistent.specs.Chain.{Lasts, Links, links-none, lasts-skip, links-skip}
 
 -- a used entry, but for its slots
 unfoldable pub rowRight : Bytes → Bool
@@ -131,3 +131,38 @@ module _ (G : Geometry) (d : Rows) (e : ℕ) where
     alone-decides f =
         let both = sym free ∙ f in
         and-then _ _ (full-right full ∙ and-both _ _ r (and-left _ _ both)) ∙ and-then _ _ (and-right _ _ both)
+
+-- ---- what stands after one more entry
+module _ (G : Geometry) (some : 0 < G .area) (d : Rows) where
+  pub passed-none : (marks users lasts links : Bytes) → BlockMarks G d 0 marks → length users ≡ G .entries → Lasts d 0 lasts → length links ≡ G .entries → Passed G d 0 marks users lasts links
+  passed-none marks users lasts links m u l k = record {
+    blocks = m;
+    users-so = record { long = u; mark = λ i h. absurd (omega arith) };
+    lasts-so = l;
+    links-so = links-none d links;
+    links-long = k;
+  }
+
+  pub passed-empty : (e : ℕ) (marks users lasts links : Bytes) → e < G .entries → empty (d e) ≡ true → Passed G d e marks users lasts links → Passed G d (e + 1) marks (set users e 0) lasts links
+  passed-empty e marks users lasts links h n p =
+      let u : used (d e) ≡ false = empty-unused (d e) n in
+      record {
+        blocks = marks-skip G some d e marks u (p .blocks);
+        users-so = users-more G d e 0 users h (ap bit (sym u)) (p .users-so);
+        lasts-so = lasts-skip d e lasts u (p .lasts-so);
+        links-so = links-skip d e links u (p .links-so);
+        links-long = p .links-long;
+      }
+
+  pub passed-used : (e : ℕ) (marks users lasts links marks′ lasts′ links′ : Bytes) → e < G .entries → rowRight (d e) ≡ true
+      → ((j : ℕ) → j < slotCount → slotOf (d e) j < markCount) → Passed G d e marks users lasts links → marks′ ≡ markSlots marks (d e) slotCount
+      → Lasts d (e + 1) lasts′ → Links d (e + 1) links′ → length links′ ≡ length links → Passed G d (e + 1) marks′ (set users e 1) lasts′ links′
+  passed-used e marks users lasts links marks′ lasts′ links′ h r bytes p q l k n =
+      let u : used (d e) ≡ true = row-used (d e) r in
+      record {
+        blocks = rw q (marks-row G some d e marks u bytes (p .blocks));
+        users-so = users-more G d e 1 users h (ap bit (sym u)) (p .users-so);
+        lasts-so = l;
+        links-so = k;
+        links-long = n ∙ p .links-long;
+      }
