@@ -1,7 +1,7 @@
 -- Which earlier entries have an entry's key: for each key the last entry that has it, and for each entry the last one before it
 -- that has the same. Numbers are one past the entry's; 0 is none. So a walk from an entry back along its links meets every earlier
 -- entry that could be of the same file.
-use mathlib.Core.Path.{_≡_, refl, ap, sym, _∙_}
+use mathlib.Core.Path.{_≡_, ap, sym, _∙_}
 use mathlib.Core.Bool.{Bool, true, false, not, cond}
 use Prim.Native.Nat.{ℕ, _+_, _-_, _≤_, _<_}
 use native.Mathlib.Omega.{arith}
@@ -11,7 +11,7 @@ use lib.Seq.{getD-set-same, getD-set-other}
 use borrow.Author.Tests.{eqb-true, eqb-false, eq-eqb, ne-eqb}
 use Rattle.lists.specs.Cases.{split, bool-cases, lt-or-le, eq-or-ne, refute, not-both}
 use Rattle.lists.specs.Tests.{and-then}
-use Rattle.lists.specs.Below.{anyBelow, any-at, any-empty, lastBelow, last-none, last-hit, last-miss, last-high, last-holds, last-after}
+use Rattle.lists.specs.Below.{any-at, any-empty, lastBelow, last-none, last-hit, last-miss, last-high, last-holds, last-after}
 use Rattle.format.specs.Diskette.{Bytes}
 use Rattle.format.specs.Entries.{Rows, userOf, used, isFile, extentOf}
 use Rattle.format.specs.Consistent.{sameFile, alone}
@@ -149,7 +149,7 @@ module _ (d : Rows) where
   walk-less e f links s w l =
       let high = w .high in
       let h : getD links (f - 1) 0 ≤ f - 1 =
-          rw (s .link (f - 1) (omega arith) (walk-used e f w l)) (last-high (hasKey d (keyOf (d (f - 1)))) (f - 1)) in
+      rw (s .link (f - 1) (omega arith) (walk-used e f w l)) (last-high (hasKey d (keyOf (d (f - 1)))) (f - 1)) in
       omega arith
 
   pub walk-hit : (e f : ℕ) → Walk e f → 0 < f → sameFile (d e) (d (f - 1)) ≡ true → alone d e ≡ false

@@ -1,20 +1,20 @@
 -- The key of a row: a number below 256 made of user, seven-bit name and extent, so that rows of one file have one key. Where two
 -- rows' keys differ they need no comparison.
-use mathlib.Core.Path.{_≡_, refl, ap, sym, _∙_}
-use mathlib.Core.Bool.{Bool, true, false, cond}
+use mathlib.Core.Path.{_≡_, refl, ap, sym}
+use mathlib.Core.Bool.{Bool}
 use mathlib.Core.List.{List, [], _∷_}
 use Prim.Native.Nat.{ℕ, _+_, _*_, _%_, _≤_, _<_}
-use native.Mathlib.Nat.{mul-le-mul-left, mul-le-mul-right}
+use native.Mathlib.Nat.{mul-le-mul-left}
 use native.Mathlib.Omega.{arith}
 use lib.Dec.{leb}
-use lib.ListN.{getD, length}
+use lib.ListN.{getD}
 use borrow.Author.Tests.{leb-true}
 use Rattle.lists.specs.Tests.{_and_}
 use Rattle.lists.specs.Table.{everyFrom, table-at}
 use Rattle.lists.specs.Fold.{foldBelow, fold-cong, fold-none, fold-next}
 use Rattle.format.specs.Diskette.{Bytes}
-use Rattle.format.specs.Names.{nameBytes, sevenBits}
-use Rattle.format.specs.Entries.{Rows, used, userOf, extentOf}
+use Rattle.format.specs.Names.{nameBytes}
+use Rattle.format.specs.Entries.{userOf, extentOf}
 use Rattle.names.specs.Laws.{nameBits, like-at}
 use Rattle.consistency.specs.Facts.{SameFile}
 
@@ -47,7 +47,7 @@ pub key-same : (r t : Bytes) → SameFile r t → keyOf r ≡ keyOf t
 unfolding keyOf nameSum
 key-same r t s =
     let sums : foldBelow (weighed r) 0 nameBytes ≡ foldBelow (weighed t) 0 nameBytes =
-        fold-cong (weighed r) (weighed t) 0 nameBytes (λ x i h. ap (λ (b : ℕ). x + getD weights i 0 * b) (sym (like-at t 1 r 1 (s .name) i h))) in
+    fold-cong (weighed r) (weighed t) 0 nameBytes (λ x i h. ap (λ (b : ℕ). x + getD weights i 0 * b) (sym (like-at t 1 r 1 (s .name) i h))) in
     rw (sums, s .user, s .extent)
 
 -- ---- the sums stay small

@@ -1,23 +1,23 @@
 -- The pass over the directory: what is tested at each entry, and what stands after the first e entries.
-use mathlib.Core.Path.{_≡_, refl, ap, sym, _∙_}
+use mathlib.Core.Path.{_≡_, ap, sym, _∙_}
 use mathlib.Core.Bool.{Bool, true, false, not}
-use Prim.Native.Nat.{ℕ, _+_, _*_, _/_, _%_, _≤_, _<_}
+use Prim.Native.Nat.{ℕ, _+_, _*_, _/_, _%_, _<_}
 use native.Mathlib.Omega.{arith}
 use lib.ListN.{getD, length, set, length-set}
 use lib.Seq.{getD-set-same, getD-set-other}
-use borrow.Author.Tests.{eqb-true, eq-eqb, le-leb}
+use borrow.Author.Tests.{eq-eqb}
 use Rattle.lists.specs.Cases.{split, bool-cases, lt-or-le, bool-ext, refute, not-both}
-use Rattle.lists.specs.Tests.{_and_, _or_, and-left, and-right, and-both, and-then, and-fails-left, and-fails-right, or-left, or-then}
+use Rattle.lists.specs.Tests.{_and_, and-left, and-right, and-both, and-then, and-fails-left, or-left, or-then}
 use Rattle.lists.specs.Below.{allBelow, all-at, all-intro}
 use Rattle.lists.specs.Seen.{bit}
 use Rattle.format.specs.Diskette.{Bytes, Geometry}
 use Rattle.format.specs.Names.{nameRight}
-use Rattle.format.specs.Entries.{Rows, slotCount, userOf, slotOf, empty, used}
-use Rattle.format.specs.Consistent.{numbersRight, slotsRight, entryRight, slotsInAll, listed, listedOnce, sameFile, alone, consistentRows}
-use Rattle.format.specs.Marks.{markCount, Marked, UsersMarked}
+use Rattle.format.specs.Entries.{Rows, slotCount, slotOf, empty, used}
+use Rattle.format.specs.Consistent.{numbersRight, slotsRight, entryRight, slotsInAll, listedOnce, alone, consistentRows}
+use Rattle.format.specs.Marks.{markCount, UsersMarked}
 use Rattle.consistency.specs.Listed.{listed-unused}
-use Rattle.consistency.specs.Reflect.{used-low, used-full, empty-right, alone-intro, same-used-left}
-use Rattle.consistent.specs.BlockMarks.{BlockMarks, markSlots, slotsFree, marks-skip, marks-row, slots-right, marks-end}
+use Rattle.consistency.specs.Reflect.{used-full, empty-right, alone-intro, same-used-left}
+use Rattle.consistent.specs.BlockMarks.{BlockMarks, markSlots, slotsFree, marks-skip, marks-row, slots-right}
 use Rattle.consistent.specs.Chain.{Lasts, Links, links-none, lasts-skip, links-skip}
 
 -- a used entry, but for its slots

@@ -1,33 +1,16 @@
 -- The loop keeps the walk back along the links: of the entries from f on, none before e is of the same file.
-use Rattle.consistent.specs.Chain.{file-same, walk-less, Walk, walk-start, walk-more, walk-hit, walk-end, walk-used}
+use Rattle.consistent.specs.Chain.{walk-less, Walk, walk-start, walk-more, walk-hit, walk-end, walk-used}
 -- The loop keeps the walk back along the links: of the entries from f on, none before e is of the same file.
-use Rattle.consistent.specs.Pass.{rowRight}
-use Rattle.consistent.specs.Chain.{Walk, walk-start, walk-more, walk-hit, walk-end, walk-used}
-use Rattle.consistent.specs.Key.{weights, nameSum, keyOf, share-high, sum-none, sum-next, key-below}
-use Rattle.consistent.specs.BlockMarks.{startMarks, numberFree, markNumber, markSlots, slotFree, slotsFree, mark-slots-none, mark-slots-next}
-use Rattle.format.specs.Marks.{markCount}
-use Rattle.format.specs.Consistent.{numbersRight, sameFile, alone}
-use Rattle.format.specs.Entries.{slotCount, slotOf, entryAt, used, empty, isFile}
-use Rattle.format.specs.Names.{nameBytes}
+use Rattle.format.specs.Consistent.{sameFile}
+use Rattle.format.specs.Entries.{entryAt}
 use Rattle.format.specs.Diskette.{eightInch}
-use Rattle.lists.specs.Below.{allBelow, all-none, all-more, all-fails, all-done}
-use Rattle.lists.specs.Cases.{split, clash, refute, not-both}
-use Rattle.lists.specs.Tests.{_and_, _or_, and-left, and-right, and-both, and-fails-left, and-fails-right, and-then, or-left, or-right, or-then, or-first}
-use borrow.Author.Tests.{lt-ltb, le-ltb, le-leb, lt-leb, eq-eqb, ne-eqb, not-true, not-false}
-use lib.Dec.{eqb, leb, ltb}
-use lib.ListN.{length, getD, set, length-set}
-use Prim.Native.Nat.{ℕ, _+_, _-_, _*_, _%_, _<_, _≤_}
-use mathlib.Core.Bool.{Bool, true, false, not}
-use mathlib.Core.Path.{_≡_, refl, sym, ap, _∙_}
+use Prim.Native.Nat.{_-_}
+use mathlib.Core.Bool.{true, false}
+use mathlib.Core.Path.{_≡_, sym}
 use borrow.Author.Needs.{needs}
 use native.Mathlib.Omega.{arith}
 use Rattle.consistent.proofs.is_alone.Statement.{statement}
 use Rattle.consistent.proofs.is_alone.Tie as tie
-use Rattle.consistent.proofs.is_alone.Reads as reads
-use Rattle.consistent.proofs.is_alone.Lts as lts
-use Rattle.consistent.proofs.same_file.Reads as same-file-reads
-use Rattle.lists.proofs.wide.Reads as wide-reads
-use Rattle.rows.proofs.row.Reads as row-reads
 
 abbrev Inv-loop : tie.InvT-loop
 Inv-loop image e links r f₀ f = Walk (entryAt eightInch image) e f
@@ -35,61 +18,47 @@ Inv-loop image e links r f₀ f = Walk (entryAt eightInch image) e f
 abbrev μ-loop : tie.MeasureT-loop
 μ-loop image e links r f₀ f = f
 
--- src/lib.rt:136:9
 row-requires : tie.Need-row-requires Inv-loop μ-loop
 row-requires c κs = search needs
 
--- src/lib.rt:137:29
 shared-slice-read-wide : tie.Need-shared-slice-read-wide Inv-loop μ-loop
 shared-slice-read-wide c = omega arith
 
--- src/lib.rt:137:9
 wide-requires : tie.Need-wide-requires Inv-loop μ-loop
 wide-requires c κs = search needs
 
--- src/lib.rt:138:5
 loop-holds : tie.Need-loop-holds Inv-loop μ-loop
-loop-holds c = let a = c .before .before .before .before .before  in rw (c .wide .ensures .0) (walk-start (entryAt eightInch (a .args .image .now)) (a .args .e) (a .args .links .now) (a .pre .3) (a .pre .4))
+loop-holds c = let a = c .before .before .before .before .before in rw (c .wide .ensures .0) (walk-start (entryAt eightInch (a .args .image .now)) (a .args .e) (a .args .links .now) (a .pre .3) (a .pre .4))
 
--- src/lib.rt:139:42
 sub-row : tie.Need-sub-row Inv-loop μ-loop
 sub-row c = omega arith
 
--- src/lib.rt:139:25
 row-requires-2 : tie.Need-row-requires-2 Inv-loop μ-loop
 row-requires-2 c κs = search needs
 
--- src/lib.rt:139:12
 same-file-requires : tie.Need-same-file-requires Inv-loop μ-loop
-same-file-requires c κs = let a = c .before .before .before .before .before .before .before .before  in let b = c .before .before  in (omega arith, omega arith, rw (c .before .before .before .before .before .row .ensures .0) (a .pre .3), rw (c .row2 .ensures .0) (walk-used (entryAt eightInch (a .args .image .now)) (a .args .e) (b .loop .f) (b .loop .inv) (omega arith)))
+same-file-requires c κs = let a = c .before .before .before .before .before .before .before .before in let b = c .before .before in (omega arith, omega arith, rw (c .before .before .before .before .before .row .ensures .0) (a .pre .3), rw (c .row2 .ensures .0) (walk-used (entryAt eightInch (a .args .image .now)) (a .args .e) (b .loop .f) (b .loop .inv) (omega arith)))
 
--- src/lib.rt:140:13
 returns : tie.Need-returns Inv-loop μ-loop
-returns c = let a = c .before .before .before .before .before .before .before .before .before .before  in let b = c .before .before .before .before  in let d = entryAt eightInch (a .args .image .now) in let h : sameFile (d (a .args .e)) (d (b .loop .f - 1)) ≡ true = cc in sym (walk-hit d (a .args .e) (b .loop .f) (b .loop .inv) (omega arith) h)
+returns c = let a = c .before .before .before .before .before .before .before .before .before .before in let b = c .before .before .before .before in let d = entryAt eightInch (a .args .image .now) in let h : sameFile (d (a .args .e)) (d (b .loop .f - 1)) ≡ true = cc in sym (walk-hit d (a .args .e) (b .loop .f) (b .loop .inv) (omega arith) h)
 
--- src/lib.rt:142:31
 sub-wide : tie.Need-sub-wide Inv-loop μ-loop
 sub-wide c = omega arith
 
--- src/lib.rt:142:25
 shared-slice-read-wide-2 : tie.Need-shared-slice-read-wide-2 Inv-loop μ-loop
 shared-slice-read-wide-2 c = omega arith
 
--- src/lib.rt:142:9
 wide-requires-2 : tie.Need-wide-requires-2 Inv-loop μ-loop
 wide-requires-2 c κs = search needs
 
--- src/lib.rt:138:5
 loop-less : tie.Need-loop-less Inv-loop μ-loop
-loop-less c = let a = c .before .before .before .before .before .before .before .before .before .before .before .before  in let b = c .before .before .before .before .before .before  in omega (arith, walk-less (entryAt eightInch (a .args .image .now)) (a .args .e) (b .loop .f) (a .args .links .now) (a .pre .4) (b .loop .inv) (omega arith))
+loop-less c = let a = c .before .before .before .before .before .before .before .before .before .before .before .before in let b = c .before .before .before .before .before .before in omega (arith, walk-less (entryAt eightInch (a .args .image .now)) (a .args .e) (b .loop .f) (a .args .links .now) (a .pre .4) (b .loop .inv) (omega arith))
 
--- src/lib.rt:138:5
 loop-again : tie.Need-loop-again Inv-loop μ-loop
-loop-again c = let a = c .before .before .before .before .before .before .before .before .before .before .before .before  in let b = c .before .before .before .before .before .before  in let d = entryAt eightInch (a .args .image .now) in let h : sameFile (d (a .args .e)) (d (b .loop .f - 1)) ≡ false = cc in rw (c .wide2 .ensures .0) (walk-more d (a .args .e) (b .loop .f) (a .args .links .now) (a .pre .4) (b .loop .inv) (omega arith) h)
+loop-again c = let a = c .before .before .before .before .before .before .before .before .before .before .before .before in let b = c .before .before .before .before .before .before in let d = entryAt eightInch (a .args .image .now) in let h : sameFile (d (a .args .e)) (d (b .loop .f - 1)) ≡ false = cc in rw (c .wide2 .ensures .0) (walk-more d (a .args .e) (b .loop .f) (a .args .links .now) (a .pre .4) (b .loop .inv) (omega arith) h)
 
--- src/lib.rt:131:1
 returns-2 : tie.Need-returns-2 Inv-loop μ-loop
-returns-2 c = let a = c .before .before .before .before .before .before .before  in let b = c .before in sym (walk-end (entryAt eightInch (a .args .image .now)) (a .args .e) (b .loop .f) (b .loop .inv) (omega arith))
+returns-2 c = let a = c .before .before .before .before .before .before .before in let b = c .before in sym (walk-end (entryAt eightInch (a .args .image .now)) (a .args .e) (b .loop .f) (b .loop .inv) (omega arith))
 
 pub is-alone-spec : {M : Type 1} → statement M
 is-alone-spec =

@@ -1,32 +1,20 @@
 -- The loop keeps that the marks are those after j slots, and that each of these slots was free.
 use mathlib.Core.List.{List}
-use Rattle.consistent.specs.Chain.{file-same, walk-less, Walk, walk-start, walk-more, walk-hit, walk-end, walk-used}
 -- The loop keeps that the marks are those after j slots, and that each of these slots was free.
-use Rattle.consistent.specs.Pass.{rowRight}
-use Rattle.consistent.specs.Chain.{Walk, walk-start, walk-more, walk-hit, walk-end, walk-used}
-use Rattle.consistent.specs.Key.{weights, nameSum, keyOf, share-high, sum-none, sum-next, key-below}
-use Rattle.consistent.specs.BlockMarks.{startMarks, numberFree, markNumber, markSlots, slotFree, slotsFree, mark-slots-none, mark-slots-next}
-use Rattle.format.specs.Marks.{markCount}
-use Rattle.format.specs.Consistent.{numbersRight, sameFile, alone}
-use Rattle.format.specs.Entries.{slotCount, slotOf, entryAt, used, empty, isFile}
-use Rattle.format.specs.Names.{nameBytes}
-use Rattle.format.specs.Diskette.{eightInch}
+use Rattle.consistent.specs.BlockMarks.{markNumber, markSlots, slotFree, slotsFree, mark-slots-none, mark-slots-next}
+use Rattle.format.specs.Entries.{slotCount, slotOf}
 use Rattle.lists.specs.Below.{allBelow, all-none, all-more, all-fails, all-done}
-use Rattle.lists.specs.Cases.{split, clash, refute, not-both}
-use Rattle.lists.specs.Tests.{_and_, _or_, and-left, and-right, and-both, and-fails-left, and-fails-right, and-then, or-left, or-right, or-then, or-first}
-use borrow.Author.Tests.{lt-ltb, le-ltb, le-leb, lt-leb, eq-eqb, ne-eqb, not-true, not-false}
-use lib.Dec.{eqb, leb, ltb}
-use lib.ListN.{length, getD, set, length-set}
-use Prim.Native.Nat.{ℕ, _+_, _-_, _*_, _%_, _<_, _≤_}
-use mathlib.Core.Bool.{Bool, true, false, not}
+use Rattle.lists.specs.Cases.{clash}
+use Rattle.lists.specs.Tests.{_and_}
+use borrow.Author.Tests.{not-true, not-false}
+use lib.ListN.{length, getD}
+use Prim.Native.Nat.{ℕ, _+_, _-_, _≤_}
+use mathlib.Core.Bool.{true, false}
 use mathlib.Core.Path.{_≡_, refl, sym, ap, _∙_}
 use borrow.Author.Needs.{needs}
 use native.Mathlib.Omega.{arith}
 use Rattle.consistent.proofs.mark_slots.Statement.{statement}
 use Rattle.consistent.proofs.mark_slots.Tie as tie
-use Rattle.consistent.proofs.mark_slots.Reads as reads
-use Rattle.consistent.proofs.mark_slots.Lts as lts
-use Rattle.consistent.proofs.mark_number.Reads as mark-number-reads
 
 abbrev Inv-loop : tie.InvT-loop
 Inv-loop marks₀ r j₀ marks j = (marks ≡ markSlots marks₀ r j) × (allBelow (slotFree marks₀ r) j ≡ true) × (j ≤ slotCount) × (length marks ≡ length marks₀)
@@ -34,49 +22,38 @@ Inv-loop marks₀ r j₀ marks j = (marks ≡ markSlots marks₀ r j) × (allBel
 abbrev μ-loop : tie.MeasureT-loop
 μ-loop marks₀ r j₀ marks j = slotCount - j
 
--- src/lib.rt:91:5
 loop-holds : tie.Need-loop-holds Inv-loop μ-loop
 loop-holds c = (sym (mark-slots-none _ _), all-none _, omega arith, refl)
 
--- src/lib.rt:92:34
 add-mark-number : tie.Need-add-mark-number Inv-loop μ-loop
 add-mark-number c = omega arith
 
--- src/lib.rt:92:32
 shared-slice-read-mark-number : tie.Need-shared-slice-read-mark-number Inv-loop μ-loop
 shared-slice-read-mark-number c = omega arith
 
--- src/lib.rt:92:13
 mark-number-requires : tie.Need-mark-number-requires Inv-loop μ-loop
 mark-number-requires c κs = search needs
 
--- src/lib.rt:93:13
 same-length : tie.Need-same-length Inv-loop μ-loop
 same-length c = search needs
 
--- src/lib.rt:93:13
 returns : tie.Need-returns Inv-loop μ-loop
 unfolding slotsFree slotFree slotOf
-returns c = let b = c .before .before .before .before .before .before .before  in let t : c .before .before .before .mark-number .result ≡ false = not-true _ (c .if1 .taken) in (sym (all-fails _ slotCount (b .loop .j) (omega arith) (rw (← b .loop .inv .0) (sym (c .before .before .before .mark-number .ensures .0) ∙ t))), λ t. clash (sym t))
+returns c = let b = c .before .before .before .before .before .before .before in let t : c .before .before .before .mark-number .result ≡ false = not-true _ (c .if1 .taken) in (sym (all-fails _ slotCount (b .loop .j) (omega arith) (rw (← b .loop .inv .0) (sym (c .before .before .before .mark-number .ensures .0) ∙ t))), λ t. clash (sym t))
 
--- src/lib.rt:95:9
 add-j : tie.Need-add-j Inv-loop μ-loop
 add-j c = omega arith
 
--- src/lib.rt:91:5
 loop-less : tie.Need-loop-less Inv-loop μ-loop
 loop-less c = omega arith
 
--- src/lib.rt:91:5
 loop-again : tie.Need-loop-again Inv-loop μ-loop
 unfolding slotFree slotOf
-loop-again c = let b = c .before .before .before .before .before .before .before  in let a = b .before .before .before .args in let k = c .before .before .before .mark-number in let t : k .result ≡ true = not-false _ (c .if1 .left) in (k .ensures .1 t ∙ ap (λ (m : List ℕ). markNumber m (getD (a .r .now) (16 + b .loop .j) 0)) (b .loop .inv .0) ∙ sym (mark-slots-next (a .marks .now) (a .r .now) (b .loop .j)), all-more _ (b .loop .j) (b .loop .inv .1) (rw (← b .loop .inv .0) (sym (k .ensures .0) ∙ t)), omega arith, omega (arith, k .kept .0))
+loop-again c = let b = c .before .before .before .before .before .before .before in let a = b .before .before .before .args in let k = c .before .before .before .mark-number in let t : k .result ≡ true = not-false _ (c .if1 .left) in (k .ensures .1 t ∙ ap (λ (m : List ℕ). markNumber m (getD (a .r .now) (16 + b .loop .j) 0)) (b .loop .inv .0) ∙ sym (mark-slots-next (a .marks .now) (a .r .now) (b .loop .j)), all-more _ (b .loop .j) (b .loop .inv .1) (rw (← b .loop .inv .0) (sym (k .ensures .0) ∙ t)), omega arith, omega (arith, k .kept .0))
 
--- src/lib.rt:86:1
 same-length-2 : tie.Need-same-length-2 Inv-loop μ-loop
 same-length-2 c = search needs
 
--- src/lib.rt:86:1
 returns-2 : tie.Need-returns-2 Inv-loop μ-loop
 unfolding slotsFree
 returns-2 c = let b = c .before in (all-done _ (b .loop .j) slotCount (omega arith) (omega arith) (b .loop .inv .1), λ t. let q : b .loop .j ≡ slotCount = omega arith in rw q at (b .loop .inv .0))
