@@ -1,12 +1,12 @@
 -- Document 01, "Directory entries": a row is the 32 bytes of an entry. Bytes 1 to 31 of an FCB are laid out the same way.
-use mathlib.Core.Bool.{Bool, true, false, not}
+use mathlib.Core.Bool.{Bool, false}
 use Prim.Native.Nat.{ℕ, _+_, _*_, _/_, _%_}
 use lib.Dec.{eqb, leb}
 use lib.ListN.{getD}
 use Rattle.lists.specs.Tests.{_and_}
 use Rattle.lists.specs.Splice.{part, splice}
 use Rattle.lists.specs.Below.{firstIn}
-use Rattle.format.specs.Diskette.{Bytes, Geometry, recordBytes, offsetOf}
+use Rattle.format.specs.Diskette.{Bytes, Geometry, offsetOf}
 use Rattle.format.specs.Names.{nameLike}
 use Rattle.format.specs.Found.{foundBelow}
 use Rattle.format.specs.declared.Found.{Found}

@@ -1,5 +1,5 @@
 -- Document 01, "When an FCB is current". An FCB is 36 bytes: a row's fields in bytes 1 to 31, then cr and r0 to r2.
-use mathlib.Core.Bool.{Bool, true, false, cond}
+use mathlib.Core.Bool.{Bool, false, cond}
 use Prim.Native.Nat.{ℕ, _+_, _*_}
 use lib.Dec.{eqb, leb}
 use lib.ListN.{getD}

@@ -6,3 +6,5 @@ pub mod Notes
 pub mod Marks
 pub mod Fcb
 pub mod Found
+pub mod FoundLaws
+pub mod ListedLaws

@@ -1,5 +1,5 @@
 -- Document 01 on the map: what a note says, when a map is right, and the fresh map.
-use mathlib.Core.Bool.{Bool, true, false, cond}
+use mathlib.Core.Bool.{Bool, not, cond}
 use Prim.Native.Nat.{ℕ, _+_, _-_, _*_, _/_, _%_}
 use lib.Dec.{eqb, leb, ltb}
 use lib.ListN.{getD, set}
@@ -88,13 +88,17 @@ settledNote n = cond (isPending n) freeNote n
 unfoldable pub freedMap : Geometry → Bytes → Bytes
 freedMap G map = tab (G .blocks) (λ (b : ℕ). settledNote (noteAt map b))
 
--- the block is listed in an entry that is picked
+-- a picked entry lists block b: a slot of 0 lists no block
 unfoldable pub listedBy : Geometry → Rows → (ℕ → Bool) → ℕ → Bool
-listedBy G d picked b = anyBelow (λ (x : ℕ). picked (x / slotCount) and eqb (listed d x) b) (slotsInAll G)
+listedBy G d picked b = not (eqb b 0) and anyBelow (λ (x : ℕ). picked (x / slotCount) and eqb (listed d x) b) (slotsInAll G)
+
+-- n is pending for a picked entry
+unfoldable pub heldFor : (ℕ → Bool) → ℕ → Bool
+heldFor picked n = isPending n and picked (pendingEntry n)
 
 -- the blocks of the picked entries, and those that are pending for them, become free
 unfoldable pub releasedNote : Geometry → Rows → (ℕ → Bool) → ℕ → ℕ → ℕ
-releasedNote G d picked b n = cond (listedBy G d picked b or (isPending n and picked (pendingEntry n))) freeNote n
+releasedNote G d picked b n = cond (listedBy G d picked b or heldFor picked n) freeNote n
 
 unfoldable pub releasedMap : Geometry → Rows → (ℕ → Bool) → Bytes → Bytes
 releasedMap G d picked map = tab (G .blocks) (λ (b : ℕ). releasedNote G d picked b (noteAt map b))

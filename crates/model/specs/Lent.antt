@@ -1,0 +1,54 @@
+-- Document 01: "Every call lends four buffers .. it answers with A, H and the session."
+use mathlib.Core.Bool.{Bool, true, false, cond}
+use Prim.Native.Nat.{ℕ}
+use lib.Dec.{eqb}
+use Rattle.format.specs.Diskette.{Bytes, Geometry}
+use Rattle.format.specs.Entries.{Rows, entryAt}
+use Rattle.model.specs.declared.Session.{Session}
+use Rattle.model.specs.declared.Answer.{Answer}
+use Rattle.model.specs.declared.Code.{Code}
+use Rattle.model.specs.Codes.{aOf, hOf}
+
+-- the four buffers
+pub record Lent : Type 0 where
+  pub image : Bytes
+  pub map : Bytes
+  pub fcb : Bytes
+  pub buffer : Bytes
+
+abbrev pub lend : Bytes → Bytes → Bytes → Bytes → Lent
+lend i m f b = record { image = i; map = m; fcb = f; buffer = b }
+
+-- the rows of the directory, as they were lent
+abbrev pub rowsOf : Geometry → Lent → Rows
+rowsOf G l = entryAt G (l .image)
+
+-- what a call leaves: A, H, the session and the four buffers
+pub record Outcome : Type 0 where
+  pub answer : Answer
+  pub lent : Lent
+
+abbrev pub outcome : Answer → Bytes → Bytes → Bytes → Bytes → Outcome
+outcome r i m f b = record { answer = r; lent = lend i m f b }
+
+-- the answer of a code
+abbrev pub answerOf : Code → Session → Answer
+answerOf code s = record { a = aOf code; h = hOf code; session = s }
+
+abbrev pub ends : Code → Session → Lent → Outcome
+ends code s l = record { answer = answerOf code s; lent = l }
+
+-- ---- the session's changes
+-- a search ends: it is off and its place is 0; the pattern stays
+abbrev pub ended : Session → Session
+ended s = record { user = s .user; pattern = s .pattern; place = 0; on = 0 }
+
+-- a search goes on from a place
+abbrev pub searching : Session → Bytes → ℕ → Session
+searching s pattern place = record { user = s .user; pattern = pattern; place = place; on = 1 }
+
+abbrev pub withUser : Session → ℕ → Session
+withUser s user = record { user = user; pattern = s .pattern; place = s .place; on = s .on }
+
+abbrev pub searchOn : Session → Bool
+searchOn s = cond (eqb (s .on) 0) false true

@@ -1,0 +1,10 @@
+pub mod Codes
+pub mod Lent
+pub mod Closing
+pub mod Entering
+pub mod Target
+pub mod Search
+pub mod Table
+pub mod Calls
+pub mod Step
+pub mod Naming

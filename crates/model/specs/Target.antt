@@ -1,0 +1,138 @@
+-- Document 01 on 20, 21, 33 and 34: the target, where it is, and the plan. The target is computed once; reading and writing then
+-- have one rule each.
+use mathlib.Core.Bool.{Bool, false, cond, not}
+use Prim.Native.Nat.{ℕ, _+_, _/_, _%_, max}
+use lib.Dec.{eqb, ltb}
+use lib.ListN.{set}
+use Rattle.lists.specs.Tests.{_and_, _or_}
+use Rattle.format.specs.Diskette.{Bytes, Geometry, diskRecord, recordAt, withRecord}
+use Rattle.format.specs.Entries.{entryAt, withEntry, slotOf, rcOf, extentOf, countIn, slotFor, findFile, findEmpty, readOnly}
+use Rattle.format.specs.Notes.{pendingFor, withNote, findFree}
+use Rattle.format.specs.Fcb.{crOf, randomOf, current}
+use Rattle.format.specs.Found.{numberOf}
+use Rattle.format.specs.declared.Found.{Found}
+use Rattle.format.specs.declared.Found.the-variants.{At, Nothing}
+use Rattle.model.specs.declared.Plan.{Plan}
+use Rattle.model.specs.declared.Plan.the-variants.{Stay, Move, Make}
+use Rattle.model.specs.Lent.{Lent, lend, rowsOf}
+use Rattle.model.specs.Closing.{closedImage, closedMap}
+use Rattle.model.specs.Entering.{entered, nextRow}
+
+-- sizes that are the same on every disk: the records of an extent, and one past the last extent
+abbrev pub extentRecords : ℕ
+extentRecords = 128
+
+abbrev pub extents : ℕ
+extents = 2048
+
+-- 33 and 34 go by the random record, 20 and 21 by cr
+abbrev pub isRandom : ℕ → Bool
+isRandom n = eqb n 33 or eqb n 34
+
+-- the target's extent, and its record there
+unfoldable pub targetExtent : ℕ → Bytes → ℕ
+targetExtent n fcb =
+    cond (isRandom n) (randomOf fcb / extentRecords) (cond (eqb (crOf fcb) extentRecords) (extentOf fcb + 1) (extentOf fcb))
+
+unfoldable pub targetRecord : ℕ → Bytes → ℕ
+targetRecord n fcb = cond (isRandom n) (randomOf fcb % extentRecords) (cond (eqb (crOf fcb) extentRecords) 0 (crOf fcb))
+
+-- cr afterwards: one past the target for 20 and 21, the target's record for 33 and 34
+unfoldable pub crAfter : ℕ → Bytes → ℕ
+crAfter n fcb = cond (isRandom n) (targetRecord n fcb) (targetRecord n fcb + 1)
+
+-- the FCB's own entry
+unfoldable pub presentEntry : Geometry → ℕ → Lent → Found
+presentEntry G user l = current G (rowsOf G l) (l .map) user (l .fcb)
+
+-- the target's extent is the FCB's: no move
+unfoldable pub stays : ℕ → Bytes → Bool
+stays n fcb = eqb (targetExtent n fcb) (extentOf fcb)
+
+-- the slot of the target's record
+unfoldable pub targetSlot : Geometry → ℕ → Bytes → ℕ
+targetSlot G n fcb = slotFor G (targetExtent n fcb) (targetRecord n fcb)
+
+module _ (G : Geometry) (n user : ℕ) (l : Lent) where
+  -- the target's own entry
+  unfoldable pub targetEntry : Found
+  targetEntry = findFile G (rowsOf G l) user (l .fcb) 1 (targetExtent n (l .fcb))
+
+  -- the block in its slot once the FCB has come to the target's extent: the FCB's own, or that of the entry moved to; 0 is none
+  abbrev pub slotIn : Found → ℕ
+  slotIn (At t) = slotOf (rowsOf G l t) (targetSlot G n (l .fcb))
+  slotIn Nothing = 0
+
+  unfoldable pub blockThere : ℕ
+  blockThere = cond (stays n (l .fcb)) (slotOf (l .fcb) (targetSlot G n (l .fcb))) (slotIn targetEntry)
+
+  -- the larger of the counts that the FCB, come there, and the entry have
+  abbrev pub countAt : Found → ℕ
+  countAt (At t) = countIn (rowsOf G l t) (targetExtent n (l .fcb))
+  countAt Nothing = 0
+
+  unfoldable pub countThere : ℕ
+  countThere = cond (stays n (l .fcb)) (max (rcOf (l .fcb)) (countAt targetEntry)) (countAt targetEntry)
+
+  -- the record is there exactly when the target is below that count and its slot isn't 0
+  unfoldable pub recordThere : Bool
+  recordThere = ltb (targetRecord n (l .fcb)) countThere and not (eqb blockThere 0)
+
+  -- a slot of 0 takes the first free block
+  unfoldable pub targetBlock : ℕ
+  targetBlock = cond (eqb blockThere 0) (numberOf (G .blocks) (findFree G (l .map))) blockThere
+
+  -- t1' in the FCB's entry or in the target's
+  abbrev pub readOnlyIn : Found → Bool
+  readOnlyIn (At t) = readOnly (rowsOf G l t)
+  readOnlyIn Nothing = false
+
+  unfoldable pub readOnlyThere : Bool
+  readOnlyThere = readOnlyIn (presentEntry G user l) or readOnlyIn targetEntry
+
+  -- ---- the plan; it is read only where the table has passed, so the look-ups that it needs have found something
+  abbrev pub planTo : ℕ → Found → Plan
+  planTo e (At t) = Move e t targetBlock
+  planTo e Nothing = Make e (numberOf (G .entries) (findEmpty G (rowsOf G l))) targetBlock
+
+  unfoldable pub planFrom : ℕ → Plan
+  planFrom e = cond (stays n (l .fcb)) (Stay e targetBlock) (planTo e targetEntry)
+
+  unfoldable pub plan : Plan
+  plan = planFrom (numberOf (G .entries) (presentEntry G user l))
+
+-- ---- moving: the present extent (entry e) is closed, then the FCB takes the target's entry (t), which a write may have to make
+module _ (G : Geometry) (n : ℕ) (l : Lent) where
+  unfoldable pub moved : ℕ → ℕ → Lent
+  moved e t =
+      lend (closedImage G (l .image) e (l .fcb)) (closedMap (rowsOf G l e) (l .fcb) (l .map)) (entered (l .fcb) (rowsOf G l t)) (l .buffer)
+
+  unfoldable pub nextMade : ℕ → Bytes
+  nextMade e = nextRow (rowsOf G l e) (targetExtent n (l .fcb))
+
+  unfoldable pub made : ℕ → ℕ → Lent
+  made e t =
+      lend (withEntry G (closedImage G (l .image) e (l .fcb)) t (nextMade e)) (closedMap (rowsOf G l e) (l .fcb) (l .map))
+      (entered (l .fcb) (nextMade e)) (l .buffer)
+
+-- ---- reading and writing record r of an extent, in block b, with the FCB come to that extent; cr afterwards is given
+unfoldable pub placeIn : Geometry → ℕ → ℕ → ℕ
+placeIn G b r = diskRecord G b (r % G .perBlock)
+
+unfoldable pub haveRead : Geometry → ℕ → ℕ → ℕ → Lent → Lent
+haveRead G b r cr l = lend (l .image) (l .map) (set (l .fcb) 32 cr) (recordAt G (l .image) (placeIn G b r))
+
+-- the slot takes the block, noted pending; the largest of the FCB's rc, the entry's and target + 1
+unfoldable pub writtenCount : Bytes → Bytes → ℕ → ℕ
+writtenCount fcb row r = max (max (rcOf fcb) (countIn row (extentOf fcb))) (r + 1)
+
+unfoldable pub writtenFcb : Bytes → Bytes → ℕ → ℕ → ℕ → ℕ → Bytes
+writtenFcb fcb row j b r cr = set (set (set fcb (16 + j) b) 15 (writtenCount fcb row r)) 32 cr
+
+unfoldable pub writtenMap : Bytes → Bytes → ℕ → ℕ → ℕ → Bytes
+writtenMap map fcb t j b = cond (eqb (slotOf fcb j) 0) (withNote map b (pendingFor t j)) map
+
+unfoldable pub haveWritten : Geometry → ℕ → ℕ → ℕ → ℕ → ℕ → Lent → Lent
+haveWritten G t j b r cr l =
+    lend (withRecord G (l .image) (placeIn G b r) (l .buffer)) (writtenMap (l .map) (l .fcb) t j b)
+    (writtenFcb (l .fcb) (entryAt G (l .image) t) j b r cr) (l .buffer)
