@@ -6,7 +6,7 @@ ghost use lib.ListN.{length};
 ghost use Rattle.format.specs.Diskette.{eightInch, imageBytes};
 ghost use Rattle.format.specs.Names.{nameBytes};
 ghost use Rattle.format.specs.Entries.{entryBytes, slotCount, entryAt, slotOf, used};
-ghost use Rattle.format.specs.Consistent.{numbersRight, sameFile, alone, consistent};
+ghost use Rattle.format.specs.Consistent.{sameFile, alone, consistent};
 ghost use Rattle.format.specs.Marks.{markCount, Marked, UsersMarked};
 ghost use Rattle.consistent.specs.BlockMarks.{startMarks, numberFree, markNumber, markSlots, slotsFree};
 ghost use Rattle.consistent.specs.Key.{keyCount, nameSum, keyOf};
@@ -28,20 +28,6 @@ const USER_WEIGHT: usize = 121;
 
 const EXTENT_WEIGHT: usize = 33;
 
-// Whether ex, s2 and rc are in range, in a row or an FCB.
-pub fn numbers_right(r: &[u8]) -> bool
-    requires { ⌜ entryBytes ≤ length (now r) ⌝ }
-    ensures { λ b. ⌜ b ≡ numbersRight (now (r .entry)) ⌝ }
-{
-    if 31 < r[12] {
-        return false;
-    }
-    if 63 < r[14] {
-        return false;
-    }
-    r[15] <= 128
-}
-
 // Whether a row has a user, a name and numbers in range.
 fn row_right(r: &[u8]) -> bool
     requires { ⌜ entryBytes ≤ length (now r) ⌝ }
@@ -53,7 +39,7 @@ fn row_right(r: &[u8]) -> bool
     if !names::name_right(false, r, 1) {
         return false;
     }
-    numbers_right(r)
+    rows::numbers_right(r)
 }
 
 // Marks the numbers that are no block's past the directory: no slot may list them.
