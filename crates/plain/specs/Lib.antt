@@ -1,1 +1,0 @@
--- This crate states no laws of its own.
