@@ -1,0 +1,7 @@
+pub mod Numbers
+pub mod Right
+pub mod Inv
+pub mod Carry
+pub mod Steps
+pub mod Close
+pub mod Change
