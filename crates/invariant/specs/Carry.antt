@@ -11,7 +11,7 @@ use Rattle.names.specs.Laws.{like-trans}
 use Rattle.consistency.specs.Facts.{Fine, Stands, SameFile, Consistent}
 use Rattle.consistency.specs.Listed.{listed-somewhere, somewhere-listed}
 use Rattle.consistency.specs.Reflect.{same-sym}
-use Rattle.invariant.specs.Right.{Spare, NoteOk, ok-area, ok-recorded, ok-free, ok-pending}
+use Rattle.notes.specs.Right.{Spare, NoteOk, ok-area, ok-recorded, ok-free, ok-pending}
 
 pub same-trans : (r t s : Bytes) → SameFile r t → SameFile t s → SameFile r s
 same-trans r t s p q = record { user = p .user ∙ q .user; name = like-trans s 1 t 1 r 1 (q .name) (p .name); extent = p .extent ∙ q .extent }

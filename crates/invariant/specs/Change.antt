@@ -17,8 +17,8 @@ use Rattle.format.specs.Notes.{freeNote, isPending, pendingEntry, pendingFor, i
 use Rattle.consistency.specs.Facts.{Numbers, Fine, Stands, SameFile, Consistent}
 use Rattle.consistency.specs.Listed.{stands-at, stands-place, stands-listed, listed-somewhere, somewhere-listed}
 use Rattle.consistency.specs.Reflect.{used-full, used-low, low-used}
-use Rattle.invariant.specs.Numbers.{pending-is, pending-entry, settled-not}
-use Rattle.invariant.specs.Right.{Spare, NoteOk, ok-area, ok-recorded, ok-free, ok-pending}
+use Rattle.notes.specs.Numbers.{pending-is, pending-entry, settled-not}
+use Rattle.notes.specs.Right.{Spare, NoteOk, ok-area, ok-recorded, ok-free, ok-pending}
 use Rattle.invariant.specs.Inv.{Inv}
 use Rattle.invariant.specs.Carry.{past-real, unlisted-never, never-unlisted, stands-row, change-dir, spare-on, note-on}
 

@@ -15,8 +15,8 @@ use Rattle.format.specs.Notes.{recordedNote, pendingFor}
 use Rattle.consistency.specs.Facts.{Numbers, Fine, Stands, SameFile, Consistent}
 use Rattle.consistency.specs.Listed.{somewhere-listed}
 use Rattle.consistency.specs.Reflect.{used-low, low-used, same-sym}
-use Rattle.invariant.specs.Numbers.{pending-once, pending-not-free, pending-not-area, pending-not-recorded}
-use Rattle.invariant.specs.Right.{Spare, NoteOk, ok-area, ok-recorded, ok-free, ok-pending}
+use Rattle.notes.specs.Numbers.{pending-once, pending-not-free, pending-not-area, pending-not-recorded}
+use Rattle.notes.specs.Right.{Spare, NoteOk, ok-area, ok-recorded, ok-free, ok-pending}
 use Rattle.invariant.specs.Inv.{Inv}
 use Rattle.invariant.specs.Carry.{same-trans, past-real, unlisted-never, never-unlisted, stands-row, change-dir, listed-on}
 

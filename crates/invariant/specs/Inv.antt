@@ -3,7 +3,7 @@ use Prim.Native.Nat.{ℕ, _<_}
 use Rattle.format.specs.Diskette.{Geometry}
 use Rattle.format.specs.Entries.{Rows}
 use Rattle.consistency.specs.Facts.{Consistent}
-use Rattle.invariant.specs.Right.{NoteOk}
+use Rattle.notes.specs.Right.{NoteOk}
 
 pub record Inv (G : Geometry) (d : Rows) (m : ℕ → ℕ) : Type 0 where
   pub dir : Consistent G d

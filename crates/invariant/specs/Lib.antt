@@ -1,5 +1,3 @@
-pub mod Numbers
-pub mod Right
 pub mod Inv
 pub mod Carry
 pub mod Steps

@@ -3,7 +3,6 @@
 use mathlib.Core.Path.{_≡_, refl, ap, sym, _∙_, subst}
 use mathlib.Core.Bool.{true, false}
 use Prim.Native.Nat.{ℕ, _<_}
-use native.Mathlib.Omega.{arith}
 use lib.Dec.{eqb}
 use borrow.Author.Tests.{eqb-true, eqb-false}
 use Rattle.lists.specs.Cases.{split, eq-or-ne, not-both, clash}
@@ -12,7 +11,8 @@ use Rattle.format.specs.Entries.{Rows, slotCount, slotOf, used, empty}
 use Rattle.format.specs.Notes.{freeNote, pendingFor, freshNote, settledNote}
 use Rattle.consistency.specs.Facts.{Fine, Stands, SameFile, Consistent}
 use Rattle.consistency.specs.Reflect.{used-full, low-used}
-use Rattle.invariant.specs.Right.{Spare, NoteOk, ok-area, ok-recorded, ok-free, ok-pending, fresh-ok, ok-settles}
+use Rattle.notes.specs.Free.{free-spare}
+use Rattle.notes.specs.Right.{NoteOk, ok-pending, fresh-ok, ok-settles}
 use Rattle.invariant.specs.Inv.{Inv}
 use Rattle.invariant.specs.Carry.{stands-row, change-dir, note-on}
 
@@ -27,18 +27,12 @@ module _ (G : Geometry) (d : Rows) where
   freed-inv m m′ v note = fresh-inv m′ (v .dir) (λ b h. note b h ∙ ok-settles G d b (m b) (v .map b h))
 
   -- a free block is taken for slot j of the used entry t
-  free-spare : (b n : ℕ) → n ≡ freeNote → NoteOk G d b n → Spare G d b
-  free-spare b n z (ok-area q h) = absurd (omega arith)
-  free-spare b n z (ok-recorded q h t) = absurd (omega arith)
-  free-spare b n z (ok-free q s) = s
-  free-spare b n z (ok-pending e j q h l u s) = s
-
   pub take-inv : (m m′ : ℕ → ℕ) → Inv G d m → (b t j : ℕ) → b < G .blocks → m b ≡ freeNote → t < G .entries → j < slotCount → used (d t) ≡ true
       → m′ b ≡ pendingFor t j → ((c : ℕ) → c < G .blocks → (c ≡ b → ⊥) → m′ c ≡ m c) → Inv G d m′
   take-inv m m′ v b t j low free ht hj u noted left = record {
     dir = v .dir;
     map = λ c h. split (eq-or-ne c b)
-        (λ q. subst (λ (x : ℕ). NoteOk G d x (m′ x)) (sym q) (ok-pending t j noted ht hj u (free-spare b (m b) free (v .map b low))))
+        (λ q. subst (λ (x : ℕ). NoteOk G d x (m′ x)) (sym q) (ok-pending t j noted ht hj u (free-spare G d b (m b) (v .map b low) free)))
         (λ q. subst (NoteOk G d c) (sym (left c h q)) (v .map c h));
   }
 
