@@ -2,7 +2,7 @@
 -- `_&&_`, whose calls are written out wherever they stand.
 use mathlib.Core.Path.{_≡_, refl, sym}
 use mathlib.Core.Logic.{_⊎_, inl, inr}
-use mathlib.Core.Bool.{Bool, true, false}
+use mathlib.Core.Bool.{Bool, true, false, cond}
 use Rattle.lists.specs.Cases.{clash}
 
 unfoldable pub _and_ : Bool → Bool → Bool
@@ -43,6 +43,12 @@ pub and-then : (a b : Bool) → a ≡ true → (a and b) ≡ b
 unfolding _and_
 and-then a b p = rw p
 
+-- the second test held, so the first decides
+pub and-first : (a b : Bool) → b ≡ true → (a and b) ≡ a
+unfolding _and_
+and-first true b q = q
+and-first false b q = refl
+
 pub or-left : (a b : Bool) → a ≡ true → (a or b) ≡ true
 unfolding _or_
 or-left a b p = rw p
@@ -72,3 +78,10 @@ pub or-cases : (a b : Bool) → (a or b) ≡ true → (a ≡ true) ⊎ (b ≡ tr
 unfolding _or_
 or-cases true b h = inl refl
 or-cases false b h = inr h
+
+-- a choice made twice
+pub cond-or : {A : Type 0} (a b : Bool) (x y : A) → cond b x (cond a x y) ≡ cond (a or b) x y
+unfolding _or_
+cond-or true true x y = refl
+cond-or true false x y = refl
+cond-or false b x y = refl
