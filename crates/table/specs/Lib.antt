@@ -4,3 +4,7 @@ pub mod Present
 pub mod Facts
 pub mod Reflect
 pub mod Accept
+pub mod Refuse
+pub mod Carried
+pub mod Total
+pub mod Plans
