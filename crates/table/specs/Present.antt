@@ -12,7 +12,7 @@ use Rattle.format.specs.Diskette.{Bytes, Geometry}
 use Rattle.format.specs.Entries.{Rows, entryAt, userOf, exOf, s2Of, empty, slotsOf, extentOf, covers, named, isFile, findFile}
 use Rattle.format.specs.Consistent.{numbersRight, entryRight, consistentRows, consistent}
 use Rattle.format.specs.Fcb.{fcbRight, slotsFit, fitting, current}
-use Rattle.format.specs.FoundLaws.{at-nothing, at-same, FoundAt, First, found-first}
+use Rattle.format.specs.FoundLaws.{at-nothing, at-same, FoundAt, FirstAt, first-says}
 use Rattle.format.specs.declared.Found.{Found}
 use Rattle.format.specs.declared.Found.the-variants.{At, Nothing}
 use Rattle.model.specs.Lent.{Lent, rowsOf}
@@ -47,9 +47,9 @@ module _ (G : Geometry) (d : Rows) (map : Bytes) (user : ℕ) (fcb : Bytes) (e :
 
 -- ---- an entry of a consistent directory that a file's look-up has found
 module _ (G : Geometry) (d : Rows) (user : ℕ) (s : Bytes) (q ext : ℕ) (e : ℕ) (at : findFile G d user s q ext ≡ At e) where
-  file-first : First (λ (e : ℕ). isFile user s q ext (d e)) 0 (G .entries) e
+  file-first : FirstAt (λ (e : ℕ). isFile user s q ext (d e)) 0 (G .entries) e
   unfolding findFile
-  file-first = found-first _ 0 (G .entries) e at
+  file-first = first-says _ 0 (G .entries) e at
 
   pub file-below : e < G .entries
   file-below = file-first .below
