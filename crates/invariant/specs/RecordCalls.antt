@@ -1,5 +1,5 @@
 -- The record calls keep image and map good: a move closes the present extent and may make an entry; a write may take a block.
-use mathlib.Core.Path.{_≡_, refl, ap, sym, _∙_, subst}
+use mathlib.Core.Path.{_≡_, ap, sym, _∙_, subst}
 use mathlib.Core.Bool.{true, false}
 use Prim.Native.Nat.{ℕ, _≤_, _<_}
 use native.Mathlib.Omega.{arith}
@@ -8,9 +8,9 @@ use Rattle.lists.specs.Cases.{split, eq-or-ne, not-both}
 use Rattle.lists.specs.Tests.{and-right}
 use borrow.Author.Tests.{leb-true, eq-eqb}
 use Rattle.format.specs.Diskette.{Bytes, Geometry, Sound, recordBytes}
-use Rattle.format.specs.Entries.{entryAt, slotCount, slotOf, userOf, extentOf, used, empty, named, isFile, findEmpty}
+use Rattle.format.specs.Entries.{entryAt, slotCount, slotOf, extentOf, used, empty, isFile, findEmpty}
 use Rattle.format.specs.Notes.{noteAt, freeNote, pendingFor, findFree}
-use Rattle.format.specs.Fcb.{fcbRight, crOf}
+use Rattle.format.specs.Fcb.{fcbRight}
 use Rattle.format.specs.declared.Found.the-variants.{At, Nothing}
 use Rattle.model.specs.declared.Session.{Session}
 use Rattle.model.specs.Lent.{Lent, rowsOf}
@@ -39,15 +39,15 @@ use Rattle.invariant.specs.Close.{pending-spare}
 use Rattle.invariant.specs.Updates.{good-taken, good-record, good-made}
 use Rattle.invariant.specs.CloseGood.{slots-fit, pending-block, current-below, current-used, closed-there, closed-file, closed-free, good-closed}
 
--- ---- the block of a write: past the directory, and free where the FCB has none in its slot
-pub record Ready (G : Geometry) (map fcb : Bytes) (j b : ℕ) : Type 0 where
+-- block b serves a write for slot j: it is past the directory, and free where the FCB has none in its slot
+pub record BlockFor (G : Geometry) (map fcb : Bytes) (j b : ℕ) : Type 0 where
   pub past : G .area ≤ b
   pub below : b < G .blocks
   pub unless : slotOf fcb j ≡ 0 → noteAt map b ≡ freeNote
 
 -- a record of a used entry's block is written, with the FCB come to that entry
 pub good-written : {G : Geometry} (S : Sound G) (l : Lent) → Good G (l .image) (l .map) → length (l .buffer) ≡ recordBytes
-    → (t j b r cr : ℕ) → t < G .entries → j < slotCount → used (entryAt G (l .image) t) ≡ true → Ready G (l .map) (l .fcb) j b
+    → (t j b r cr : ℕ) → t < G .entries → j < slotCount → used (entryAt G (l .image) t) ≡ true → BlockFor G (l .map) (l .fcb) j b
     → Good G (haveWritten G t j b r cr l .image) (haveWritten G t j b r cr l .map)
 unfolding haveWritten writtenMap
 good-written {G} S l g full t j b r cr ht hj u k =
@@ -71,9 +71,9 @@ module _ (G : Geometry) (n user : ℕ) (l : Lent) where
   make-block f q = rw (f, q)
 
 -- a block in a slot of a used entry is past the directory
-row-ready : (G : Geometry) (r : Bytes) → Fine G r → (map fcb : Bytes) (j b : ℕ) → j < slotCount → slotOf r j ≡ b → (b ≡ 0 → ⊥) → (slotOf fcb j ≡ 0 → ⊥)
-    → Ready G map fcb j b
-row-ready G r fine map fcb j b h q real n = record {
+row-serves : (G : Geometry) (r : Bytes) → Fine G r → (map fcb : Bytes) (j b : ℕ) → j < slotCount → slotOf r j ≡ b → (b ≡ 0 → ⊥) → (slotOf fcb j ≡ 0 → ⊥)
+    → BlockFor G map fcb j b
+row-serves G r fine map fcb j b h q real n = record {
   past = subst (λ (x : ℕ). G .area ≤ x) q (fine .low j h (λ z. real (sym q ∙ z)));
   below = subst (λ (x : ℕ). x < G .blocks) q (fine .high j h (λ z. real (sym q ∙ z)));
   unless = λ z. absurd (n z);
@@ -105,9 +105,9 @@ module _ {G : Geometry} (S : Sound G) (n : ℕ) (l : Lent) (s : Session) (g : Go
   good-moved t = good-present
 
   -- ---- the block of a write
-  -- a free block is ready for any slot, as long as its note stays
-  free-ready : (map fcb : Bytes) (j b : ℕ) → findFree G (l .map) ≡ At b → noteAt map b ≡ freeNote → Ready G map fcb j b
-  free-ready map fcb j b q z =
+  -- a free block serves for any slot, as long as its note stays
+  free-serves : (map fcb : Bytes) (j b : ℕ) → findFree G (l .map) ≡ At b → noteAt map b ≡ freeNote → BlockFor G map fcb j b
+  free-serves map fcb j b q z =
       let h = free-is G (l .map) b q in
       record { past = free-spare G (rowsOf G l) b (noteAt (l .map) b) (g .inv .map b (h .below)) (h .free) .past; below = h .below; unless = λ y. z }
 
@@ -117,10 +117,10 @@ module _ {G : Geometry} (S : Sound G) (n : ℕ) (l : Lent) (s : Session) (g : Go
       let h = free-is G (l .map) b q in closed-free S (l .image) (l .map) g (s .user) (f .user-low) (l .fcb) e present-current b (h .below) (h .free)
 
   -- a block in the FCB's slot is the entry's, or pending for it
-  own-ready : (j b : ℕ) → j < slotCount → slotOf (l .fcb) j ≡ b → (b ≡ 0 → ⊥) → Ready G (l .map) (l .fcb) j b
-  own-ready j b h q real =
+  own-serves : (j b : ℕ) → j < slotCount → slotOf (l .fcb) j ≡ b → (b ≡ 0 → ⊥) → BlockFor G (l .map) (l .fcb) j b
+  own-serves j b h q real =
       split (slots-fit (l .map) e (rowsOf G l e) (l .fcb) (present-current .slots) j h)
-      (λ p. row-ready G (rowsOf G l e) (g .inv .dir .fine e present-below present-used) (l .map) (l .fcb) j b h (sym p ∙ q) real (λ z. real (sym q ∙ z)))
+      (λ p. row-serves G (rowsOf G l e) (g .inv .dir .fine e present-below present-used) (l .map) (l .fcb) j b h (sym p ∙ q) real (λ z. real (sym q ∙ z)))
       (λ p. let noted : noteAt (l .map) b ≡ pendingFor e j = ap (λ (x : ℕ). noteAt (l .map) x) (sym q) ∙ p .1 in
       let below : b < G .blocks = subst (λ (x : ℕ). b < x) (g .map-long) (pending-block (l .map) b e j noted) in
       record {
@@ -133,11 +133,11 @@ module _ {G : Geometry} (S : Sound G) (n : ℕ) (l : Lent) (s : Session) (g : Go
   pub good-stay : (b : ℕ) → stays n (l .fcb) ≡ true → Block G n (s .user) l b → Good G (writtenAt G s l n e b l .lent .image) (writtenAt G s l n e b l .lent .map)
   unfolding writtenAt
   good-stay b t k =
-      good-written S l g (f .buffer-long) e (targetSlot G n (l .fcb)) b (targetRecord n (l .fcb)) (crAfter n (l .fcb)) present-below slot-below present-used (ready k)
+      good-written S l g (f .buffer-long) e (targetSlot G n (l .fcb)) b (targetRecord n (l .fcb)) (crAfter n (l .fcb)) present-below slot-below present-used (serves k)
     where
-      ready : Block G n (s .user) l b → Ready G (l .map) (l .fcb) (targetSlot G n (l .fcb)) b
-      ready (there q real) = own-ready (targetSlot G n (l .fcb)) b slot-below (sym (stay-block G n (s .user) l t) ∙ q) real
-      ready (free z q) = free-ready (l .map) (l .fcb) (targetSlot G n (l .fcb)) b q (free-is G (l .map) b q .free)
+      serves : Block G n (s .user) l b → BlockFor G (l .map) (l .fcb) (targetSlot G n (l .fcb)) b
+      serves (there q real) = own-serves (targetSlot G n (l .fcb)) b slot-below (sym (stay-block G n (s .user) l t) ∙ q) real
+      serves (free z q) = free-serves (l .map) (l .fcb) (targetSlot G n (l .fcb)) b q (free-is G (l .map) b q .free)
 
   module _ (t : ℕ) (target : targetEntry G n (s .user) l ≡ At t) where
     target-file : isFile (s .user) (l .fcb) 1 (targetExtent n (l .fcb)) (rowsOf G l t) ≡ true
@@ -157,18 +157,18 @@ module _ {G : Geometry} (S : Sound G) (n : ℕ) (l : Lent) (s : Session) (g : Go
     good-move b go k =
         good-written S (moved G n l e t) (good-moved t) (f .buffer-long) t (targetSlot G n (l .fcb)) b (targetRecord n (l .fcb)) (crAfter n (l .fcb)) target-below slot-below
         (used-cong (entryAt G (closedImage G (l .image) e (l .fcb)) t) (rowsOf G l t)
-        (closed-file S (l .image) (l .map) g (s .user) (f .user-low) (l .fcb) e present-current t target-below .user) ∙ target-used) (ready k)
+        (closed-file S (l .image) (l .map) g (s .user) (f .user-low) (l .fcb) e present-current t target-below .user) ∙ target-used) (serves k)
       where
         same : slotOf (entered (l .fcb) (rowsOf G l t)) (targetSlot G n (l .fcb)) ≡ slotOf (rowsOf G l t) (targetSlot G n (l .fcb))
         same = slot-entered (l .fcb) (rowsOf G l t) (let q : length (l .fcb) ≡ 36 = f .fcb-long in omega arith) (targetSlot G n (l .fcb)) slot-below
 
-        ready : Block G n (s .user) l b
-            → Ready G (closedMap (rowsOf G l e) (l .fcb) (l .map)) (entered (l .fcb) (rowsOf G l t)) (targetSlot G n (l .fcb)) b
-        ready (there q real) =
+        serves : Block G n (s .user) l b
+            → BlockFor G (closedMap (rowsOf G l e) (l .fcb) (l .map)) (entered (l .fcb) (rowsOf G l t)) (targetSlot G n (l .fcb)) b
+        serves (there q real) =
             let own : slotOf (rowsOf G l t) (targetSlot G n (l .fcb)) ≡ b = sym (move-block G n (s .user) l t go target) ∙ q in
-            row-ready G (rowsOf G l t) (g .inv .dir .fine t target-below target-used) (closedMap (rowsOf G l e) (l .fcb) (l .map)) (entered (l .fcb) (rowsOf G l t))
+            row-serves G (rowsOf G l t) (g .inv .dir .fine t target-below target-used) (closedMap (rowsOf G l e) (l .fcb) (l .map)) (entered (l .fcb) (rowsOf G l t))
             (targetSlot G n (l .fcb)) b slot-below own real (λ z. real (sym own ∙ sym same ∙ z))
-        ready (free z q) = free-ready (closedMap (rowsOf G l e) (l .fcb) (l .map)) (entered (l .fcb) (rowsOf G l t)) (targetSlot G n (l .fcb)) b q (still-free b q)
+        serves (free z q) = free-serves (closedMap (rowsOf G l e) (l .fcb) (l .map)) (entered (l .fcb) (rowsOf G l t)) (targetSlot G n (l .fcb)) b q (still-free b q)
 
   -- ---- a move that makes an entry for the target's extent
   module _ (t : ℕ) (room : findEmpty G (rowsOf G l) ≡ At t) (none : targetEntry G n (s .user) l ≡ Nothing) (low : targetExtent n (l .fcb) < extents) where
@@ -222,11 +222,11 @@ module _ {G : Geometry} (S : Sound G) (n : ℕ) (l : Lent) (s : Session) (g : Go
         → Good G (writtenAt G s l n t b (made G n l e t) .lent .image) (writtenAt G s l n t b (made G n l e t) .lent .map)
     unfolding writtenAt made
     good-make b go k =
-        good-written S (made G n l e t) good-next (f .buffer-long) t (targetSlot G n (l .fcb)) b (targetRecord n (l .fcb)) (crAfter n (l .fcb)) room-below slot-below next-used (ready k)
+        good-written S (made G n l e t) good-next (f .buffer-long) t (targetSlot G n (l .fcb)) b (targetRecord n (l .fcb)) (crAfter n (l .fcb)) room-below slot-below next-used (serves k)
       where
-        ready : Block G n (s .user) l b → Ready G (made G n l e t .map) (made G n l e t .fcb) (targetSlot G n (l .fcb)) b
-        ready (there q real) = absurd (real (sym q ∙ make-block G n (s .user) l go none))
-        ready (free z q) = free-ready (made G n l e t .map) (made G n l e t .fcb) (targetSlot G n (l .fcb)) b q (still-free b q)
+        serves : Block G n (s .user) l b → BlockFor G (made G n l e t .map) (made G n l e t .fcb) (targetSlot G n (l .fcb)) b
+        serves (there q real) = absurd (real (sym q ∙ make-block G n (s .user) l go none))
+        serves (free z q) = free-serves (made G n l e t .map) (made G n l e t .fcb) (targetSlot G n (l .fcb)) b q (still-free b q)
 
 -- ---- any plan of a record call
 module _ {G : Geometry} (S : Sound G) (n : ℕ) (l : Lent) (s : Session) (g : Good G (l .image) (l .map)) (f : Fits G l s) (low : targetExtent n (l .fcb) < extents) where
