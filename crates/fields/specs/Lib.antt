@@ -1,0 +1,9 @@
+pub mod Agree
+pub mod Closing
+pub mod Entering
+pub mod Making
+pub mod Numbers
+pub mod Target
+pub mod Search
+pub mod Size
+pub mod Changing
