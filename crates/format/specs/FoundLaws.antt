@@ -6,27 +6,23 @@ use native.Mathlib.Omega.{arith}
 use borrow.Author.Tests.{lt-ltb, le-ltb}
 use Rattle.lists.specs.Cases.{split, clash, lt-or-le}
 use Rattle.lists.specs.Below.{firstIn, first-hit, first-end, first-low, first-holds, first-before, first-is, first-none}
-use Rattle.format.specs.Found.{foundBelow, isFound, numberOf}
+use Rattle.format.specs.Found.{foundBelow, numberOf, isFound}
 use Rattle.format.specs.declared.Found.{Found}
 use Rattle.format.specs.declared.Found.the-variants.{At, Nothing}
 
--- ---- a number among n
-pub found-at : (n k : ℕ) → k < n → foundBelow n k ≡ At k
-unfolding foundBelow
-found-at n k h = rw (lt-ltb k n h)
+-- ---- the two answers
+pub at-not-nothing : (e : ℕ) → At e ≡ Nothing → ⊥
+at-not-nothing e q = let z : _≡_ {A = ℕ} 0 1 = cc in omega arith
 
-pub found-nothing : (n k : ℕ) → n ≤ k → foundBelow n k ≡ Nothing
-unfolding foundBelow
-found-nothing n k h = rw (le-ltb k n h)
+pub at-once : (k e : ℕ) → At k ≡ At e → k ≡ e
+at-once k e q = cc
 
--- `At` and `Nothing` differ, and `At` is one to one
-pub at-nothing : {A : Type 0} (k : ℕ) → At k ≡ Nothing → A
-at-nothing k q = absurd (let z : _≡_ {A = ℕ} 0 1 = cc in omega arith)
+-- by cases, with the answer in hand
+pub found-cases : {A : Type 0} (f : Found) → ((k : ℕ) → f ≡ At k → A) → (f ≡ Nothing → A) → A
+found-cases (At k) a b = a k refl
+found-cases Nothing a b = b refl
 
-pub at-same : (k m : ℕ) → At k ≡ At m → k ≡ m
-at-same k m q = cc
-
--- ---- an answer that has found something, and one that has not
+-- an answer that has found something, and one that has not
 pub record FoundAt (r : Found) : Type 0 where
   pub place : ℕ
   pub is : r ≡ At place
@@ -42,15 +38,23 @@ pub not-found : (r : Found) → isFound r ≡ false → r ≡ Nothing
 not-found (At k) h = clash h
 not-found Nothing h = refl
 
--- ---- what a number among n says
+-- ---- a number among n
+pub found-at : (n k : ℕ) → k < n → foundBelow n k ≡ At k
+unfolding foundBelow
+found-at n k h = rw (lt-ltb k n h)
+
+pub found-nothing : (n k : ℕ) → n ≤ k → foundBelow n k ≡ Nothing
+unfolding foundBelow
+found-nothing n k h = rw (le-ltb k n h)
+
 pub found-says : (n k e : ℕ) → foundBelow n k ≡ At e → (k ≡ e) × (e < n)
 found-says n k e q =
     split (lt-or-le k n)
-    (λ w. let p : k ≡ e = at-same k e (sym (found-at n k w) ∙ q) in (p, omega arith))
-    (λ w. at-nothing e (sym q ∙ found-nothing n k w))
+    (λ w. let p : k ≡ e = at-once k e (sym (found-at n k w) ∙ q) in (p, omega arith))
+    (λ w. absurd (at-not-nothing e (sym q ∙ found-nothing n k w)))
 
 pub nothing-says : (n k : ℕ) → foundBelow n k ≡ Nothing → n ≤ k
-nothing-says n k q = split (lt-or-le k n) (λ w. at-nothing k (sym (found-at n k w) ∙ q)) (λ w. w)
+nothing-says n k q = split (lt-or-le k n) (λ w. absurd (at-not-nothing k (sym (found-at n k w) ∙ q))) (λ w. w)
 
 -- the number of an answer is the number that was looked at
 pub number-found : (n k : ℕ) → k ≤ n → numberOf n (foundBelow n k) ≡ k
