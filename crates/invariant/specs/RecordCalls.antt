@@ -5,12 +5,10 @@ use Prim.Native.Nat.{ℕ, _≤_, _<_}
 use native.Mathlib.Omega.{arith}
 use lib.ListN.{length}
 use Rattle.lists.specs.Cases.{split, eq-or-ne, not-both}
-use Rattle.lists.specs.Tests.{and-right}
-use borrow.Author.Tests.{leb-true, eq-eqb}
+use borrow.Author.Tests.{eq-eqb}
 use Rattle.format.specs.Diskette.{Bytes, Geometry, Sound, recordBytes}
 use Rattle.format.specs.Entries.{entryAt, slotCount, slotOf, extentOf, used, empty, isFile, findEmpty}
 use Rattle.format.specs.Notes.{noteAt, freeNote, pendingFor, findFree}
-use Rattle.format.specs.Fcb.{fcbRight}
 use Rattle.format.specs.declared.Found.the-variants.{At, Nothing}
 use Rattle.model.specs.declared.Session.{Session}
 use Rattle.model.specs.Lent.{Lent, rowsOf}
@@ -24,20 +22,21 @@ use Rattle.consistency.specs.Facts.{Fine}
 use Rattle.consistency.specs.Reflect.{used-full}
 use Rattle.notes.specs.Free.{free-is, free-spare}
 use Rattle.rows.specs.Entries.{length-entryAt, entry-stored}
-use Rattle.rows.specs.Find.{no-file-says, empty-says}
+use Rattle.rows.specs.Find.{file-says, no-file-says, empty-says}
 use Rattle.fields.specs.Agree.{isFile-cong, used-cong}
+use Rattle.fields.specs.Images.{row-closedImage-other}
 use Rattle.fields.specs.Fine.{fine-next}
 use Rattle.fields.specs.Making.{length-nextRow, user-next, name-next, slot-next, extent-next}
 use Rattle.fields.specs.Entering.{slot-entered}
 use Rattle.fields.specs.Naming.{named-intro, file-intro, file-user, file-like, file-used}
 use Rattle.fields.specs.Target.{map-written-kept, targetSlot-below}
-use Rattle.table.specs.Present.{Current, current-elim, file-is, file-below}
+use Rattle.current.specs.Current.{SlotOk, slot-same, slot-pending, Current, fcb-says, current-says, current-file, current-slot}
 use Rattle.table.specs.Facts.{Fits, Reads, Writes}
 use Rattle.table.specs.Plans.{Block, there, free, There, Planned, stay, move, make, planned-read, planned-write}
 use Rattle.invariant.specs.Good.{Good}
 use Rattle.invariant.specs.Close.{pending-spare}
 use Rattle.invariant.specs.Updates.{good-taken, good-record, good-made}
-use Rattle.invariant.specs.CloseGood.{slots-fit, pending-block, current-below, current-used, closed-there, closed-file, closed-free, good-closed}
+use Rattle.invariant.specs.CloseGood.{pending-block, current-below, current-used, closed-file, closed-free, good-closed}
 
 -- block b serves a write for slot j: it is past the directory, and free where the FCB has none in its slot
 pub record BlockFor (G : Geometry) (map fcb : Bytes) (j b : ℕ) : Type 0 where
@@ -84,7 +83,7 @@ module _ {G : Geometry} (S : Sound G) (n : ℕ) (l : Lent) (s : Session) (g : Go
   -- ---- the FCB's own entry
   pub present-current : Current G (rowsOf G l) (l .map) (s .user) (l .fcb) e
   unfolding presentEntry
-  present-current = current-elim G (rowsOf G l) (l .map) (s .user) (l .fcb) e at
+  present-current = current-says G (rowsOf G l) (l .map) (s .user) (l .fcb) e at
 
   pub present-below : e < G .entries
   present-below = current-below S (l .image) (l .map) g (s .user) (f .user-low) (l .fcb) e present-current
@@ -93,8 +92,7 @@ module _ {G : Geometry} (S : Sound G) (n : ℕ) (l : Lent) (s : Session) (g : Go
   present-used = current-used S (l .image) (l .map) g (s .user) (f .user-low) (l .fcb) e present-current
 
   pub slot-below : targetSlot G n (l .fcb) < slotCount
-  unfolding fcbRight
-  slot-below = targetSlot-below S n (l .fcb) (leb-true _ _ (and-right _ _ (and-right _ _ (present-current .fcb-right))))
+  slot-below = targetSlot-below S n (l .fcb) (fcb-says (l .fcb) (present-current .right) .cr)
 
   -- ---- a close, and a move
   pub good-present : Good G (closedImage G (l .image) e (l .fcb)) (closedMap (rowsOf G l e) (l .fcb) (l .map))
@@ -118,16 +116,19 @@ module _ {G : Geometry} (S : Sound G) (n : ℕ) (l : Lent) (s : Session) (g : Go
 
   -- a block in the FCB's slot is the entry's, or pending for it
   own-serves : (j b : ℕ) → j < slotCount → slotOf (l .fcb) j ≡ b → (b ≡ 0 → ⊥) → BlockFor G (l .map) (l .fcb) j b
-  own-serves j b h q real =
-      split (slots-fit (l .map) e (rowsOf G l e) (l .fcb) (present-current .slots) j h)
-      (λ p. row-serves G (rowsOf G l e) (g .inv .dir .fine e present-below present-used) (l .map) (l .fcb) j b h (sym p ∙ q) real (λ z. real (sym q ∙ z)))
-      (λ p. let noted : noteAt (l .map) b ≡ pendingFor e j = ap (λ (x : ℕ). noteAt (l .map) x) (sym q) ∙ p .1 in
-      let below : b < G .blocks = subst (λ (x : ℕ). b < x) (g .map-long) (pending-block (l .map) b e j noted) in
-      record {
-        past = pending-spare G (rowsOf G l) b e j (noteAt (l .map) b) (g .inv .map b below) noted .past;
-        below = below;
-        unless = λ z. absurd (real (sym q ∙ z));
-      })
+  own-serves j b h q real = go (current-slot G (rowsOf G l) (l .map) (s .user) (l .fcb) e present-current j h)
+    where
+      go : SlotOk (l .map) e (rowsOf G l e) (l .fcb) j → BlockFor G (l .map) (l .fcb) j b
+      go (slot-same p) =
+          row-serves G (rowsOf G l e) (g .inv .dir .fine e present-below present-used) (l .map) (l .fcb) j b h (sym p ∙ q) real (λ z. real (sym q ∙ z))
+      go (slot-pending y p) =
+          let noted : noteAt (l .map) b ≡ pendingFor e j = ap (λ (x : ℕ). noteAt (l .map) x) (sym q) ∙ p in
+          let below : b < G .blocks = subst (λ (x : ℕ). b < x) (g .map-long) (pending-block (l .map) b e j noted) in
+          record {
+            past = pending-spare G (rowsOf G l) b e j (noteAt (l .map) b) (g .inv .map b below) noted .past;
+            below = below;
+            unless = λ z. absurd (real (sym q ∙ z));
+          }
 
   -- ---- a write in the present extent, and in another one
   pub good-stay : (b : ℕ) → stays n (l .fcb) ≡ true → Block G n (s .user) l b → Good G (writtenAt G s l n e b l .lent .image) (writtenAt G s l n e b l .lent .map)
@@ -142,11 +143,11 @@ module _ {G : Geometry} (S : Sound G) (n : ℕ) (l : Lent) (s : Session) (g : Go
   module _ (t : ℕ) (target : targetEntry G n (s .user) l ≡ At t) where
     target-file : isFile (s .user) (l .fcb) 1 (targetExtent n (l .fcb)) (rowsOf G l t) ≡ true
     unfolding targetEntry
-    target-file = file-is G (rowsOf G l) (s .user) (l .fcb) 1 (targetExtent n (l .fcb)) t target
+    target-file = file-says G (rowsOf G l) (s .user) (l .fcb) 1 (targetExtent n (l .fcb)) t target .holds
 
     target-below : t < G .entries
     unfolding targetEntry
-    target-below = file-below G (rowsOf G l) (s .user) (l .fcb) 1 (targetExtent n (l .fcb)) t target
+    target-below = file-says G (rowsOf G l) (s .user) (l .fcb) 1 (targetExtent n (l .fcb)) t target .below
 
     target-used : used (rowsOf G l t) ≡ true
     target-used = file-used (s .user) (l .fcb) 1 (targetExtent n (l .fcb)) (rowsOf G l t) target-file (f .user-low)
@@ -188,7 +189,7 @@ module _ {G : Geometry} (S : Sound G) (n : ℕ) (l : Lent) (s : Session) (g : Go
     next-file =
         let ext : ℕ = targetExtent n (l .fcb) in
         let row : Bytes = nextRow (rowsOf G l e) ext in
-        let is = file-is G (rowsOf G l) (s .user) (l .fcb) 1 (extentOf (l .fcb)) e (present-current .entry) in
+        let is = current-file G (rowsOf G l) (l .map) (s .user) (l .fcb) e present-current .holds in
         file-intro (s .user) (l .fcb) 1 ext row
         (named-intro false (s .user) (l .fcb) 1 row (user-next (rowsOf G l e) ext long ∙ file-user (s .user) (l .fcb) 1 (extentOf (l .fcb)) (rowsOf G l e) is)
         (like-trans (l .fcb) 1 (rowsOf G l e) 1 row 1 (file-like (s .user) (l .fcb) 1 (extentOf (l .fcb)) (rowsOf G l e) is)
@@ -200,10 +201,8 @@ module _ {G : Geometry} (S : Sound G) (n : ℕ) (l : Lent) (s : Session) (g : Go
     good-next =
         let ext : ℕ = targetExtent n (l .fcb) in
         let row : Bytes = nextRow (rowsOf G l e) ext in
-        let there : (k : ℕ) → k < G .entries → (k ≡ e → ⊥) → entryAt G (closedImage G (l .image) e (l .fcb)) k ≡ rowsOf G l k =
-        closed-there S (l .image) (l .map) g (s .user) (f .user-low) (l .fcb) e present-current in
         good-made S (closedImage G (l .image) e (l .fcb)) (closedMap (rowsOf G l e) (l .fcb) (l .map)) good-present t room-below
-        (ap empty (there t room-below elsewhere) ∙ empty-says G (rowsOf G l) t room .holds) row (length-nextRow (rowsOf G l e) ext long)
+        (ap empty (row-closedImage-other S (l .image) (g .image-long) e present-below (l .fcb) t room-below (λ q. elsewhere (sym q))) ∙ empty-says G (rowsOf G l) t room .holds) row (length-nextRow (rowsOf G l e) ext long)
         (fine-next G (rowsOf G l e) ext long (g .inv .dir .fine e present-below present-used) low) (λ j h. slot-next (rowsOf G l e) ext long j)
         (s .user) (l .fcb) 1 ext next-file
         (λ k h. isFile-cong (s .user) (l .fcb) 1 ext (entryAt G (closedImage G (l .image) e (l .fcb)) k) (rowsOf G l k)
