@@ -57,15 +57,15 @@ good-written {G} S l g full t j b r cr ht hj u k =
 
 -- ---- the block that is there, by the plan
 module _ (G : Geometry) (n user : ℕ) (l : Lent) where
-  stay-block : stays n (l .fcb) ≡ true → blockThere G n user l ≡ slotOf (l .fcb) (targetSlot G n (l .fcb))
+  pub stay-block : stays n (l .fcb) ≡ true → blockThere G n user l ≡ slotOf (l .fcb) (targetSlot G n (l .fcb))
   unfolding blockThere
   stay-block t = rw t
 
-  move-block : (t : ℕ) → stays n (l .fcb) ≡ false → targetEntry G n user l ≡ At t → blockThere G n user l ≡ slotOf (rowsOf G l t) (targetSlot G n (l .fcb))
+  pub move-block : (t : ℕ) → stays n (l .fcb) ≡ false → targetEntry G n user l ≡ At t → blockThere G n user l ≡ slotOf (rowsOf G l t) (targetSlot G n (l .fcb))
   unfolding blockThere
   move-block t f q = rw (f, q)
 
-  make-block : stays n (l .fcb) ≡ false → targetEntry G n user l ≡ Nothing → blockThere G n user l ≡ 0
+  pub make-block : stays n (l .fcb) ≡ false → targetEntry G n user l ≡ Nothing → blockThere G n user l ≡ 0
   unfolding blockThere
   make-block f q = rw (f, q)
 
@@ -141,15 +141,15 @@ module _ {G : Geometry} (S : Sound G) (n : ℕ) (l : Lent) (s : Session) (g : Go
       serves (free z q) = free-serves (l .map) (l .fcb) (targetSlot G n (l .fcb)) b q (free-is G (l .map) b q .free)
 
   module _ (t : ℕ) (target : targetEntry G n (s .user) l ≡ At t) where
-    target-file : isFile (s .user) (l .fcb) 1 (targetExtent n (l .fcb)) (rowsOf G l t) ≡ true
+    pub target-file : isFile (s .user) (l .fcb) 1 (targetExtent n (l .fcb)) (rowsOf G l t) ≡ true
     unfolding targetEntry
     target-file = file-says G (rowsOf G l) (s .user) (l .fcb) 1 (targetExtent n (l .fcb)) t target .holds
 
-    target-below : t < G .entries
+    pub target-below : t < G .entries
     unfolding targetEntry
     target-below = file-says G (rowsOf G l) (s .user) (l .fcb) 1 (targetExtent n (l .fcb)) t target .below
 
-    target-used : used (rowsOf G l t) ≡ true
+    pub target-used : used (rowsOf G l t) ≡ true
     target-used = file-used (s .user) (l .fcb) 1 (targetExtent n (l .fcb)) (rowsOf G l t) target-file (f .user-low)
 
     pub good-move : (b : ℕ) → stays n (l .fcb) ≡ false → Block G n (s .user) l b
@@ -185,7 +185,7 @@ module _ {G : Geometry} (S : Sound G) (n : ℕ) (l : Lent) (s : Session) (g : Go
     long : length (rowsOf G l e) ≡ 32
     long = length-entryAt S (l .image) (g .image-long) e present-below
 
-    next-file : isFile (s .user) (l .fcb) 1 (targetExtent n (l .fcb)) (nextRow (rowsOf G l e) (targetExtent n (l .fcb))) ≡ true
+    pub next-file : isFile (s .user) (l .fcb) 1 (targetExtent n (l .fcb)) (nextRow (rowsOf G l e) (targetExtent n (l .fcb))) ≡ true
     next-file =
         let ext : ℕ = targetExtent n (l .fcb) in
         let row : Bytes = nextRow (rowsOf G l e) ext in
@@ -209,7 +209,7 @@ module _ {G : Geometry} (S : Sound G) (n : ℕ) (l : Lent) (s : Session) (g : Go
         (closed-file S (l .image) (l .map) g (s .user) (f .user-low) (l .fcb) e present-current k h) ∙ no-file-says G (rowsOf G l) (s .user) (l .fcb) 1 ext none k h)
 
     -- the entry that was made
-    next-used : used (entryAt G (made G n l e t .image) t) ≡ true
+    pub next-used : used (entryAt G (made G n l e t .image) t) ≡ true
     unfolding made nextMade
     next-used =
         let row : Bytes = nextRow (rowsOf G l e) (targetExtent n (l .fcb)) in
