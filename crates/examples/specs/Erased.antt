@@ -49,11 +49,11 @@ all-erased {G} S size is = record {
 }
 
 module _ (G : Geometry) (img : Bytes) (erased : Erased G img) where
-  erased-empty : (e : ℕ) → e < G .entries → empty (entryAt G img e) ≡ true
+  pub erased-empty : (e : ℕ) → e < G .entries → empty (entryAt G img e) ≡ true
   unfolding empty
   erased-empty e h = eq-eqb _ _ (erased .void e h)
 
-  erased-unused : (e : ℕ) → e < G .entries → used (entryAt G img e) ≡ false
+  pub erased-unused : (e : ℕ) → e < G .entries → used (entryAt G img e) ≡ false
   unfolding used
   erased-unused e h = lt-leb (userOf (entryAt G img e)) 15 (omega (arith, erased .void e h))
 
@@ -139,9 +139,9 @@ module _ (G : Geometry) (img : Bytes) (long : length img ≡ imageBytes G) (righ
   unfolding loggedIn
   login-step argument = step-carried G (ask 13 argument) (lend img map fcb buffer) s call13 login-ready tt
 
-  space-ready : Ready G 46 (lend img (freshMap G (entryAt G img)) fcb buffer) (ended s)
-  unfolding usesFcb oneOf _or_
-  space-ready = record {
+  -- after it every call finds image and map right
+  pub logged-ready : (n : ℕ) → (usesFcb n ≡ true → getD fcb 0 0 ≤ 1) → Ready G n (lend img (freshMap G (entryAt G img)) fcb buffer) (ended s)
+  logged-ready n drive = record {
     fits = record {
       image-long = long;
       map-long = length-fresh G (entryAt G img);
@@ -150,7 +150,7 @@ module _ (G : Geometry) (img : Bytes) (long : length img ≡ imageBytes G) (righ
       user-low = fit .user-low;
       place-low = omega arith;
     };
-    drive = λ u. clash (sym u);
+    drive = drive;
     image-right = right;
     map-right = λ ne. fresh-right G (entryAt G img);
   }
@@ -158,8 +158,9 @@ module _ (G : Geometry) (img : Bytes) (long : length img ≡ imageBytes G) (righ
   -- and 46 then answers eight times the free notes of the fresh map
   pub space-step : (argument : ℕ) → step G (ask 46 argument) (lend img (freshMap G (entryAt G img)) fcb buffer) (ended s)
       ≡ done 0 s (lend img (freshMap G (entryAt G img)) fcb (splice buffer 0 (threeBytes (G .perBlock * freeCount G (freshMap G (entryAt G img))))))
-  unfolding space
-  space-step argument = step-carried G (ask 46 argument) (lend img (freshMap G (entryAt G img)) fcb buffer) (ended s) call46 space-ready tt
+  unfolding space usesFcb oneOf _or_
+  space-step argument =
+      step-carried G (ask 46 argument) (lend img (freshMap G (entryAt G img)) fcb buffer) (ended s) call46 (logged-ready 46 (λ u. clash (sym u))) tt
 
 -- a call after another: on what that left, with the session that it left
 abbrev pub next : Geometry → Asked → Outcome → Outcome

@@ -61,7 +61,7 @@ position-256 G argument l s ready ext cr =
     (position-gives G argument l s ready record { ex = omega arith; s2 = omega arith; cr = omega arith })
 
 -- ---- 35: the largest of 128 × extent + rc over the name's entries
-size-gives : (G : Geometry) (argument : ℕ) (l : Lent) (s : Session) → Ready G 35 l s → Sizes G l s
+pub size-gives : (G : Geometry) (argument : ℕ) (l : Lent) (s : Session) → Ready G 35 l s → Sizes G l s
     → Gives G 35 argument l s (threeBytes (fileSize G (rowsOf G l) (named false (s .user) (l .fcb) 1)))
 unfolding sized
 size-gives G argument l s ready p =
@@ -76,11 +76,11 @@ pub record HasEntry (G : Geometry) (l : Lent) (s : Session) (ext count : ℕ) : 
   pub extent : extentOf (rowsOf G l entry) ≡ ext
   pub counted : rcOf (rowsOf G l entry) ≡ count
 
-entry-size : (G : Geometry) (l : Lent) (s : Session) (ext count : ℕ) (h : HasEntry G l s ext count) → sizeOf (rowsOf G l (h .entry)) ≡ 128 * ext + count
+pub entry-size : (G : Geometry) (l : Lent) (s : Session) (ext count : ℕ) (h : HasEntry G l s ext count) → sizeOf (rowsOf G l (h .entry)) ≡ 128 * ext + count
 unfolding sizeOf countIn
 entry-size G l s ext count h = rw (h .extent, h .counted)
 
-some-entry : (G : Geometry) (l : Lent) (s : Session) (ext count : ℕ) → HasEntry G l s ext count → FoundAt (findNamed G (rowsOf G l) false (s .user) (l .fcb) 1 0)
+pub some-entry : (G : Geometry) (l : Lent) (s : Session) (ext count : ℕ) → HasEntry G l s ext count → FoundAt (findNamed G (rowsOf G l) false (s .user) (l .fcb) 1 0)
 unfolding findNamed
 some-entry G l s ext count h =
     split (bool-cases (isFound (findNamed G (rowsOf G l) false (s .user) (l .fcb) 1 0))) (λ t. is-found _ t)
