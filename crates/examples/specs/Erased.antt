@@ -1,20 +1,20 @@
 -- Example e: an erased disk, on which every entry begins with E5H. It is consistent, nothing is listed on it, and after a log-in all
 -- blocks past the directory are free.
-use mathlib.Core.Path.{_≡_, refl, sym, ap, subst, _∙_}
+use mathlib.Core.Path.{_≡_, refl, sym, subst, _∙_}
 use mathlib.Core.Bool.{true, false}
-use mathlib.Core.List.{List, [], _∷_}
+use mathlib.Core.List.{[], _∷_}
 use Prim.Native.Nat.{ℕ, _+_, _-_, _*_, _≤_, _<_}
 use native.Mathlib.Omega.{arith}
 use lib.ListN.{length, getD, replicate, getD-replicate, length-replicate}
-use borrow.Author.Tests.{lt-leb, eq-eqb, ne-eqb, lt-ltb, le-ltb}
+use borrow.Author.Tests.{lt-leb, eq-eqb, lt-ltb, le-ltb}
 use Rattle.lists.specs.Cases.{split, bool-cases, lt-or-le, not-both, clash}
 use Rattle.lists.specs.Tests.{_or_}
 use Rattle.lists.specs.Splice.{part, splice, getD-part, part-splice-same}
 use Rattle.lists.specs.Count.{count-from}
 use Rattle.format.specs.Diskette.{Bytes, Geometry, Sound, imageBytes, recordBytes, eightInch}
 use Rattle.format.specs.Entries.{Rows, entryBytes, entryPlace, entryAt, userOf, empty, used}
-use Rattle.format.specs.Consistent.{consistentRows, consistent}
-use Rattle.format.specs.Notes.{freeNote, areaNote, isListed, freshNote, freshMap, isFree, freeCount}
+use Rattle.format.specs.Consistent.{consistent}
+use Rattle.format.specs.Notes.{isListed, freshNote, freshMap, isFree, freeCount}
 use Rattle.format.specs.Fcb.{fcbBytes}
 use Rattle.disk.specs.Eight.{eight-sound}
 use Rattle.rows.specs.Entries.{entry-fits}
@@ -25,14 +25,13 @@ use Rattle.notes.specs.Right.{length-fresh, fresh-at, fresh-right}
 use Rattle.model.specs.declared.Asked.{Asked}
 use Rattle.model.specs.declared.Session.{Session}
 use Rattle.model.specs.Codes.{aOf, hOf}
-use Rattle.model.specs.declared.Code.the-variants.{Accepted}
-use Rattle.model.specs.Lent.{Lent, lend, rowsOf, Outcome, ended}
+use Rattle.model.specs.Lent.{lend, Outcome, ended}
 use Rattle.model.specs.Entering.{threeBytes}
 use Rattle.model.specs.Table.{oneOf, usesFcb}
 use Rattle.model.specs.Calls.{done, loggedIn, space}
 use Rattle.model.specs.Step.{step}
 use Rattle.table.specs.Own.{call13, call46}
-use Rattle.table.specs.Facts.{Fits, Ready}
+use Rattle.table.specs.Facts.{Ready}
 use Rattle.table.specs.Total.{ask, step-carried}
 
 pub record Erased (G : Geometry) (img : Bytes) : Type 0 where

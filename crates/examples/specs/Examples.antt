@@ -1,5 +1,5 @@
 -- Document 01's checked examples, as one table: each says what the definitions give at the example's input.
-use mathlib.Core.Path.{_≡_, refl}
+use mathlib.Core.Path.{_≡_}
 use mathlib.Core.Logic.{inl, inr}
 use mathlib.Core.Bool.{true, false}
 use mathlib.Core.List.{[], _∷_}

@@ -6,3 +6,4 @@ pub mod Pattern
 pub mod Slots
 pub mod Examples
 pub mod OneFile
+pub mod Useless

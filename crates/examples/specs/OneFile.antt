@@ -1,20 +1,20 @@
 -- A disk with one file: entry 0 of an erased disk is user 0's file A, of r records, and lists block 2.
 use mathlib.Core.Path.{_≡_, refl, sym, ap, subst, _∙_}
-use mathlib.Core.Logic.{_⊎_, inl, inr}
-use mathlib.Core.Bool.{Bool, true, false, not}
+use mathlib.Core.Bool.{true, false}
 use mathlib.Core.List.{[], _∷_, _++_}
-use Prim.Native.Nat.{ℕ, zero, suc, _+_, _*_, _≤_, _<_}
+use Prim.Native.Nat.{ℕ, zero, suc, _*_, _≤_, _<_}
 use native.Mathlib.Omega.{arith}
-use lib.ListN.{length, getD, replicate, getD-replicate, length-replicate}
+use lib.ListN.{length, getD, replicate, getD-replicate}
 use lib.Seq.{getD-append-add}
 use borrow.Author.Tests.{eqb-true, le-leb}
 use Rattle.lists.specs.Cases.{split, eq-or-ne, bool-cases, not-both}
 use Rattle.lists.specs.Tests.{_and_, _or_, and-left}
 use Rattle.lists.specs.Below.{allBelow}
+use Rattle.lists.specs.Splice.{splice}
 use Rattle.format.specs.Diskette.{Bytes, imageBytes, eightInch}
 use Rattle.format.specs.Names.{nameByte, nameRight, byteLike, nameLike}
 use Rattle.format.specs.Entries.{Rows, entryAt, withEntry, slotCount, slotOf, userOf, rcOf, empty, used, extentOf, countIn, named}
-use Rattle.format.specs.Consistent.{consistentRows, consistent}
+use Rattle.format.specs.Consistent.{consistent}
 use Rattle.format.specs.Notes.{isListed, freshMap, freeCount}
 use Rattle.format.specs.Fcb.{fcbBytes}
 use Rattle.disk.specs.Eight.{eight-sound}
@@ -25,12 +25,12 @@ use Rattle.consistency.specs.Reflect.{facts-consistent}
 use Rattle.model.specs.declared.Session.{Session}
 use Rattle.model.specs.Entering.{threeBytes}
 use Rattle.model.specs.Lent.{Lent, lend, rowsOf, ended}
-use Rattle.model.specs.Calls.{sizeOf, fileSize}
+use Rattle.model.specs.Calls.{done, sizeOf, fileSize}
+use Rattle.model.specs.Step.{step}
+use Rattle.table.specs.Total.{ask}
 use Rattle.fields.specs.Size.{size-covers, size-high}
 use Rattle.table.specs.Facts.{Ready}
-use Rattle.notes.specs.Right.{length-fresh, fresh-right}
-use Rattle.format.specs.FoundLaws.{FoundAt}
-use Rattle.examples.specs.Numbers.{Gives, size-gives, HasEntry, some-entry}
+use Rattle.examples.specs.Numbers.{size-step, HasEntry, some-entry}
 use Rattle.examples.specs.Erased.{Erased, Fitting, SpaceIs, erased-empty, erased-unused, fresh-count, space-is, logged-ready}
 
 -- the bytes before the slots
@@ -199,7 +199,8 @@ module _ (img : Bytes) (erased : Erased eightInch img) (r : ℕ) (low : r ≤ 12
       omega arith
 
   pub one-sized : (map buffer : Bytes) (s : Session) → s .user ≡ 0 → Fitting eightInch map fileFcb buffer s → (x : ℕ)
-      → Gives eightInch 35 x (lend (oneFile img r) (freshMap eightInch (entryAt eightInch (oneFile img r))) fileFcb buffer) (ended s) (threeBytes r)
+      → step eightInch (ask 35 x) (lend (oneFile img r) (freshMap eightInch (entryAt eightInch (oneFile img r))) fileFcb buffer) (ended s)
+      ≡ done 0 s (lend (oneFile img r) (freshMap eightInch (entryAt eightInch (oneFile img r))) (splice fileFcb 33 (threeBytes r)) buffer)
   unfolding rows
   one-sized map buffer s zero-user fit x =
       let l : Lent = lend (oneFile img r) (freshMap eightInch (entryAt eightInch (oneFile img r))) fileFcb buffer in
@@ -208,5 +209,5 @@ module _ (img : Bytes) (erased : Erased eightInch img) (r : ℕ) (low : r ≤ 12
       let has : HasEntry eightInch l (ended s) 0 r =
       record { entry = 0; below = omega arith; mine = rw (zero-user, one-row) (file-asked r); extent = rw one-row (file-extent r); counted = rw one-row (file-count r) } in
       let size : fileSize eightInch (rowsOf eightInch l) (named false (s .user) fileFcb 1) ≡ r = rw zero-user one-size in
-      subst (λ (k : ℕ). Gives eightInch 35 x l (ended s) (threeBytes k)) size
-      (size-gives eightInch x l (ended s) ready record { name = fcb-name; some = some-entry eightInch l (ended s) 0 r has })
+      size-step eightInch x l (ended s) ready record { name = fcb-name; some = some-entry eightInch l (ended s) 0 r has }
+      ∙ ap (λ (k : ℕ). done 0 s (lend (l .image) (l .map) (splice fileFcb 33 (threeBytes k)) buffer)) size

@@ -1,8 +1,7 @@
 -- Example f: the random record of 33 and 34.
 use mathlib.Core.Path.{_≡_, refl, sym, subst, _∙_}
-use mathlib.Core.Bool.{true, false}
-use mathlib.Core.List.{[], _∷_}
-use Prim.Native.Nat.{ℕ, _+_, _*_, _/_, _%_, _≤_, _<_}
+use mathlib.Core.Bool.{true}
+use Prim.Native.Nat.{ℕ, _+_, _*_, _%_}
 use native.Mathlib.Omega.{arith}
 use lib.Dec.{eqb}
 use lib.ListN.{getD}
@@ -17,10 +16,10 @@ use Rattle.model.specs.declared.Verdict.the-variants.{Refused}
 use Rattle.model.specs.Codes.{aOf, hOf}
 use Rattle.model.specs.Lent.{Lent}
 use Rattle.model.specs.Target.{isRandom, targetExtent, targetRecord}
-use Rattle.model.specs.Table.{oneOf, verdict}
+use Rattle.model.specs.Table.{verdict}
 use Rattle.model.specs.Step.{refused, step}
-use Rattle.table.specs.First.{_&_, here}
-use Rattle.table.specs.Own.{call33, call34, at-one}
+use Rattle.table.specs.First.{here}
+use Rattle.table.specs.Own.{call33, call34}
 use Rattle.table.specs.Facts.{Ready}
 use Rattle.table.specs.Accept.{random-extent}
 use Rattle.table.specs.Refuse.{random-over}
