@@ -1,39 +1,30 @@
--- `bdos::uses_fcb` meets its contract: each branch is a range of numbers.
+-- `admission::uses_fcb` meets its contract: each branch is a range of numbers.
 use mathlib.Core.Path.{sym}
 use mathlib.Core.Logic.{inl, inr}
 use native.Mathlib.Omega.{arith}
 use borrow.Author.Needs.{needs}
-use Rattle.bdos.specs.Numbers.{uses-first, uses-second, uses-third, uses-none}
-use Rattle.bdos.proofs.uses_fcb.Statement.{statement}
-use Rattle.bdos.proofs.uses_fcb.Tie as tie
-use Rattle.bdos.proofs.uses_fcb.Reads as reads
-use Rattle.bdos.proofs.uses_fcb.Lts as lts
+use Rattle.admission.specs.Numbers.{uses-first, uses-second, uses-third, uses-none}
+use Rattle.admission.proofs.uses_fcb.Statement.{statement}
+use Rattle.admission.proofs.uses_fcb.Tie as tie
 
--- src/lib.rt:11:1
 returns : tie.Need-returns
 returns c = sym (uses-first _ (search needs) (omega arith) (omega arith))
 
--- src/lib.rt:11:1
 returns-2 : tie.Need-returns-2
 returns-2 c = sym (uses-second _ (search needs) (omega arith) (omega arith))
 
--- src/lib.rt:11:1
 returns-3 : tie.Need-returns-3
 returns-3 c = sym (uses-third _ (search needs) (omega arith) (omega arith))
 
--- src/lib.rt:11:1
 returns-4 : tie.Need-returns-4
 returns-4 c = sym (uses-none _ (search needs) (inl (omega arith)) (inl (omega arith)) (inl (omega arith)))
 
--- src/lib.rt:11:1
 returns-5 : tie.Need-returns-5
 returns-5 c = sym (uses-none _ (search needs) (inr (omega arith)) (inl (omega arith)) (inl (omega arith)))
 
--- src/lib.rt:11:1
 returns-6 : tie.Need-returns-6
 returns-6 c = sym (uses-none _ (search needs) (inr (omega arith)) (inr (omega arith)) (inl (omega arith)))
 
--- src/lib.rt:11:1
 returns-7 : tie.Need-returns-7
 returns-7 c = sym (uses-none _ (search needs) (inr (omega arith)) (inr (omega arith)) (inr (omega arith)))
 

@@ -1,41 +1,30 @@
--- `bdos::is_listed` meets its contract: one branch a number.
+-- `admission::is_listed` meets its contract: one branch a number.
 use mathlib.Core.Path.{sym, ap, _∙_}
-use borrow.Author.Tests.{not-true}
 use Rattle.model.specs.Table.{isListed}
 use Rattle.table.specs.Own.{listed-call, call13, call18, call32, call46}
-use Rattle.bdos.specs.Numbers.{listed-fcb, listed-last}
+use Rattle.admission.specs.Numbers.{listed-fcb, listed-last}
 use borrow.Author.Needs.{needs}
-use Rattle.bdos.proofs.is_listed.Statement.{statement}
-use Rattle.bdos.proofs.is_listed.Tie as tie
-use Rattle.bdos.proofs.is_listed.Reads as reads
-use Rattle.bdos.proofs.is_listed.Lts as lts
-use Rattle.bdos.proofs.uses_fcb.Reads as uses-fcb-reads
+use Rattle.admission.proofs.is_listed.Statement.{statement}
+use Rattle.admission.proofs.is_listed.Tie as tie
 
--- src/lib.rt:24:8
 uses-fcb-requires : tie.Need-uses-fcb-requires
 uses-fcb-requires c κs = search needs
 
--- src/lib.rt:25:9
 returns : tie.Need-returns
 returns c = sym (listed-fcb _ (sym (c .before .uses-fcb .ensures) ∙ c .if1 .taken))
 
--- src/lib.rt:28:9
 returns-2 : tie.Need-returns-2
 returns-2 c = sym (ap isListed (c .if2 .taken) ∙ listed-call call13)
 
--- src/lib.rt:31:9
 returns-3 : tie.Need-returns-3
 returns-3 c = sym (ap isListed (c .if3 .taken) ∙ listed-call call18)
 
--- src/lib.rt:34:9
 returns-4 : tie.Need-returns-4
 returns-4 c = sym (ap isListed (c .if4 .taken) ∙ listed-call call32)
 
--- src/lib.rt:37:9
 returns-5 : tie.Need-returns-5
 returns-5 c = sym (ap isListed (c .if5 .taken) ∙ listed-call call46)
 
--- src/lib.rt:21:1
 returns-6 : tie.Need-returns-6
 returns-6 c =
     let u = c .before .before .before .before in

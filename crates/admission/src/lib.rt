@@ -18,7 +18,7 @@ fn uses_fcb(number: u8) -> bool
 }
 
 // Whether there is a call of this number.
-fn is_listed(number: u8) -> bool
+pub fn is_listed(number: u8) -> bool
     ensures { λ r. ⌜ r ≡ isListed number ⌝ }
 {
     if uses_fcb(number) {
@@ -56,7 +56,7 @@ fn lengths_right(image: &[u8], map: &[u16], fcb: &[u8], buffer: &[u8]) -> bool
 }
 
 // Whether lengths, the session's user and place, and byte 0 of an FCB that is used are in range.
-fn parameters_right(
+pub fn parameters_right(
     number: u8,
     image: &[u8],
     map: &[u16],
