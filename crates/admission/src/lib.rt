@@ -1,4 +1,4 @@
-// The entry point: the rows of the table that stand before every call, then the call's own function.
+// What every call is asked for first: a number that is listed, and lengths and parameters in range.
 ghost use mathlib.Core.Path.{_≡_};
 ghost use Prim.Native.Nat.{_≤_};
 ghost use lib.ListN.{length};
