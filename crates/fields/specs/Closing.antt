@@ -2,27 +2,28 @@
 use mathlib.Core.Path.{_≡_, refl, ap, sym, _∙_}
 use mathlib.Core.Logic.{_⊎_, inl, inr}
 use mathlib.Core.Bool.{Bool, true, false, cond, not}
-use Prim.Native.Nat.{ℕ, zero, suc, _+_, _≤_, _<_}
+use Prim.Native.Nat.{ℕ, zero, suc, _+_, _≤_, _<_, max}
 use native.Mathlib.Omega.{arith}
 use lib.Dec.{eqb}
 use lib.ListN.{length, getD, set, length-set}
 use lib.Seq.{getD-set-same, getD-set-other, ext-getD}
 use borrow.Author.Tests.{eqb-true, eqb-false, eq-eqb, ne-eqb, ltb-true, ltb-false, not-true}
 use Rattle.lists.specs.Cases.{split, bool-cases, eq-or-ne, lt-or-le, not-both}
-use Rattle.lists.specs.Tests.{_and_, _or_, and-left, and-right, and-both, and-then, and-fails-left, and-fails-right, or-left, or-right, or-first, or-neither, or-cases, cond-or}
-use Rattle.lists.specs.Below.{anyBelow, any-at, any-some, any-never, any-empty}
-use Rattle.lists.specs.Splice.{splice, length-splice, getD-splice-in, getD-splice-out}
+use Rattle.lists.specs.Tests.{_and_, _or_, and-left, and-right, and-both, and-then, and-fails-left, and-fails-right, or-neither, or-cases, cond-or}
+use Rattle.lists.specs.Below.{anyBelow, any-at, any-some, any-never}
+use Rattle.lists.specs.Splice.{length-splice, getD-splice-in, getD-splice-out}
 use Rattle.lists.specs.Tab.{length-tab, getD-tab}
 use Rattle.lists.specs.Fold.{foldBelow, fold-keeps}
 use Rattle.format.specs.Diskette.{Bytes, Geometry}
-use Rattle.format.specs.Names.{sevenBits}
-use Rattle.format.specs.Entries.{Rows, userOf, exOf, s2Of, rcOf, slotOf, slotsOf, slotCount, empty, used, readOnly, extentOf, countIn}
-use Rattle.format.specs.SlotLaws.{getD-slotsOf}
+use Rattle.format.specs.Names.{sevenBits, nameRight}
+use Rattle.format.specs.Entries.{Rows, rcOf, slotOf, slotsOf, slotCount, empty, used, readOnly, extentOf, countIn}
+use Rattle.format.specs.SlotLaws.{length-slotsOf, getD-slotsOf}
 use Rattle.format.specs.Notes.{noteAt, withNote, recordedNote}
-use Rattle.format.specs.Fcb.{crOf, randomOf, fcbRight, current}
+use Rattle.format.specs.Fcb.{randomOf, fcbRight, current}
 use Rattle.model.specs.Closing.{takesSlot, mergedSlot, mergedSlots, countsMore, closedCount, closedRow, closeChanges, closedNote, closedMap, closedFcb}
-use Rattle.consistency.specs.Facts.{SameFile}
-use Rattle.fields.specs.Agree.{Agree, SameName, same-file, row-ext, slot-cong, used-cong, empty-cong, readOnly-cong, extent-cong, random-cong, fcbRight-cong, current-cong}
+use Rattle.consistency.specs.Facts.{Numbers, SameFile}
+use Rattle.names.specs.Laws.{right-cong}
+use Rattle.fields.specs.Agree.{Agree, SameName, same-file, same-name, row-ext, slot-cong, used-cong, empty-cong, readOnly-cong, extent-cong, random-cong, fcbRight-cong, current-cong}
 
 -- ---- the slots taken
 pub length-mergedSlots : (es fs : Bytes) → length (mergedSlots es fs) ≡ slotCount
@@ -72,6 +73,13 @@ module _ (row fcb : Bytes) where
   count-closed-fcb =
       split (bool-cases (countsMore row fcb)) (λ t. rw t (omega arith)) (λ f. rw f (omega (arith, ltb-false (rcOf row) (rcOf fcb) f)))
 
+  -- the larger of the two
+  pub count-closed : closedCount row fcb ≡ max (rcOf row) (rcOf fcb)
+  unfolding closedCount countsMore countIn
+  count-closed =
+      split (bool-cases (countsMore row fcb)) (λ t. rw t (omega (arith, ltb-true (rcOf row) (rcOf fcb) t)))
+      (λ f. rw f (omega (arith, ltb-false (rcOf row) (rcOf fcb) f)))
+
   pub count-closed-high : (n : ℕ) → rcOf row ≤ n → rcOf fcb ≤ n → closedCount row fcb ≤ n
   unfolding closedCount
   count-closed-high n a b = split (bool-cases (countsMore row fcb)) (λ t. rw t b) (λ f. rw f a)
@@ -116,6 +124,28 @@ module _ (row fcb : Bytes) (hr : length row ≡ 32) where
   pub slot-closed-new : (j : ℕ) → j < slotCount → slotOf row j ≡ 0 → slotOf (closedRow row fcb) j ≡ slotOf fcb j
   slot-closed-new j h z = slot-closed j h ∙ merged-new row fcb j h z
 
+  -- with an FCB whose slots fit, the entry's slots become the FCB's
+  pub slot-closed-fits : (j : ℕ) → j < slotCount → (slotOf fcb j ≡ slotOf row j) ⊎ (slotOf row j ≡ 0) → slotOf (closedRow row fcb) j ≡ slotOf fcb j
+  slot-closed-fits j h (inr z) = slot-closed-new j h z
+  slot-closed-fits j h (inl q) =
+      split (eq-or-ne (slotOf row j) 0) (λ z. slot-closed-new j h z) (λ n. slot-closed-old j h n ∙ sym q)
+
+  pub slots-closed : slotsOf (closedRow row fcb) ≡ mergedSlots (slotsOf row) (slotsOf fcb)
+  slots-closed =
+      let l : length (slotsOf (closedRow row fcb)) ≡ slotCount = length-slotsOf (closedRow row fcb) (omega (arith, length-closedRow)) in
+      ext-getD 0 (slotsOf (closedRow row fcb)) (mergedSlots (slotsOf row) (slotsOf fcb)) (l ∙ sym (length-mergedSlots (slotsOf row) (slotsOf fcb)))
+      (λ j h. let b : j < slotCount = omega arith in
+      getD-slotsOf (closedRow row fcb) j b ∙ slot-closed j b ∙ sym (getD-mergedSlots (slotsOf row) (slotsOf fcb) j b))
+
+  -- a slot stays, or takes the FCB's block
+  pub slot-closed-cases : (j : ℕ) → j < slotCount
+      → (slotOf (closedRow row fcb) j ≡ slotOf row j)
+      ⊎ ((slotOf row j ≡ 0) × (slotOf fcb j ≡ 0 → ⊥) × (slotOf (closedRow row fcb) j ≡ slotOf fcb j))
+  slot-closed-cases j h =
+      split (eq-or-ne (slotOf row j) 0)
+      (λ z. split (eq-or-ne (slotOf fcb j) 0) (λ y. inl (slot-closed-new j h z ∙ y ∙ sym z)) (λ n. inr (z, n, slot-closed-new j h z)))
+      (λ n. inl (slot-closed-old j h n))
+
   -- an entry of the same file, with the same attributes
   pub file-closed : SameFile (closedRow row fcb) row
   file-closed = same-file (closedRow row fcb) row head-closed
@@ -128,6 +158,21 @@ module _ (row fcb : Bytes) (hr : length row ≡ 32) where
 
   pub readOnly-closed : readOnly (closedRow row fcb) ≡ readOnly row
   readOnly-closed = readOnly-cong (closedRow row fcb) row (head-closed 9 (omega arith) (omega arith))
+
+  pub right-closed : (wild : Bool) → nameRight wild (closedRow row fcb) 1 ≡ nameRight wild row 1
+  right-closed wild = right-cong wild (closedRow row fcb) 1 row 1 (same-name (closedRow row fcb) row file-closed)
+
+  pub numbers-closed : Numbers row → Numbers fcb → Numbers (closedRow row fcb)
+  numbers-closed n m = record {
+    ex = rw (head-closed 12 (omega arith) (omega arith)) (n .ex);
+    s2 = rw (head-closed 14 (omega arith) (omega arith)) (n .s2);
+    rc = rw rc-closed (count-closed-high row fcb 128 (n .rc) (m .rc));
+  }
+
+  -- the records that it counts
+  pub countIn-closed : (ext : ℕ) → countIn (closedRow row fcb) ext ≡ closedCount row fcb
+  unfolding countIn
+  countIn-closed ext = rc-closed
 
 -- ---- a close that changes nothing
 module _ (row fcb : Bytes) (same : closeChanges row fcb ≡ false) where
