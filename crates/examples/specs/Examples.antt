@@ -20,8 +20,8 @@ use Rattle.model.specs.Search.{patternOf, extentHit, hit}
 use Rattle.table.specs.Facts.{Ready}
 use Rattle.examples.specs.Places.{place-a, place-b, place-c, place-d}
 use Rattle.examples.specs.Erased.{Erased, Fitting, SpaceIs, erased-space}
-use Rattle.examples.specs.Random.{RandomIs, Six, Last, random-six, random-last}
 use Rattle.examples.specs.Numbers.{Gives, HasEntry, size-largest, position-256}
+use Rattle.examples.specs.Random.{RandomIs, Six, Last, random-six, random-last}
 use Rattle.examples.specs.Pattern.{AllAny, any-named, any-hit}
 use Rattle.examples.specs.Slots.{withSlot, slot-allowed, slot-refused}
 

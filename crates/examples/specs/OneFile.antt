@@ -23,15 +23,15 @@ use Rattle.consistency.specs.Facts.{Fine, Stands, Consistent}
 use Rattle.consistency.specs.Listed.{somewhere-listed, listed-somewhere}
 use Rattle.consistency.specs.Reflect.{facts-consistent}
 use Rattle.model.specs.declared.Session.{Session}
-use Rattle.model.specs.Entering.{threeBytes}
 use Rattle.model.specs.Lent.{Lent, lend, rowsOf, ended}
+use Rattle.model.specs.Entering.{threeBytes}
 use Rattle.model.specs.Calls.{done, sizeOf, fileSize}
 use Rattle.model.specs.Step.{step}
-use Rattle.table.specs.Total.{ask}
 use Rattle.fields.specs.Size.{size-covers, size-high}
 use Rattle.table.specs.Facts.{Ready}
-use Rattle.examples.specs.Numbers.{size-step, HasEntry, some-entry}
+use Rattle.table.specs.Total.{ask}
 use Rattle.examples.specs.Erased.{Erased, Fitting, SpaceIs, erased-empty, erased-unused, fresh-count, space-is, logged-ready}
+use Rattle.examples.specs.Numbers.{size-step, HasEntry, some-entry}
 
 -- the bytes before the slots
 abbrev fileHead : ℕ → Bytes
