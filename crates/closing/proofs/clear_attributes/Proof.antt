@@ -1,35 +1,27 @@
 -- `closing::clear_attributes` meets its contract: byte 6 is read after byte 5 was set, which is another.
-use Rattle.model.specs.Closing.{closedFcb}
-use lib.Seq.{getD-set-other}
-use native.Mathlib.Omega.{arith}
 use Prim.Native.Nat.{ℕ}
+use native.Mathlib.Omega.{arith}
+use lib.Seq.{getD-set-other}
 use borrow.Author.Needs.{needs}
+use Rattle.model.specs.Closing.{closedFcb}
 use Rattle.closing.proofs.clear_attributes.Statement.{statement}
 use Rattle.closing.proofs.clear_attributes.Tie as tie
-use Rattle.closing.proofs.clear_attributes.Reads as reads
-use Rattle.closing.proofs.clear_attributes.Lts as lts
 
--- src/lib.rt:117:14
 slice-read-fcb : tie.Need-slice-read-fcb
 slice-read-fcb c = search needs
 
--- src/lib.rt:117:5
 slice-write-fcb : tie.Need-slice-write-fcb
 slice-write-fcb c = search needs
 
--- src/lib.rt:118:14
 slice-read-fcb-2 : tie.Need-slice-read-fcb-2
 slice-read-fcb-2 c = search needs
 
--- src/lib.rt:118:5
 slice-write-fcb-2 : tie.Need-slice-write-fcb-2
 slice-write-fcb-2 c = search needs
 
--- src/lib.rt:113:1
 same-length : tie.Need-same-length
 same-length c = search needs
 
--- src/lib.rt:113:1
 returns : tie.Need-returns
 unfolding closedFcb
 returns c = rw (getD-set-other {A = ℕ} _ 5 6 _ 0 (λ z. omega arith))

@@ -1,53 +1,48 @@
+-- `closing::close_entry` meets its contract: the row is taken before the image is changed.
 use borrow.Author.Needs.{needs}
+use Rattle.format.specs.Diskette.{eightInch}
+use Rattle.closing.specs.Laws.{closed-image, closed-map}
 use Rattle.closing.proofs.close_entry.Statement.{statement}
 use Rattle.closing.proofs.close_entry.Tie as tie
-use Rattle.closing.proofs.close_entry.Reads as reads
-use Rattle.closing.proofs.close_entry.Lts as lts
-use Rattle.closing.proofs.closed_row.Reads as closed-row-reads
-use Rattle.closing.proofs.record_blocks.Reads as record-blocks-reads
-use Rattle.rows.proofs.copy_row.Reads as copy-row-reads
-use Rattle.rows.proofs.slots.Reads as slots-reads
-use Rattle.rows.proofs.store_row.Reads as store-row-reads
 
--- src/lib.rt:107:15
 copy-row-requires : tie.Need-copy-row-requires
 copy-row-requires c κs = search needs
 
--- src/lib.rt:108:36
 slice-aggregate-slots : tie.Need-slice-aggregate-slots
 slice-aggregate-slots c = search needs
 
--- src/lib.rt:108:24
 slots-requires : tie.Need-slots-requires
 slots-requires c κs = search needs
 
--- src/lib.rt:108:43
 slots-requires-2 : tie.Need-slots-requires-2
 slots-requires-2 c κs = search needs
 
--- src/lib.rt:108:5
 record-blocks-requires : tie.Need-record-blocks-requires
 record-blocks-requires c κs = search needs
 
--- src/lib.rt:109:31
 closed-row-requires : tie.Need-closed-row-requires
 closed-row-requires c κs = search needs
 
--- src/lib.rt:109:5
 store-row-requires : tie.Need-store-row-requires
 store-row-requires c κs = search needs
 
--- src/lib.rt:102:1
 same-length : tie.Need-same-length
 same-length c = search needs
 
--- src/lib.rt:102:1
 same-length-2 : tie.Need-same-length-2
 same-length-2 c = search needs
 
--- src/lib.rt:102:1
 returns : tie.Need-returns
-returns c = ?
+returns c =
+    let a = c .before .before .before .before .before .before .before .before .before .before .before .before .before .before .before .before .before .args in
+    let row = c .before .before .before .before .before .before .before .before .before .before .before .before .copy-row in
+    let es = c .before .before .before .before .before .before .before .before .before .slots in
+    let fs = c .before .before .before .before .before .before .before .before .slots2 in (
+      closed-image eightInch (a .image .now) (a .fcb .now) (row .result) (c .before .before .before .closed-row .result) (c .before .before .store-row .last .0) (a .e)
+          (row .ensures) (c .before .before .before .closed-row .ensures) (c .before .before .store-row .ensures),
+      closed-map eightInch (a .image .now) (a .fcb .now) (row .result) (es .result) (fs .result) (a .map .now) (c .before .before .before .before .before .before .before .record-blocks .last .0) (a .e)
+          (row .ensures) (es .ensures) (fs .ensures) (c .before .before .before .before .before .before .before .record-blocks .ensures),
+    )
 
 pub close-entry-spec : {M : Type 1} → statement M
 close-entry-spec =

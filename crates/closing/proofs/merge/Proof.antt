@@ -1,17 +1,14 @@
 -- `closing::merge` meets its contract. The invariant: the slots below j are the merged ones.
-use Rattle.model.specs.Closing.{mergedSlot, mergedSlots}
-use Rattle.format.specs.Entries.{slotCount}
-use Rattle.lists.specs.Tab.{Filled, filled-none, filled-more, filled-all}
-use lib.ListN.{length, length-set}
-use Prim.Native.Nat.{_-_, _≤_}
 use mathlib.Core.Path.{_≡_, refl}
-use borrow.Author.Needs.{needs}
+use Prim.Native.Nat.{_-_, _≤_}
 use native.Mathlib.Omega.{arith}
+use lib.ListN.{length, length-set}
+use borrow.Author.Needs.{needs}
+use Rattle.lists.specs.Tab.{Filled, filled-none, filled-more, filled-all}
+use Rattle.format.specs.Entries.{slotCount}
+use Rattle.model.specs.Closing.{mergedSlot, mergedSlots}
 use Rattle.closing.proofs.merge.Statement.{statement}
 use Rattle.closing.proofs.merge.Tie as tie
-use Rattle.closing.proofs.merge.Reads as reads
-use Rattle.closing.proofs.merge.Lts as lts
-use Rattle.closing.proofs.merged_slot.Reads as merged-slot-reads
 
 abbrev Inv-loop : tie.InvT-loop
 Inv-loop es fs r₀ j₀ r j = Filled (mergedSlot es fs) r₀ j r × (j ≤ slotCount) × (length r ≡ slotCount)
@@ -19,33 +16,26 @@ Inv-loop es fs r₀ j₀ r j = Filled (mergedSlot es fs) r₀ j r × (j ≤ slot
 abbrev μ-loop : tie.MeasureT-loop
 μ-loop es fs r₀ j₀ r j = slotCount - j
 
--- src/lib.rt:46:5
 loop-holds : tie.Need-loop-holds Inv-loop μ-loop
 loop-holds c = (filled-none _ _, omega arith, refl)
 
--- src/lib.rt:47:16
 merged-slot-requires : tie.Need-merged-slot-requires Inv-loop μ-loop
 merged-slot-requires c κs = search needs
 
--- src/lib.rt:47:9
 array-write-r : tie.Need-array-write-r Inv-loop μ-loop
 array-write-r c = omega arith
 
--- src/lib.rt:48:9
 add-j : tie.Need-add-j Inv-loop μ-loop
 add-j c = omega arith
 
--- src/lib.rt:46:5
 loop-less : tie.Need-loop-less Inv-loop μ-loop
 loop-less c = omega arith
 
--- src/lib.rt:46:5
 loop-again : tie.Need-loop-again Inv-loop μ-loop
 loop-again c =
     let l = c .before .before .loop in
     (filled-more _ _ (l .j) (l .r) (c .merged-slot .result) (omega arith) (c .merged-slot .ensures) (l .inv .0), omega arith, simp length-set (l .inv .2))
 
--- src/lib.rt:41:1
 returns : tie.Need-returns Inv-loop μ-loop
 unfolding mergedSlots
 returns c = let l = c .before .loop in filled-all _ _ slotCount (l .j) (l .r) refl (omega arith) (l .inv .0)

@@ -1,48 +1,35 @@
 -- `closing::record_block` meets its contract: a number past the last block changes no note.
-use Rattle.notes.specs.Changes.{note-out}
-use Rattle.model.specs.Closing.{closedNote}
-use Rattle.format.specs.Notes.{recordedNote, withNote}
-use borrow.Author.Tests.{not-true, not-false}
-use lib.ListN.{getD}
+use mathlib.Core.Path.{sym, ap, _∙_}
 use Prim.Native.Nat.{ℕ}
-use mathlib.Core.Path.{_≡_, sym, ap, _∙_}
-use mathlib.Core.Bool.{true, false}
 use native.Mathlib.Omega.{arith}
+use lib.ListN.{getD}
+use borrow.Author.Tests.{not-true, not-false}
 use borrow.Author.Needs.{needs}
+use Rattle.format.specs.Notes.{recordedNote, withNote}
+use Rattle.model.specs.Closing.{closedNote}
+use Rattle.notes.specs.Changes.{note-out}
 use Rattle.closing.proofs.record_block.Statement.{statement}
 use Rattle.closing.proofs.record_block.Tie as tie
-use Rattle.closing.proofs.record_block.Reads as reads
-use Rattle.closing.proofs.record_block.Lts as lts
-use Rattle.closing.proofs.takes_slot.Reads as takes-slot-reads
-use Rattle.lists.proofs.wide.Reads as wide-reads
-use Rattle.notes.proofs.set_note.Reads as set-note-reads
 
--- src/lib.rt:81:9
 takes-slot-requires : tie.Need-takes-slot-requires
 takes-slot-requires c κs = search needs
 
--- src/lib.rt:82:9
 returns : tie.Need-returns
 unfolding closedNote
 returns c = let t = sym (c .before .takes-slot .ensures) ∙ not-true _ (c .if1 .taken) in rw t
 
--- src/lib.rt:84:25
 array-read-wide : tie.Need-array-read-wide
 array-read-wide c = search needs
 
--- src/lib.rt:84:9
 wide-requires : tie.Need-wide-requires
 wide-requires c κs = search needs
 
--- src/lib.rt:86:9
 set-note-requires : tie.Need-set-note-requires
 set-note-requires c κs = search needs
 
--- src/lib.rt:77:1
 same-length : tie.Need-same-length
 same-length c = search needs
 
--- src/lib.rt:77:1
 returns-2 : tie.Need-returns-2
 unfolding closedNote
 returns-2 c =
@@ -50,7 +37,6 @@ returns-2 c =
     let t = sym (c .before .before .before .before .before .before .before .takes-slot .ensures) ∙ not-false _ (c .before .before .before .before .before .before .if1 .left) in
     rw t (c .before .before .set-note .ensures ∙ ap (λ (b : ℕ). withNote (a .map .now) b recordedNote) (c .before .before .before .before .before .wide .ensures .0))
 
--- src/lib.rt:77:1
 returns-3 : tie.Need-returns-3
 unfolding closedNote
 returns-3 c =
