@@ -1,13 +1,12 @@
 -- What calls 17 and 18 share: the search from a place on, which is over or finds a match. And the first entry that a pattern hits.
 use mathlib.Core.Path.{_≡_, refl, sym, ap, _∙_}
 use mathlib.Core.Bool.{Bool, true, false, cond, not}
-use Prim.Native.Nat.{ℕ, _+_, _/_, _≤_, _<_}
-use native.Mathlib.Omega.{arith}
+use Prim.Native.Nat.{ℕ, _+_, _/_}
 use lib.Dec.{eqb, leb, ltb}
 use lib.ListN.{getD}
 use borrow.Author.Tests.{eq-eqb, ne-eqb, le-ltb, lt-ltb, le-leb, lt-leb}
 use Rattle.lists.specs.Cases.{split, bool-cases, lt-or-le}
-use Rattle.lists.specs.Tests.{_and_, _or_, and-then, and-first, and-both, and-left, and-right, and-fails-left, and-fails-right, or-cases, or-neither}
+use Rattle.lists.specs.Tests.{_and_, _or_, and-then, and-first, and-left, and-right}
 use Rattle.format.specs.Diskette.{Bytes, Geometry, recordAt}
 use Rattle.format.specs.Names.{nameLike, nameRight}
 use Rattle.format.specs.Entries.{Rows, userOf, exOf, named, entriesPerRecord}
@@ -18,11 +17,11 @@ use Rattle.format.specs.declared.Found.the-variants.{At, Nothing}
 use Rattle.model.specs.declared.Session.{Session}
 use Rattle.model.specs.declared.Answer.{Answer}
 use Rattle.model.specs.declared.Code.the-variants.{Accepted, Failed, BadName, SearchOver}
-use Rattle.model.specs.Lent.{Lent, Outcome, lend, rowsOf, outcome, answerOf, ended, searching, searchOn}
+use Rattle.model.specs.Lent.{Lent, Outcome, rowsOf, outcome, answerOf, ended, searching, searchOn}
 use Rattle.model.specs.Search.{patternOf, extentHit, hit, findHit}
 use Rattle.model.specs.Calls.{entryNumber, foundAt, searched}
 use Rattle.model.specs.Step.{refused}
-use Rattle.table.specs.First.{_&_, here, later}
+use Rattle.table.specs.First.{_&_, Decides, here, later}
 use Rattle.table.specs.Own.{call17, call18, ownRows}
 use Rattle.table.specs.OwnStep.{ownStep, own-refused, own-carried}
 
@@ -69,26 +68,28 @@ module _ (G : Geometry) (s : Session) (l : Lent) where
   unfolding searchedFrom
   from-missing pattern place f = rw f
 
-  -- nothing matches
-  pub searched-over : (pattern : Bytes) (place : ℕ) → findHit G (rowsOf G l) (s .user) pattern place ≡ Nothing
-      → refused SearchOver s l ≡ searchedFrom pattern place
-  searched-over pattern place q = from-missing pattern place (ap isFound q)
+  -- nothing matches: an answer that changed nothing
+  pub answers-over : (pattern : Bytes) (place : ℕ) (r : Answer) → findHit G (rowsOf G l) (s .user) pattern place ≡ Nothing
+      → r ≡ answerOf SearchOver (ended s) → outcome r (l .image) (l .map) (l .fcb) (l .buffer) ≡ searchedFrom pattern place
+  answers-over pattern place r q a =
+      ap (λ (x : Answer). outcome x (l .image) (l .map) (l .fcb) (l .buffer)) a ∙ from-missing pattern place (ap isFound q)
 
-  -- the match at e
-  pub searched-at : (pattern : Bytes) (place e : ℕ) → findHit G (rowsOf G l) (s .user) pattern place ≡ At e
-      → foundAt G s l pattern e ≡ searchedFrom pattern place
-  unfolding searched
-  searched-at pattern place e q =
-      ap (λ (f : Found). foundAt G s l pattern (numberOf (G .entries) f)) (sym q) ∙ from-found pattern place (ap isFound q)
+  -- the match at e, answered
+  pub answers-found : (pattern : Bytes) (place e : ℕ) (r : Answer) (after : Session) (buffer : Bytes)
+      → findHit G (rowsOf G l) (s .user) pattern place ≡ At e
+      → r ≡ answerOf (Accepted (entryNumber e)) after → after ≡ searching s pattern (e + 1) → buffer ≡ recordAt G (l .image) (e / entriesPerRecord)
+      → outcome r (l .image) (l .map) (l .fcb) buffer ≡ searchedFrom pattern place
+  unfolding searched foundAt
+  answers-found pattern place e r after buffer q a n b =
+      rw (a, n, b) (ap (λ (f : Found). foundAt G s l pattern (numberOf (G .entries) f)) (sym q) ∙ from-found pattern place (ap isFound q))
 
   -- ---- 17
-  pub first-refused : (argument : ℕ) → patternRight (l .fcb) ≡ false → refused BadName s l ≡ ownStep G argument l s call17
+  pub first-refused : (argument : ℕ) → patternRight (l .fcb) ≡ false → Decides BadName (ownRows G argument l s call17)
   unfolding patternRight
   first-refused argument h =
-      sym (own-refused G argument l s call17 BadName
-      (split (bool-cases (nameRight true (l .fcb) 1))
+      split (bool-cases (nameRight true (l .fcb) 1))
       (λ t. later (ap not t) (here (byte-asked (exOf (l .fcb)) ∙ ap not (sym (and-then _ _ t) ∙ h)) refl))
-      (λ f. here (ap not f) refl)))
+      (λ f. here (ap not f) refl)
 
   pub first-searched : (argument : ℕ) → patternRight (l .fcb) ≡ true → searchedFrom (patternOf (l .fcb)) 0 ≡ ownStep G argument l s call17
   unfolding patternRight
@@ -100,10 +101,8 @@ module _ (G : Geometry) (s : Session) (l : Lent) where
       (λ f. own-refused G argument l s call17 SearchOver (later n (later x (here (ap not f) refl))) ∙ from-missing (patternOf (l .fcb)) 0 f))
 
   -- ---- 18
-  pub next-refused : (argument : ℕ) → s .on ≡ 0 → refused Failed s l ≡ ownStep G argument l s call18
-  next-refused argument h =
-      let o : searchOn s ≡ false = rw h in
-      sym (own-refused G argument l s call18 Failed (here (ap not o) refl))
+  pub next-refused : (argument : ℕ) → s .on ≡ 0 → Decides Failed (ownRows G argument l s call18)
+  next-refused argument h = let o : searchOn s ≡ false = rw h in here (ap not o) refl
 
   pub next-searched : (argument : ℕ) → (s .on ≡ 0 → ⊥) → searchedFrom (s .pattern) (s .place) ≡ ownStep G argument l s call18
   next-searched argument h =

@@ -63,7 +63,13 @@ pub fn find_hit(image: &[u8], user: u8, pattern: &[u8], from: usize) -> Found
 
 // The search from a place on: a hit's directory record goes into the buffer, and the search goes on one past it; without a hit it is
 // over.
-fn search_on(image: &[u8], pattern: [u8; 12], from: usize, buffer: &mut [u8], session: Session) -> Answer
+fn search_on(
+    image: &[u8],
+    pattern: [u8; 12],
+    from: usize,
+    buffer: &mut [u8],
+    session: Session,
+) -> Answer
     requires { ⌜ (length (now image) ≡ imageBytes eightInch) × (length (now buffer) ≡ recordBytes) ⌝ }
     ensures { λ r. ⌜ ((map fcb : Bytes) → outcome r (now (image .entry)) map fcb (now (buffer .exit))
         ≡ searchedFrom eightInch session (lend (now (image .entry)) map fcb (now (buffer .entry))) pattern from) ⌝ }

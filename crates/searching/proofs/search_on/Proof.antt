@@ -1,69 +1,78 @@
+-- Each way out is one case of the definition: the search is over, or e is the first entry that the pattern hits, and a number of an entry.
+use mathlib.Core.Path.{_≡_, sym, _∙_}
+use Prim.Native.Nat.{_<_}
+use native.Mathlib.Omega.{arith}
+use Rattle.format.specs.Diskette.{eightInch}
+use Rattle.format.specs.Entries.{entryAt}
+use Rattle.format.specs.declared.Found.the-variants.{At}
+use Rattle.model.specs.Lent.{lend}
+use Rattle.model.specs.Search.{findHit}
+use Rattle.searching.specs.Searches.{hit-says, answers-over, answers-found}
 use borrow.Author.Needs.{needs}
 use Rattle.searching.proofs.search_on.Statement.{statement}
 use Rattle.searching.proofs.search_on.Tie as tie
-use Rattle.searching.proofs.search_on.Reads as reads
-use Rattle.searching.proofs.search_on.Lts as lts
-use Rattle.answers.proofs.answer.Reads as answer-reads
-use Rattle.answers.proofs.refuse.Reads as refuse-reads
-use Rattle.answers.proofs.search_from.Reads as search-from-reads
-use Rattle.disk.proofs.read_record.Reads as read-record-reads
-use Rattle.searching.proofs.find_hit.Reads as find-hit-reads
 
--- src/lib.rt:72:46
 slice-aggregate-find-hit : tie.Need-slice-aggregate-find-hit
 slice-aggregate-find-hit c = search needs
 
--- src/lib.rt:72:24
 find-hit-requires : tie.Need-find-hit-requires
 find-hit-requires c κs = search needs
 
--- src/lib.rt:72:19
 enum-known-e : tie.Need-enum-known-e
 enum-known-e c = search needs
 
--- src/lib.rt:73:32
 enum-told : tie.Need-enum-told
 enum-told c = search needs
 
--- src/lib.rt:73:9
 refuse-requires : tie.Need-refuse-requires
 refuse-requires c κs = search needs
 
--- src/lib.rt:73:9
 returns : tie.Need-returns
-returns c = ?
+returns c =
+    let a = c .before .before .before .before .before .before .before .args in
+    λ map fcb. answers-over eightInch (a .session) (lend (a .image .now) map fcb (a .buffer .now)) (a .t2) (a .from) (c .refuse .result)
+    (sym (c .before .before .before .find-hit .ensures) ∙ c .before .enum-told .given .1) (c .refuse .ensures)
 
--- src/lib.rt:75:5
+-- the look-up has answered e
+known : (c : tie.After-known-told) →
+    let a = c .before .before .before .before .before .before .before .args in
+    findHit eightInch (entryAt eightInch (a .image .now)) (a .session .user) (a .t2) (a .from) ≡ At (c .before .e .given .0 .0)
+known c = sym (c .before .before .before .find-hit .ensures) ∙ c .before .e .given .1
+
+-- so e is a number of an entry
+low : (c : tie.After-known-told) → c .before .e .given .0 .0 < eightInch .entries
+low c =
+    let a = c .before .before .before .before .before .before .before .args in
+    hit-says eightInch (entryAt eightInch (a .image .now)) (a .session .user) (a .t2) (a .from) (c .before .e .given .0 .0) (known c) .below
+
 read-record-requires : tie.Need-read-record-requires
-read-record-requires c κs = ?
+read-record-requires c κs = let h = low (c .before) in search needs
 
--- src/lib.rt:76:56
 add-search-from : tie.Need-add-search-from
-add-search-from c = ?
+add-search-from c = let h = low (c .before .before .before .before) in omega arith
 
--- src/lib.rt:76:55
 cast-search-from : tie.Need-cast-search-from
-cast-search-from c = ?
+cast-search-from c = let h = low (c .before .before .before .before) in omega arith
 
--- src/lib.rt:76:9
 search-from-requires : tie.Need-search-from-requires
 search-from-requires c κs = search needs
 
--- src/lib.rt:77:36
 cast-t20 : tie.Need-cast-t20
 cast-t20 c = search needs
 
--- src/lib.rt:77:5
 answer-requires : tie.Need-answer-requires
 answer-requires c κs = search needs
 
--- src/lib.rt:66:1
 same-length : tie.Need-same-length
 same-length c = search needs
 
--- src/lib.rt:66:1
 returns-2 : tie.Need-returns-2
-returns-2 c = ?
+returns-2 c =
+    let k = c .before .before .before .before .before .before in
+    let a = k .before .before .before .before .before .before .before .args in
+    λ map fcb. answers-found eightInch (a .session) (lend (a .image .now) map fcb (a .buffer .now)) (a .t2) (a .from)
+    (k .before .e .given .0 .0) (c .answer .result) (c .before .search-from .result) (c .before .before .before .before .read-record .last .1 .1 .0)
+    (known k) (c .answer .ensures) (c .before .search-from .ensures) (c .before .before .before .before .read-record .ensures)
 
 pub search-on-spec : {M : Type 1} → statement M
 search-on-spec =
