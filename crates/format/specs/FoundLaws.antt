@@ -1,12 +1,12 @@
 -- The answer of a look-up: what it is, what it says, and the turns of the loop that makes it.
-use mathlib.Core.Path.{_≡_, refl, sym, _∙_}
+use mathlib.Core.Path.{_≡_, refl, sym, ap, _∙_}
 use mathlib.Core.Bool.{Bool, true, false}
 use Prim.Native.Nat.{ℕ, _≤_, _<_}
 use native.Mathlib.Omega.{arith}
 use borrow.Author.Tests.{lt-ltb, le-ltb}
-use Rattle.lists.specs.Cases.{split, lt-or-le}
+use Rattle.lists.specs.Cases.{split, clash, lt-or-le}
 use Rattle.lists.specs.Below.{firstIn, first-hit, first-end, first-low, first-holds, first-before, first-is, first-none}
-use Rattle.format.specs.Found.{foundBelow, numberOf}
+use Rattle.format.specs.Found.{foundBelow, numberOf, isFound}
 use Rattle.format.specs.declared.Found.{Found}
 use Rattle.format.specs.declared.Found.the-variants.{At, Nothing}
 
@@ -21,6 +21,22 @@ at-once k e q = cc
 pub found-cases : {A : Type 0} (f : Found) → ((k : ℕ) → f ≡ At k → A) → (f ≡ Nothing → A) → A
 found-cases (At k) a b = a k refl
 found-cases Nothing a b = b refl
+
+-- an answer that has found something, and one that has not
+pub record FoundAt (r : Found) : Type 0 where
+  pub place : ℕ
+  pub is : r ≡ At place
+
+pub is-found : (r : Found) → isFound r ≡ true → FoundAt r
+is-found (At k) h = record { place = k; is = refl }
+is-found Nothing h = clash (sym h)
+
+pub found-so : (r : Found) → FoundAt r → isFound r ≡ true
+found-so r f = ap isFound (f .is)
+
+pub not-found : (r : Found) → isFound r ≡ false → r ≡ Nothing
+not-found (At k) h = clash h
+not-found Nothing h = refl
 
 -- ---- a number among n
 pub found-at : (n k : ℕ) → k < n → foundBelow n k ≡ At k
@@ -83,3 +99,29 @@ module _ (p : ℕ → Bool) (i n : ℕ) where
 
   pub look-end : (e : ℕ) → firstIn p e n ≡ firstIn p i n → n ≤ e → Nothing ≡ foundBelow n (firstIn p i n)
   look-end e q h = sym (rw (← q, first-end p e n h) (found-nothing n e h))
+
+-- ---- older names, until their users are renamed
+pub at-nothing : {A : Type 0} (k : ℕ) → At k ≡ Nothing → A
+at-nothing k q = absurd (at-not-nothing k q)
+
+pub at-same : (k m : ℕ) → At k ≡ At m → k ≡ m
+at-same k m q = at-once k m q
+
+module _ (p : ℕ → Bool) (i n : ℕ) where
+  pub record First (k : ℕ) : Type 0 where
+    pub from : i ≤ k
+    pub below : k < n
+    pub holds : p k ≡ true
+    pub before : (j : ℕ) → i ≤ j → j < k → p j ≡ false
+
+  pub found-first : (k : ℕ) → foundBelow n (firstIn p i n) ≡ At k → First k
+  found-first k q = let f = first-says p i n k q in record { from = f .low; below = f .below; holds = f .holds; before = f .before }
+
+  pub first-found : (k : ℕ) → First k → foundBelow n (firstIn p i n) ≡ At k
+  first-found k f = first-is-at p i n k (record { low = f .from; below = f .below; holds = f .holds; before = f .before })
+
+  pub found-none : foundBelow n (firstIn p i n) ≡ Nothing → (j : ℕ) → i ≤ j → j < n → p j ≡ false
+  found-none q j a b = none-says p i n q j a b
+
+  pub none-found : i ≤ n → ((j : ℕ) → i ≤ j → j < n → p j ≡ false) → foundBelow n (firstIn p i n) ≡ Nothing
+  none-found h f = none-is p i n f

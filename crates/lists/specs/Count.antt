@@ -1,7 +1,7 @@
 -- How many numbers below a bound pass a test.
 use mathlib.Core.Path.{_≡_, refl, ap, sym}
 use mathlib.Core.Bool.{Bool, true, false, not, cond}
-use Prim.Native.Nat.{ℕ, zero, suc, _+_, _≤_, _<_}
+use Prim.Native.Nat.{ℕ, zero, suc, _+_, _-_, _≤_, _<_}
 use native.Mathlib.Numerals.{add-one}
 use native.Mathlib.Omega.{arith}
 use borrow.Author.Tests.{not-false}
@@ -62,3 +62,12 @@ count-all p n z = all-intro p n (λ k h. not-false _ (count-zero (λ (k : ℕ). 
 
 pub count-fails : (p : ℕ → Bool) (n : ℕ) → (countBelow (λ (k : ℕ). not (p k)) n ≡ 0 → ⊥) → allBelow p n ≡ false
 count-fails p n f = sym (refute _ (λ t. f (count-empty (λ (k : ℕ). not (p k)) n (λ k h. ap not (all-at p n t k h)))))
+
+-- just the numbers from a on pass
+pub count-from : (p : ℕ → Bool) (a n : ℕ) → a ≤ n → ((k : ℕ) → k < a → p k ≡ false) → ((k : ℕ) → a ≤ k → k < n → p k ≡ true) → countBelow p n ≡ n - a
+unfolding countBelow
+count-from p a zero h f g = omega arith
+count-from p a (suc n) h f g =
+    split (lt-or-le n a)
+    (λ l. rw (count-empty p n (λ k b. f k (omega arith)), f n l) (omega arith))
+    (λ l. rw (count-from p a n l f (λ k b c. g k b (omega arith)), g n l (omega arith)) (omega arith))

@@ -1,0 +1,12 @@
+pub mod Agree
+pub mod Closing
+pub mod Images
+pub mod Entering
+pub mod Making
+pub mod Fine
+pub mod Numbers
+pub mod Target
+pub mod Search
+pub mod Size
+pub mod Changing
+pub mod Naming

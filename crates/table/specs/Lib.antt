@@ -1,0 +1,11 @@
+pub mod First
+pub mod Own
+pub mod Present
+pub mod Facts
+pub mod Reflect
+pub mod Accept
+pub mod Refuse
+pub mod Carried
+pub mod Total
+pub mod Plans
+pub mod OwnStep
