@@ -6,7 +6,7 @@ use Prim.Native.Nat.{ℕ, _+_, _-_, _≤_, _<_}
 use native.Mathlib.Nat.{zero-add}
 use native.Mathlib.Numerals.{add-one}
 use native.Mathlib.Omega.{arith}
-use lib.ListN.{set, length, take, drop, getD, length-append, length-take, length-drop, List·getD-append}
+use lib.ListN.{set, length, take, drop, getD, length-append, length-take, length-drop, List·getD-append, replicate, length-replicate, getD-replicate}
 use lib.Seq.{drop-length, paste, paste-suc, take-length, length-take-le, getD-take, getD-drop, getD-append-add, take-at, drop-at, ext-getD}
 use Rattle.lists.specs.Cases.{split}
 
@@ -106,3 +106,40 @@ splice-part src dst out at e room he h =
     let n : e - at ≡ length dst = omega arith in
     let l : length dst ≡ length (take (length dst) (drop at src)) = simp (length-take, length-drop) (omega arith) in
     h ∙ ap (λ (k : ℕ). splice dst 0 (take k (drop at src))) n ∙ splice-whole dst (take (length dst) (drop at src)) l
+
+-- ---- n copies of one value, and the loop that writes them into xs from `at` on
+unfoldable pub copies : ℕ → ℕ → List ℕ
+copies n v = replicate n v
+
+pub length-copies : (n v : ℕ) → length (copies n v) ≡ n
+unfolding copies
+length-copies n v = length-replicate n v
+
+pub getD-copies : (n v i : ℕ) → i < n → getD (copies n v) i 0 ≡ v
+unfolding copies
+getD-copies n v i h = getD-replicate n i v 0 h
+
+pub fill-more : (d l : List ℕ) (at n v i : ℕ) → at + n ≤ length d → i < n → l ≡ paste d at (copies n v) i → set l (at + i) v ≡ paste d at (copies n v) (i + 1)
+fill-more d l at n v i fits h e =
+    let k : length (copies n v) ≡ n = length-copies n v in
+    ap (λ (x : ℕ). set l (at + i) x) (sym (getD-copies n v i h)) ∙ paste-more d l (copies n v) at i (omega arith) (omega arith) e
+
+-- what stands where after it
+module _ (xs : List ℕ) (at n v : ℕ) (fits : at + n ≤ length xs) where
+  room : at + length (copies n v) ≤ length xs
+  room = let k : length (copies n v) ≡ n = length-copies n v in omega arith
+
+  pub length-fill : length (splice xs at (copies n v)) ≡ length xs
+  length-fill = length-splice xs at (copies n v) room
+
+  pub getD-fill-in : (k : ℕ) → at ≤ k → k < at + n → getD (splice xs at (copies n v)) k 0 ≡ v
+  getD-fill-in k l h =
+      let q : k ≡ at + (k - at) = omega arith in
+      let m : length (copies n v) ≡ n = length-copies n v in
+      ap (λ (i : ℕ). getD (splice xs at (copies n v)) i 0) q ∙ getD-splice-in xs at (copies n v) room (k - at) (omega arith)
+      ∙ getD-copies n v (k - at) (omega arith)
+
+  pub getD-fill-out : (k : ℕ) → (k < at) ⊎ (at + n ≤ k) → getD (splice xs at (copies n v)) k 0 ≡ getD xs k 0
+  getD-fill-out k w =
+      let m : length (copies n v) ≡ n = length-copies n v in
+      getD-splice-out xs at (copies n v) room k (split w (λ a. inl a) (λ b. inr (omega arith)))

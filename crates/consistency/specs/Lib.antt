@@ -1,0 +1,4 @@
+pub mod Facts
+pub mod Listed
+pub mod Reflect
+pub mod Slots

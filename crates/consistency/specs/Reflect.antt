@@ -1,0 +1,196 @@
+-- The tests of consistency and the facts imply each other.
+use mathlib.Core.Path.{_≡_, refl, ap, sym, _∙_}
+use mathlib.Core.Bool.{true, false, not}
+use Prim.Native.Nat.{ℕ, _+_, _*_, _/_, _%_, _≤_, _<_}
+use native.Mathlib.Omega.{arith}
+use lib.Dec.{eqb, leb, ltb}
+use borrow.Author.Tests.{leb-true, ltb-true, eqb-true, eqb-false, le-leb, lt-ltb, eq-eqb, ne-eqb, not-true}
+use Rattle.lists.specs.Cases.{split, bool-cases, lt-or-le, eq-or-ne, refute, not-both}
+use Rattle.lists.specs.Tests.{_and_, and-left, and-right, and-both, and-fails-left, or-left, or-right, or-then, or-first, or-cases}
+use Rattle.lists.specs.Below.{allBelow, all-at, all-intro, any-never, any-empty}
+use Rattle.lists.specs.Seen.{taken}
+use Rattle.format.specs.Diskette.{Bytes, Geometry}
+use Rattle.format.specs.Entries.{Rows, slotCount, userOf, slotOf, empty, used, named, isFile, covers}
+use Rattle.format.specs.Consistent.{numbersRight, slotRight, slotsRight, entryRight, slotsInAll, listed, listedOnce, sameFile, alone, consistentRows}
+use Rattle.names.specs.Laws.{like-sym}
+use Rattle.consistency.specs.Facts.{Numbers, Fine, Stands, SameFile, Consistent}
+use Rattle.consistency.specs.Listed.{stands-at, stands-place, stands-listed}
+
+-- ---- an entry
+pub used-low : (r : Bytes) → used r ≡ true → userOf r ≤ 15
+unfolding used
+used-low r u = leb-true _ _ u
+
+pub low-used : (r : Bytes) → userOf r ≤ 15 → used r ≡ true
+unfolding used
+low-used r h = le-leb _ _ h
+
+-- a used entry is not empty
+pub used-full : (r : Bytes) → used r ≡ true → empty r ≡ false
+unfolding empty
+used-full r u = let h : userOf r ≤ 15 = used-low r u in ne-eqb (userOf r) 229 (λ q. omega arith)
+
+pub numbers-elim : (r : Bytes) → numbersRight r ≡ true → Numbers r
+unfolding numbersRight
+numbers-elim r h = record {
+  ex = leb-true _ _ (and-left _ _ h);
+  s2 = leb-true _ _ (and-left _ _ (and-right _ _ h));
+  rc = leb-true _ _ (and-right _ _ (and-right _ _ h));
+}
+
+pub numbers-intro : (r : Bytes) → Numbers r → numbersRight r ≡ true
+unfolding numbersRight
+numbers-intro r n = and-both _ _ (le-leb _ _ (n .ex)) (and-both _ _ (le-leb _ _ (n .s2)) (le-leb _ _ (n .rc)))
+
+module _ (G : Geometry) where
+  -- a slot that is right and is not 0 holds the number of a block past the directory
+  pub slot-inside : (b : ℕ) → slotRight G b ≡ true → (b ≡ 0 → ⊥) → (leb (G .area) b and ltb b (G .blocks)) ≡ true
+  unfolding slotRight
+  slot-inside b h r = sym (or-then _ _ (ne-eqb _ _ r)) ∙ h
+
+  pub slot-low : (b : ℕ) → slotRight G b ≡ true → (b ≡ 0 → ⊥) → G .area ≤ b
+  slot-low b h r = leb-true _ _ (and-left _ _ (slot-inside b h r))
+
+  pub slot-high : (b : ℕ) → slotRight G b ≡ true → (b ≡ 0 → ⊥) → b < G .blocks
+  slot-high b h r = ltb-true _ _ (and-right _ _ (slot-inside b h r))
+
+  pub slot-right : (b : ℕ) → ((b ≡ 0 → ⊥) → G .area ≤ b) → ((b ≡ 0 → ⊥) → b < G .blocks) → slotRight G b ≡ true
+  unfolding slotRight
+  slot-right b low high =
+      split (eq-or-ne b 0) (λ q. or-left _ _ (eq-eqb _ _ q))
+      (λ q. or-right _ _ (and-both _ _ (le-leb _ _ (low q)) (lt-ltb _ _ (high q))))
+
+  pub fine-elim : (r : Bytes) → used r ≡ true → entryRight G r ≡ true → Fine G r
+  unfolding entryRight slotsRight
+  fine-elim r u h =
+      let rest = and-right _ _ (sym (or-then _ _ (used-full r u)) ∙ h) in
+      let slots = and-right _ _ (and-right _ _ rest) in
+      record {
+        user = used-low r u;
+        name = and-left _ _ rest;
+        numbers = numbers-elim r (and-left _ _ (and-right _ _ rest));
+        low = λ j l. slot-low (slotOf r j) (all-at _ slotCount slots j l);
+        high = λ j l. slot-high (slotOf r j) (all-at _ slotCount slots j l);
+      }
+
+  pub fine-intro : (r : Bytes) → Fine G r → entryRight G r ≡ true
+  unfolding entryRight slotsRight
+  fine-intro r f =
+      or-right _ _
+      (and-both _ _ (low-used r (f .user))
+      (and-both _ _ (f .name)
+      (and-both _ _ (numbers-intro r (f .numbers))
+      (all-intro _ slotCount (λ j l. slot-right (slotOf r j) (f .low j l) (f .high j l))))))
+
+  pub empty-right : (r : Bytes) → empty r ≡ true → entryRight G r ≡ true
+  unfolding entryRight
+  empty-right r e = or-left _ _ e
+
+  -- an entry that is right and not used is empty
+  pub unused-empty : (r : Bytes) → used r ≡ false → entryRight G r ≡ true → empty r ≡ true
+  unfolding entryRight
+  unused-empty r u h = sym (or-first _ _ (and-fails-left _ _ u)) ∙ h
+
+-- ---- a block stands at one place
+module _ (d : Rows) where
+  pub once-elim : (x y : ℕ) → listedOnce d y ≡ true → x < y → listed d x ≡ listed d y → listed d y ≡ 0
+  unfolding listedOnce taken
+  once-elim x y t h e =
+      split (or-cases _ _ t) (λ z. eqb-true _ _ z)
+      (λ n. absurd (eqb-false (listed d x) (listed d y) (any-never _ y (not-true _ n) x h) e))
+
+  pub once-intro : (y : ℕ) → ((x : ℕ) → x < y → listed d x ≡ listed d y → listed d y ≡ 0) → listedOnce d y ≡ true
+  unfolding listedOnce taken
+  once-intro y f =
+      split (eq-or-ne (listed d y) 0) (λ z. or-left _ _ (eq-eqb _ _ z))
+      (λ z. or-right _ _ (ap not (any-empty (λ (k : ℕ). eqb (listed d k) (listed d y)) y (λ x h. ne-eqb _ _ (λ e. z (f x h e))))))
+
+-- ---- one entry a user, name and extent
+pub same-elim : (r t : Bytes) → sameFile r t ≡ true → SameFile r t
+unfolding sameFile isFile named covers
+same-elim r t h =
+    let f = and-right _ _ (and-right _ _ h) in
+    let n = and-left _ _ f in
+    record { user = eqb-true _ _ (and-left _ _ n); name = and-right _ _ n; extent = eqb-true _ _ (and-right _ _ f) }
+
+pub same-intro : (r t : Bytes) → used r ≡ true → used t ≡ true → SameFile r t → sameFile r t ≡ true
+unfolding sameFile isFile named covers
+same-intro r t u v s =
+    and-both _ _ u (and-both _ _ v (and-both _ _ (and-both _ _ (eq-eqb _ _ (s .user)) (s .name)) (eq-eqb _ _ (s .extent))))
+
+pub same-used-left : (r t : Bytes) → sameFile r t ≡ true → used r ≡ true
+unfolding sameFile
+same-used-left r t h = and-left _ _ h
+
+pub same-used-right : (r t : Bytes) → sameFile r t ≡ true → used t ≡ true
+unfolding sameFile
+same-used-right r t h = and-left _ _ (and-right _ _ h)
+
+pub same-sym : (r t : Bytes) → SameFile r t → SameFile t r
+same-sym r t s = record { user = sym (s .user); name = like-sym t 1 r 1 (s .name); extent = sym (s .extent) }
+
+module _ (d : Rows) where
+  pub alone-elim : (e f : ℕ) → alone d e ≡ true → f < e → sameFile (d e) (d f) ≡ true → ⊥
+  unfolding alone
+  alone-elim e f t h s = not-both (sameFile (d e) (d f)) s (any-never _ e (not-true _ t) f h)
+
+  pub alone-intro : (e : ℕ) → ((f : ℕ) → f < e → sameFile (d e) (d f) ≡ true → ⊥) → alone d e ≡ true
+  unfolding alone
+  alone-intro e g = ap not (any-empty (λ (f : ℕ). sameFile (d e) (d f)) e (λ f h. sym (refute _ (g f h))))
+
+-- ---- the directory
+module _ (G : Geometry) (d : Rows) where
+  once-place : (t : allBelow (listedOnce d) (slotsInAll G) ≡ true) (b e j f k : ℕ) → Stands G d b e j → Stands G d b f k → slotCount * e + j ≡ slotCount * f + k
+  once-place t b e j f k s u =
+      let x : ℕ = slotCount * e + j in
+      let y : ℕ = slotCount * f + k in
+      let q : listed d x ≡ b = stands-listed G d b e j s in
+      let r : listed d y ≡ b = stands-listed G d b f k u in
+      split (lt-or-le x y)
+      (λ l. absurd (s .real (sym r ∙ once-elim d x y (all-at _ (slotsInAll G) t y (stands-place G d b f k u)) l (q ∙ sym r))))
+      (λ l. split (lt-or-le y x)
+      (λ m. absurd (s .real (sym q ∙ once-elim d y x (all-at _ (slotsInAll G) t x (stands-place G d b e j s)) m (r ∙ sym q))))
+      (λ m. omega arith))
+
+  apart-order : (t : allBelow (alone d) (G .entries) ≡ true) (e f : ℕ) → e < G .entries → used (d e) ≡ true → used (d f) ≡ true → SameFile (d e) (d f) → f < e → ⊥
+  apart-order t e f l u v s h = alone-elim d e f (all-at _ (G .entries) t e l) h (same-intro (d e) (d f) u v s)
+
+  pub consistent-facts : consistentRows G d ≡ true → Consistent G d
+  unfolding consistentRows
+  consistent-facts t =
+      let entries = all-at _ (G .entries) (and-left _ _ t) in
+      let once = and-left _ _ (and-right _ _ t) in
+      let alones = and-right _ _ (and-right _ _ t) in
+      record {
+        fine = λ e h u. fine-elim G (d e) u (entries e h);
+        other = λ e h u. unused-empty G (d e) u (entries e h);
+        once-entry = λ b e j f k s u. let q = once-place once b e j f k s u in let p = s .place in let r = u .place in omega arith;
+        once-slot = λ b e j f k s u. let q = once-place once b e j f k s u in let p = s .place in let r = u .place in omega arith;
+        apart = λ e f h l u v s. split (lt-or-le f e) (λ w. absurd (apart-order alones e f h u v s w))
+            (λ w. split (lt-or-le e f) (λ z. absurd (apart-order alones f e l v u (same-sym (d e) (d f) s) z)) (λ z. omega arith));
+      }
+
+  facts-entry : Consistent G d → (e : ℕ) → e < G .entries → entryRight G (d e) ≡ true
+  facts-entry c e h =
+      split (bool-cases (used (d e))) (λ u. fine-intro G (d e) (c .fine e h u)) (λ u. empty-right G (d e) (c .other e h u))
+
+  facts-once : Consistent G d → (y : ℕ) → y < slotsInAll G → listedOnce d y ≡ true
+  facts-once c y h =
+      once-intro d y
+      (λ x l q. split (eq-or-ne (listed d y) 0) (λ z. z)
+      (λ z. let s = stands-at G d x (listed d y) (omega arith) q z in
+      let u = stands-at G d y (listed d y) h refl z in
+      let a : x / slotCount ≡ y / slotCount = c .once-entry (listed d y) (x / slotCount) (x % slotCount) (y / slotCount) (y % slotCount) s u in
+      let b : x % slotCount ≡ y % slotCount = c .once-slot (listed d y) (x / slotCount) (x % slotCount) (y / slotCount) (y % slotCount) s u in
+      absurd (omega arith)))
+
+  facts-alone : Consistent G d → (e : ℕ) → e < G .entries → alone d e ≡ true
+  facts-alone c e h =
+      alone-intro d e
+      (λ f l t. let q : e ≡ f = c .apart e f h (omega arith) (same-used-left (d e) (d f) t) (same-used-right (d e) (d f) t) (same-elim (d e) (d f) t) in omega arith)
+
+  pub facts-consistent : Consistent G d → consistentRows G d ≡ true
+  unfolding consistentRows
+  facts-consistent c =
+      and-both _ _ (all-intro _ (G .entries) (facts-entry c))
+      (and-both _ _ (all-intro _ (slotsInAll G) (facts-once c)) (all-intro _ (G .entries) (facts-alone c)))
