@@ -27,6 +27,11 @@ module _ (xs : List ℕ) (at n : ℕ) (fits : at + n ≤ length xs) where
   unfolding part
   getD-part i h = rw (getD-take, getD-drop)
 
+-- a part from a start to an end, as code takes it
+pub take-part : (xs : List ℕ) (at e n : ℕ) → e ≡ at + n → take (e - at) (drop at xs) ≡ part xs at n
+unfolding part
+take-part xs at e n h = let q : e - at ≡ n = omega arith in rw q
+
 -- a part of a part
 pub part-part : (xs : List ℕ) (at n b m : ℕ) → at + n ≤ length xs → b + m ≤ n → part (part xs at n) b m ≡ part xs (at + b) m
 part-part xs at n b m fits inner =

@@ -43,6 +43,12 @@ pub and-then : (a b : Bool) → a ≡ true → (a and b) ≡ b
 unfolding _and_
 and-then a b p = rw p
 
+-- the second test held, so the first decides
+pub and-first : (a b : Bool) → b ≡ true → (a and b) ≡ a
+unfolding _and_
+and-first true b q = q
+and-first false b q = refl
+
 pub or-left : (a b : Bool) → a ≡ true → (a or b) ≡ true
 unfolding _or_
 or-left a b p = rw p

@@ -1,0 +1,25 @@
+-- The user is tested first; where it is another's, the conjunction fails at once.
+use mathlib.Core.Path.{sym, _∙_}
+use borrow.Author.Tests.{eq-eqb, ne-eqb}
+use Rattle.lists.specs.Tests.{and-fails-left, and-then}
+use Rattle.format.specs.Entries.{named}
+use borrow.Author.Needs.{needs}
+use Rattle.rows.proofs.is_named.Statement.{statement}
+use Rattle.rows.proofs.is_named.Tie as tie
+
+shared-slice-read-if1 : tie.Need-shared-slice-read-if1
+shared-slice-read-if1 c = search needs
+
+returns : tie.Need-returns
+unfolding named
+returns c = sym (and-fails-left _ _ (ne-eqb _ _ (c .if1 .taken)))
+
+name-like-requires : tie.Need-name-like-requires
+name-like-requires c κs = search needs
+
+returns-2 : tie.Need-returns-2
+unfolding named
+returns-2 c = c .name-like .ensures ∙ sym (and-then _ _ (eq-eqb _ _ (c .before .if1 .left)))
+
+pub is-named-spec : {M : Type 1} → statement M
+is-named-spec = tie.close (tie.spec shared-slice-read-if1 returns name-like-requires returns-2)

@@ -1,0 +1,4 @@
+pub mod Found
+pub mod Fields
+pub mod Entries
+pub mod Find
