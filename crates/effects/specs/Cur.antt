@@ -1,0 +1,181 @@
+-- A current FCB as facts, both ways with the test; and a record that can be read through one.
+use mathlib.Core.Path.{_≡_, refl, ap, sym, _∙_}
+use mathlib.Core.Logic.{_⊎_, inl, inr}
+use mathlib.Core.Bool.{Bool, true, false, cond}
+use Prim.Native.Nat.{ℕ, _+_, _*_, _/_, _%_, _≤_, _<_}
+use native.Mathlib.Nat.{mod-lt}
+use native.Mathlib.Omega.{arith}
+use lib.Dec.{eqb}
+use lib.ListN.{length, List·getD-eq-default}
+use borrow.Author.Tests.{eqb-true, eq-eqb}
+use Rattle.lists.specs.Cases.{split, bool-cases, lt-or-le}
+use Rattle.lists.specs.Tests.{_and_, _or_, and-left, and-right, and-both, or-left, or-right, or-cases}
+use Rattle.lists.specs.Below.{all-at, all-intro}
+use Rattle.format.specs.Diskette.{Bytes, Geometry, Sound, diskRecord}
+use Rattle.format.specs.Entries.{Rows, slotCount, slotOf, slotsOf, slotFor, rcOf, used, extentOf, named, isFile, findFile}
+use Rattle.format.specs.ListedLaws.{slot-at}
+use Rattle.format.specs.FoundLaws.{at-nothing, at-same}
+use Rattle.format.specs.Notes.{noteAt, pendingFor}
+use Rattle.format.specs.Fcb.{fcbRight, slotFits, slotsFit, fitting, current}
+use Rattle.format.specs.declared.Found.{Found}
+use Rattle.format.specs.declared.Found.the-variants.{At, Nothing}
+use Rattle.consistency.specs.Facts.{Consistent}
+use Rattle.notes.specs.Numbers.{pending-not-free}
+use Rattle.rows.specs.Fields.{slot-for-below}
+use Rattle.rows.specs.Find.{file-says}
+use Rattle.model.specs.Target.{extentRecords, placeIn}
+use Rattle.effects.specs.View.{View, viewOf, Right, Names, Mine, listed, pending}
+use Rattle.effects.specs.Effect.{Foreign, Effect, Keeps}
+use Rattle.effects.specs.Naming.{file-named, file-used, file-found}
+
+-- slot j of the entry is 0, and block b is pending for it
+pub record Held (G : Geometry) (d : Rows) (m : ℕ → ℕ) (e j b : ℕ) : Type 0 where
+  pub was : slotOf (d e) j ≡ 0
+  pub below : b < G .blocks
+  pub noted : m b ≡ pendingFor e j
+
+-- f is current for the user, and e is its entry
+pub record Cur (G : Geometry) (s : View) (user : ℕ) (f : Bytes) (e : ℕ) : Type 0 where
+  pub right : fcbRight f ≡ true
+  pub low : e < G .entries
+  pub file : isFile user f 1 (extentOf f) (s .rows e) ≡ true
+  pub fits : (j : ℕ) → j < slotCount → (slotOf f j ≡ slotOf (s .rows e) j) ⊎ Held G (s .rows) (s .notes) e j (slotOf f j)
+
+-- ---- the test
+module _ (G : Geometry) (d : Rows) (map : Bytes) (user : ℕ) (f : Bytes) where
+  -- an answer of the test, taken apart
+  pub record CurrentAt (e : ℕ) : Type 0 where
+    pub right : fcbRight f ≡ true
+    pub found : findFile G d user f 1 (extentOf f) ≡ At e
+    pub fit : slotsFit map e (slotsOf (d e)) (slotsOf f) ≡ true
+
+  pub current-at : (e : ℕ) → current G d map user f ≡ At e → CurrentAt e
+  unfolding current
+  current-at e q =
+      split (bool-cases (fcbRight f))
+      (λ r. let z : fitting d map f (findFile G d user f 1 (extentOf f)) ≡ At e = rw r at q in go r (findFile G d user f 1 (extentOf f)) refl z)
+      (λ r. let z : Nothing ≡ At e = rw r at q in at-nothing e (sym z))
+    where
+      go : fcbRight f ≡ true → (w : Found) → findFile G d user f 1 (extentOf f) ≡ w → fitting d map f w ≡ At e → CurrentAt e
+      go r (At k) p z =
+          split (bool-cases (slotsFit map k (slotsOf (d k)) (slotsOf f)))
+          (λ t. let y : At k ≡ At e = rw t at z in let i : k ≡ e = at-same k e y in
+          record { right = r; found = p ∙ ap At i; fit = rw (← i) t })
+          (λ t. let y : Nothing ≡ At e = rw t at z in at-nothing e (sym y))
+      go r Nothing p z = at-nothing e (sym z)
+
+  pub at-current : (e : ℕ) → CurrentAt e → current G d map user f ≡ At e
+  unfolding current
+  at-current e c = rw (c .right, c .found, c .fit)
+
+  -- slot by slot
+  pub fits-held : length map ≡ G .blocks → (e : ℕ) → slotsFit map e (slotsOf (d e)) (slotsOf f) ≡ true
+      → (j : ℕ) → j < slotCount → (slotOf f j ≡ slotOf (d e) j) ⊎ Held G d (noteAt map) e j (slotOf f j)
+  unfolding slotsFit slotFits
+  fits-held wide e t j l =
+      let z : (eqb (slotOf f j) (slotOf (d e) j) or (eqb (slotOf (d e) j) 0 and eqb (noteAt map (slotOf f j)) (pendingFor e j))) ≡ true =
+      rw (slot-at f j l, slot-at (d e) j l) at (all-at (slotFits map e (slotsOf (d e)) (slotsOf f)) slotCount t j l) in
+      split (or-cases _ _ z) (λ q. inl (eqb-true _ _ q))
+      (λ q. let n : noteAt map (slotOf f j) ≡ pendingFor e j = eqb-true _ _ (and-right _ _ q) in
+      inr (record {
+        was = eqb-true _ _ (and-left _ _ q);
+        below = split (lt-or-le (slotOf f j) (G .blocks)) (λ h. h)
+            (λ h. absurd (pending-not-free e j (sym n ∙ List·getD-eq-default map 0 (omega arith))));
+        noted = n;
+      }))
+
+  pub held-fits : (e : ℕ) → ((j : ℕ) → j < slotCount → (slotOf f j ≡ slotOf (d e) j) ⊎ Held G d (noteAt map) e j (slotOf f j))
+      → slotsFit map e (slotsOf (d e)) (slotsOf f) ≡ true
+  unfolding slotsFit slotFits
+  held-fits e h =
+      all-intro (slotFits map e (slotsOf (d e)) (slotsOf f)) slotCount
+      (λ j l. rw (slot-at f j l, slot-at (d e) j l)
+      (split (h j l) (λ q. or-left _ _ (eq-eqb _ _ q)) (λ g. or-right _ _ (and-both _ _ (eq-eqb _ _ (g .was)) (eq-eqb _ _ (g .noted))))))
+
+-- ---- the test and the facts, both ways
+module _ (G : Geometry) (img map : Bytes) (user : ℕ) (f : Bytes) (e : ℕ) where
+  pub current-cur : length map ≡ G .blocks → current G (viewOf G img map .rows) map user f ≡ At e → Cur G (viewOf G img map) user f e
+  current-cur wide q =
+      let c = current-at G (viewOf G img map .rows) map user f e q in
+      let p = file-says G (viewOf G img map .rows) user f 1 (extentOf f) e (c .found) in
+      record {
+        right = c .right;
+        low = p .below;
+        file = p .holds;
+        fits = fits-held G (viewOf G img map .rows) map user f wide e (c .fit);
+      }
+
+  pub cur-current : Consistent G (viewOf G img map .rows) → user ≤ 15 → Cur G (viewOf G img map) user f e → current G (viewOf G img map .rows) map user f ≡ At e
+  cur-current c hu k =
+      at-current G (viewOf G img map .rows) map user f e record {
+        right = k .right;
+        found = file-found G (viewOf G img map .rows) c user hu f 1 (extentOf f) e (k .low) (k .file);
+        fit = held-fits G (viewOf G img map .rows) map user f e (k .fits);
+      }
+
+-- ---- what a current FCB has
+module _ (G : Geometry) (s : View) (user : ℕ) (hu : user ≤ 15) (f : Bytes) (e : ℕ) (c : Cur G s user f e) where
+  pub cur-uses : used (s .rows e) ≡ true
+  cur-uses = file-used user f 1 (extentOf f) (s .rows e) (c .file) hu
+
+  pub cur-named : named false user f 1 (s .rows e) ≡ true
+  cur-named = file-named user f 1 (extentOf f) (s .rows e) (c .file)
+
+  -- its blocks are its entry's
+  pub cur-mine : (j : ℕ) → j < slotCount → (slotOf f j ≡ 0 → ⊥) → Mine G s (slotOf f j) e
+  cur-mine j l z =
+      split (c .fits j l)
+      (λ q. listed j record { entry = c .low; place = l; uses = cur-uses; is = sym q; real = z })
+      (λ h. pending j l (h .below) (h .noted))
+
+  -- where the FCB has 0, so has its entry
+  pub cur-zero : (j : ℕ) → j < slotCount → slotOf f j ≡ 0 → slotOf (s .rows e) j ≡ 0
+  cur-zero j l z = split (c .fits j l) (λ q. sym q ∙ z) (λ h. h .was)
+
+-- ---- a record that holds
+-- the slot and the place of record rec of f's extent
+abbrev pub recSlot : Geometry → Bytes → ℕ → ℕ
+recSlot G f rec = slotOf f (slotFor G (extentOf f) rec)
+
+-- record rec of f's extent can be read through f, and is v
+pub record Holds (G : Geometry) (s : View) (user : ℕ) (f : Bytes) (e rec : ℕ) (v : Bytes) : Type 0 where
+  pub cur : Cur G s user f e
+  pub inside : rec < extentRecords
+  pub real : recSlot G f rec ≡ 0 → ⊥
+  pub counted : rec < rcOf f
+  pub dat : s .recs (placeIn G (recSlot G f rec) rec) ≡ v
+
+-- a call that names other files keeps it
+module _ {G : Geometry} (S : Sound G) (s t : View) (N : Names) (user : ℕ) (hu : user ≤ 15) (f : Bytes) (w : Effect G s t N) (kp : Keeps G s t N)
+    (other : (r : Bytes) → named false user f 1 r ≡ true → N r ≡ false) where
+  module _ (e : ℕ) (c : Cur G s user f e) where
+    pub cur-foreign : Foreign G s N e
+    cur-foreign = record { low = c .low; uses = cur-uses G s user hu f e c; other = other (s .rows e) (cur-named G s user hu f e c) }
+
+    pub cur-kept : Cur G t user f e
+    unfolding Keeps
+    cur-kept =
+        let row : t .rows e ≡ s .rows e = w .row e cur-foreign in
+        record {
+          right = c .right;
+          low = c .low;
+          file = ap (isFile user f 1 (extentOf f)) row ∙ c .file;
+          fits = λ j l. split (c .fits j l) (λ q. inl (q ∙ sym (ap (λ (r : Bytes). slotOf r j) row)))
+              (λ g. inr record {
+                was = ap (λ (r : Bytes). slotOf r j) row ∙ g .was;
+                below = g .below;
+                noted = kp (slotOf f j) e j (g .below) l cur-foreign (g .noted);
+              });
+        }
+
+  pub holds-kept : (e rec : ℕ) (v : Bytes) → Holds G s user f e rec v → Holds G t user f e rec v
+  unfolding placeIn
+  holds-kept e rec v h = record {
+    cur = cur-kept e (h .cur);
+    inside = h .inside;
+    real = h .real;
+    counted = h .counted;
+    dat = w .dat (recSlot G f rec) (rec % G .perBlock) e (mod-lt rec (S .some-record))
+        (cur-mine G s user hu f e (h .cur) (slotFor G (extentOf f) rec) (slot-for-below S (extentOf f) rec (h .inside)) (h .real))
+        (cur-foreign e (h .cur)) ∙ h .dat;
+  }
