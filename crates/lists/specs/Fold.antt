@@ -27,6 +27,13 @@ module _ {A : Type 0} where
   fold-keeps P f a zero p g = p
   fold-keeps P f a (suc n) p g = g (foldBelow f a n) n (omega arith) (fold-keeps P f a n p (λ x k h q. g x k (omega arith) q))
 
+  -- what each turn brings one number further, the fold brings to n
+  pub fold-builds : (P : ℕ → A → Type 0) (f : A → ℕ → A) (a : A) (n : ℕ) → P 0 a → ((k : ℕ) (x : A) → k < n → P k x → P (k + 1) (f x k)) → P n (foldBelow f a n)
+  unfolding foldBelow
+  fold-builds P f a zero p g = p
+  fold-builds P f a (suc n) p g =
+      rw add-one at (g n (foldBelow f a n) (omega arith) (fold-builds P f a n p (λ k x h q. g k x (omega arith) q)))
+
   pub fold-cong : (f g : A → ℕ → A) (a : A) (n : ℕ) → ((x : A) (k : ℕ) → k < n → f x k ≡ g x k) → foldBelow f a n ≡ foldBelow g a n
   unfolding foldBelow
   fold-cong f g a zero h = refl

@@ -1,6 +1,6 @@
 -- Marks, one a number: which numbers were marked from the start, or have been taken by a function so far.
-use mathlib.Core.Path.{_≡_, ap, sym, _∙_}
-use mathlib.Core.Bool.{Bool, true, false}
+use mathlib.Core.Path.{_≡_, refl, ap, sym, _∙_}
+use mathlib.Core.Bool.{Bool, true, false, not}
 use mathlib.Core.List.{List}
 use Prim.Native.Nat.{ℕ, _+_, _≤_, _<_}
 use native.Mathlib.Omega.{arith}
@@ -15,6 +15,18 @@ use Rattle.lists.specs.Below.{anyBelow, any-next, any-none, any-never}
 abbrev pub bit : Bool → ℕ
 bit true = 1
 bit false = 0
+
+pub bit-zero : (b : Bool) → bit b ≡ 0 → b ≡ false
+bit-zero true h = absurd (omega arith)
+bit-zero false h = refl
+
+pub bit-one : (b : Bool) → (bit b ≡ 0 → ⊥) → b ≡ true
+bit-one true h = refl
+bit-one false h = absurd (h refl)
+
+pub bit-set : (b : Bool) → not (eqb (bit b) 0) ≡ b
+bit-set true = refl
+bit-set false = refl
 
 -- f takes the value b below x
 unfoldable pub taken : (ℕ → ℕ) → ℕ → ℕ → Bool

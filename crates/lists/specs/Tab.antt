@@ -54,6 +54,11 @@ filled-more f old i l v h e g = record {
   left = λ k hk. getD-set-other l i k v 0 (λ z. omega arith) ∙ g .left k (omega arith);
 }
 
+-- a turn of a loop that changes each element in its place, by its number and what it was
+pub filled-changed : (g : ℕ → ℕ → ℕ) (old : List ℕ) (i : ℕ) (l : List ℕ) (v : ℕ) → i < length l → v ≡ g i (getD l i 0)
+    → Filled (λ (k : ℕ). g k (getD old k 0)) old i l → Filled (λ (k : ℕ). g k (getD old k 0)) old (i + 1) (set l i v)
+filled-changed g old i l v h e u = filled-more (λ (k : ℕ). g k (getD old k 0)) old i l v h (e ∙ ap (g i) (u .left i (omega arith))) u
+
 -- a turn that changes nothing, since the element is right as it is
 pub filled-kept : (f : ℕ → ℕ) (old : List ℕ) (i : ℕ) (l : List ℕ) → getD old i 0 ≡ f i → Filled f old i l → Filled f old (i + 1) l
 filled-kept f old i l e g = record {

@@ -2,7 +2,7 @@
 -- `_&&_`, whose calls are written out wherever they stand.
 use mathlib.Core.Path.{_≡_, refl, sym}
 use mathlib.Core.Logic.{_⊎_, inl, inr}
-use mathlib.Core.Bool.{Bool, true, false}
+use mathlib.Core.Bool.{Bool, true, false, cond}
 use Rattle.lists.specs.Cases.{clash}
 
 unfoldable pub _and_ : Bool → Bool → Bool
@@ -78,3 +78,10 @@ pub or-cases : (a b : Bool) → (a or b) ≡ true → (a ≡ true) ⊎ (b ≡ tr
 unfolding _or_
 or-cases true b h = inl refl
 or-cases false b h = inr h
+
+-- a choice made twice
+pub cond-or : {A : Type 0} (a b : Bool) (x y : A) → cond b x (cond a x y) ≡ cond (a or b) x y
+unfolding _or_
+cond-or true true x y = refl
+cond-or true false x y = refl
+cond-or false b x y = refl

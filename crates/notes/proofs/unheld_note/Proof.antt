@@ -1,0 +1,19 @@
+-- `notes::unheld_note` meets its contract: the code's test is the definition's.
+use borrow.Author.Needs.{needs}
+use Rattle.notes.specs.Freeing.{unheldNote}
+use Rattle.notes.proofs.unheld_note.Statement.{statement}
+use Rattle.notes.proofs.unheld_note.Tie as tie
+
+held-for-requires : tie.Need-held-for-requires
+held-for-requires c κs = search needs
+
+returns : tie.Need-returns
+unfolding unheldNote
+returns c = rw (← c .before .held-for .ensures, c .if1 .taken)
+
+returns-2 : tie.Need-returns-2
+unfolding unheldNote
+returns-2 c = rw (← c .before .held-for .ensures, c .if1 .left)
+
+pub unheld-note-spec : {M : Type 1} → statement M
+unheld-note-spec = tie.close (tie.spec held-for-requires returns returns-2)

@@ -1,0 +1,7 @@
+pub mod Numbers
+pub mod Changes
+pub mod Freeing
+pub mod FreeingLaws
+pub mod Right
+pub mod Free
+pub mod Told

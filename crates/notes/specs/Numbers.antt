@@ -1,0 +1,50 @@
+-- The numbers of notes: a pending note tells its entry and slot, and is no other kind of note.
+use mathlib.Core.Path.{_≡_}
+use mathlib.Core.Bool.{true, false}
+use Prim.Native.Nat.{ℕ, _≤_, _<_}
+use native.Mathlib.Omega.{arith}
+use borrow.Author.Tests.{le-leb, lt-leb, leb-true}
+use Rattle.format.specs.Notes.{freeNote, areaNote, recordedNote, pendingFor, isPending, pendingEntry, pendingSlot}
+
+pub pending-low : (e j : ℕ) → 16 ≤ pendingFor e j
+unfolding pendingFor
+pending-low e j = omega arith
+
+pub pending-is : (e j : ℕ) → isPending (pendingFor e j) ≡ true
+unfolding isPending
+pending-is e j = le-leb 16 (pendingFor e j) (pending-low e j)
+
+pub pending-entry : (e j : ℕ) → j < 16 → pendingEntry (pendingFor e j) ≡ e
+unfolding pendingFor pendingEntry
+pending-entry e j h = omega arith
+
+pub pending-slot : (e j : ℕ) → j < 16 → pendingSlot (pendingFor e j) ≡ j
+unfolding pendingFor pendingSlot
+pending-slot e j h = omega arith
+
+pub pending-once : (e j f k : ℕ) → j < 16 → k < 16 → pendingFor e j ≡ pendingFor f k → (e ≡ f) × (j ≡ k)
+unfolding pendingFor
+pending-once e j f k h l q = (omega arith, omega arith)
+
+pub pending-slot-low : (n : ℕ) → pendingSlot n < 16
+unfolding pendingSlot
+pending-slot-low n = omega arith
+
+-- a pending note is that of its entry and slot
+pub pending-back : (n : ℕ) → isPending n ≡ true → n ≡ pendingFor (pendingEntry n) (pendingSlot n)
+unfolding pendingFor pendingEntry pendingSlot isPending
+pending-back n t = omega (arith, leb-true 16 n t)
+
+-- the other notes are not pending, and differ from those that are
+pub settled-not : (n : ℕ) → n < 16 → isPending n ≡ false
+unfolding isPending
+settled-not n h = lt-leb 16 n h
+
+pub pending-not-free : (e j : ℕ) → pendingFor e j ≡ freeNote → ⊥
+pending-not-free e j q = omega (arith, pending-low e j)
+
+pub pending-not-area : (e j : ℕ) → pendingFor e j ≡ areaNote → ⊥
+pending-not-area e j q = omega (arith, pending-low e j)
+
+pub pending-not-recorded : (e j : ℕ) → pendingFor e j ≡ recordedNote → ⊥
+pending-not-recorded e j q = omega (arith, pending-low e j)
