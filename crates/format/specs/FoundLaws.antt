@@ -1,12 +1,13 @@
 -- What the answer of a look-up says, and the turns of a loop that looks: the first number from i on, below n, that passes the test p.
-use mathlib.Core.Path.{_≡_, sym, ap, _∙_}
+use mathlib.Core.Path.{_≡_, refl, sym, ap, _∙_}
 use mathlib.Core.Bool.{Bool, true, false}
 use Prim.Native.Nat.{ℕ, _≤_, _<_}
 use native.Mathlib.Omega.{arith}
 use borrow.Author.Tests.{lt-ltb, le-ltb}
-use Rattle.lists.specs.Cases.{split, lt-or-le}
+use Rattle.lists.specs.Cases.{split, clash, lt-or-le}
 use Rattle.lists.specs.Below.{firstIn, first-hit, first-end, first-low, first-holds, first-before, first-is, first-none}
-use Rattle.format.specs.Found.{foundBelow}
+use Rattle.format.specs.Found.{foundBelow, isFound}
+use Rattle.format.specs.declared.Found.{Found}
 use Rattle.format.specs.declared.Found.the-variants.{At, Nothing}
 
 pub found-at : (n k : ℕ) → k < n → foundBelow n k ≡ At k
@@ -24,6 +25,23 @@ at-nothing k q = absurd (let z : _≡_ {A = ℕ} 0 1 = cc in omega arith)
 pub at-same : (k m : ℕ) → At k ≡ At m → k ≡ m
 at-same k m q = cc
 
+-- ---- an answer that has found something, and one that has not
+pub record FoundAt (r : Found) : Type 0 where
+  pub place : ℕ
+  pub is : r ≡ At place
+
+pub is-found : (r : Found) → isFound r ≡ true → FoundAt r
+is-found (At k) h = record { place = k; is = refl }
+is-found Nothing h = clash (sym h)
+
+pub found-so : (r : Found) → FoundAt r → isFound r ≡ true
+found-so r f = ap isFound (f .is)
+
+pub not-found : (r : Found) → isFound r ≡ false → r ≡ Nothing
+not-found (At k) h = clash h
+not-found Nothing h = refl
+
+-- ---- numbers below a bound
 pub found-is : (n k e : ℕ) → foundBelow n k ≡ At e → (k < n) × (e ≡ k)
 found-is n k e q =
     split (lt-or-le k n) (λ h. (h, at-same e k (sym q ∙ found-at n k h))) (λ h. at-nothing e (sym q ∙ found-nothing n k h))

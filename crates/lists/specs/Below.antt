@@ -192,3 +192,12 @@ first-is p i n k a b e f = of-is p i (n - i) k a (omega arith) e f
 pub first-none : (p : ℕ → Bool) (i n : ℕ) → i ≤ n → ((j : ℕ) → i ≤ j → j < n → p j ≡ false) → firstIn p i n ≡ n
 unfolding firstIn
 first-none p i n h f = of-none p i (n - i) (λ j a b. f j a (omega arith)) ∙ omega arith
+
+of-cong : (p q : ℕ → Bool) (i n : ℕ) → ((k : ℕ) → i ≤ k → k < i + n → p k ≡ q k) → firstOf p i n ≡ firstOf q i n
+unfolding firstOf
+of-cong p q i zero f = refl
+of-cong p q i (suc n) f = rw (f i (omega arith) (omega arith), of-cong p q (suc i) n (λ k a b. f k (omega arith) (omega arith)))
+
+pub first-cong : (p q : ℕ → Bool) (i n : ℕ) → ((k : ℕ) → i ≤ k → k < n → p k ≡ q k) → firstIn p i n ≡ firstIn q i n
+unfolding firstIn
+first-cong p q i n f = of-cong p q i (n - i) (λ k a b. f k a (omega arith))

@@ -8,7 +8,7 @@ use native.Mathlib.Numerals.{add-one}
 use native.Mathlib.Omega.{arith}
 use lib.ListN.{set, length, take, drop, getD, length-append, length-take, length-drop, List·getD-append, replicate, length-replicate, getD-replicate}
 use lib.Seq.{drop-length, paste, paste-suc, take-length, length-take-le, getD-take, getD-drop, getD-append-add, take-at, drop-at, ext-getD}
-use Rattle.lists.specs.Cases.{split}
+use Rattle.lists.specs.Cases.{split, lt-or-le}
 
 -- the n elements of xs from `at` on
 unfoldable pub part : List ℕ → ℕ → ℕ → List ℕ
@@ -17,6 +17,10 @@ part xs at n = take n (drop at xs)
 -- xs with ys in place of its elements from `at` on
 unfoldable pub splice : List ℕ → ℕ → List ℕ → List ℕ
 splice xs at ys = take at xs ++ (ys ++ drop (at + length ys) xs)
+
+-- what stands past a first list
+pub getD-append-past : (xs ys : List ℕ) (n : ℕ) → length xs ≡ n → (k : ℕ) → getD (xs ++ ys) (n + k) 0 ≡ getD ys k 0
+getD-append-past xs ys n e k = ap (λ (m : ℕ). getD (xs ++ ys) (m + k) 0) (sym e) ∙ getD-append-add xs ys k 0
 
 module _ (xs : List ℕ) (at n : ℕ) (fits : at + n ≤ length xs) where
   pub length-part : length (part xs at n) ≡ n
@@ -60,6 +64,12 @@ module _ (xs : List ℕ) (at : ℕ) (ys : List ℕ) (fits : at + length ys ≤ l
   getD-splice-in i h =
       rw (ap (λ (k : ℕ). getD (take at xs ++ (ys ++ drop (at + length ys) xs)) (k + i) 0) (sym head-long), getD-append-add, List·getD-append)
 
+  -- the same, by the place in the whole
+  pub getD-splice-at : (k : ℕ) → at ≤ k → k < at + length ys → getD (splice xs at ys) k 0 ≡ getD ys (k - at) 0
+  getD-splice-at k a b =
+      let q : k ≡ at + (k - at) = omega arith in
+      ap (λ (i : ℕ). getD (splice xs at ys) i 0) q ∙ getD-splice-in (k - at) (omega arith)
+
   getD-splice-below : (i : ℕ) → i < at → getD (splice xs at ys) i 0 ≡ getD xs i 0
   unfolding splice
   getD-splice-below i h =
@@ -90,6 +100,19 @@ module _ (xs : List ℕ) (at : ℕ) (ys : List ℕ) (fits : at + length ys ≤ l
       (λ i h. let h′ : i < n = omega (arith, l) in
       getD-part (splice xs at ys) b n room′ i h′ ∙ getD-splice-out (b + i) (split apart (λ w. inl (omega arith)) (λ w. inr (omega arith)))
       ∙ sym (getD-part xs b n room i h′))
+
+-- a part put back where it was
+pub splice-same : (xs : List ℕ) (at n : ℕ) → at + n ≤ length xs → splice xs at (part xs at n) ≡ xs
+splice-same xs at n fits =
+    let m : length (part xs at n) ≡ n = length-part xs at n fits in
+    let room : at + length (part xs at n) ≤ length xs = omega arith in
+    let l : length (splice xs at (part xs at n)) ≡ length xs = length-splice xs at (part xs at n) room in
+    ext-getD 0 (splice xs at (part xs at n)) xs l
+    (λ k h. split (lt-or-le k at) (λ b. getD-splice-out xs at (part xs at n) room k (inl b))
+    (λ b. split (lt-or-le k (at + n))
+    (λ c. let q : at + (k - at) ≡ k = omega arith in
+    getD-splice-at xs at (part xs at n) room k b (omega arith) ∙ getD-part xs at n fits (k - at) (omega arith) ∙ ap (λ (i : ℕ). getD xs i 0) q)
+    (λ c. getD-splice-out xs at (part xs at n) room k (inr (omega arith)))))
 
 -- a splice over the whole of a list
 pub splice-whole : (xs ys : List ℕ) → length xs ≡ length ys → splice xs 0 ys ≡ ys

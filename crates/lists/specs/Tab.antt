@@ -3,7 +3,7 @@ use mathlib.Core.Path.{_≡_, refl, ap, sym, _∙_}
 use mathlib.Core.List.{List, [], _∷_, _++_}
 use Prim.Native.Nat.{ℕ, zero, suc, _+_, _≤_, _<_}
 use native.Mathlib.Omega.{arith}
-use lib.ListN.{getD, set, length, length-append, length-set, List·getD-append}
+use lib.ListN.{getD, set, length, replicate, length-append, length-set, List·getD-append}
 use lib.Seq.{getD-set-same, getD-set-other, ext-getD, getD-at}
 use Rattle.lists.specs.Cases.{lt-or-le, split}
 
@@ -35,6 +35,12 @@ pub tab-getD : (l : List ℕ) (n : ℕ) → length l ≡ n → tab n (λ (k : �
 tab-getD l n e =
     let t : length (tab n (λ (k : ℕ). getD l k 0)) ≡ n = length-tab n _ in
     ext-getD 0 (tab n (λ (k : ℕ). getD l k 0)) l (t ∙ sym e) (λ k h. getD-tab n (λ (k : ℕ). getD l k 0) k (omega arith))
+
+-- zeros are 0 at every place, also past their end
+pub getD-zeros : (n k : ℕ) → getD {A = ℕ} (replicate n 0) k 0 ≡ 0
+getD-zeros zero k = refl
+getD-zeros (suc n) zero = refl
+getD-zeros (suc n) (suc k) = getD-zeros n k
 
 -- ---- a loop that fills a list: the elements below i are f's, the others are as they were
 pub record Filled (f : ℕ → ℕ) (old : List ℕ) (i : ℕ) (l : List ℕ) : Type 0 where

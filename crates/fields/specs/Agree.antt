@@ -1,0 +1,148 @@
+-- Rows and FCBs that agree in some of their bytes agree in the fields that lie there, and in the tests that look there.
+use mathlib.Core.Path.{_≡_, refl, ap, sym, _∙_}
+use mathlib.Core.Bool.{Bool, false}
+use Prim.Native.Nat.{ℕ, _+_, _-_, _≤_, _<_}
+use native.Mathlib.Omega.{arith}
+use lib.ListN.{length, getD}
+use lib.Seq.{ext-getD}
+use Rattle.lists.specs.Cases.{split, lt-or-le}
+use Rattle.lists.specs.Tests.{_and_}
+use Rattle.lists.specs.Below.{first-cong}
+use Rattle.lists.specs.Splice.{length-part}
+use Rattle.format.specs.Diskette.{Bytes, Geometry}
+use Rattle.format.specs.Names.{nameBytes, nameRight, nameLike, sevenBits}
+use Rattle.format.specs.Entries.{Rows, userOf, exOf, s2Of, rcOf, slotOf, slotsOf, slotCount, empty, used, readOnly, extentOf, covers, named, isFile, findFile}
+use Rattle.format.specs.Found.{foundBelow}
+use Rattle.format.specs.Consistent.{numbersRight, sameFile}
+use Rattle.format.specs.ListedLaws.{slot-at}
+use Rattle.format.specs.Fcb.{crOf, randomOf, fcbRight, fitting, current}
+use Rattle.format.specs.declared.Found.{Found}
+use Rattle.format.specs.declared.Found.the-variants.{At, Nothing}
+use Rattle.names.specs.Laws.{nameBits, like-cong-left, like-cong-right, right-cong}
+
+-- bytes a to b - 1 of r and t are the same
+abbrev pub Agree : Bytes → Bytes → ℕ → ℕ → Type 0
+Agree r t a b = (i : ℕ) → a ≤ i → i < b → getD r i 0 ≡ getD t i 0
+
+-- the name in s at q and that in r at p are the same in the seven bits that are compared
+abbrev pub SameName : Bytes → ℕ → Bytes → ℕ → Type 0
+SameName s q r p = (i : ℕ) → i < nameBytes → nameBits s q i ≡ nameBits r p i
+
+-- ---- fields and tests of a row, by the bytes that they look at
+module _ (r t : Bytes) where
+  pub slot-cong : Agree r t 16 32 → (j : ℕ) → j < slotCount → slotOf r j ≡ slotOf t j
+  unfolding slotOf
+  slot-cong h j l = h (16 + j) (omega arith) (omega arith)
+
+  pub slots-cong : 32 ≤ length r → 32 ≤ length t → Agree r t 16 32 → slotsOf r ≡ slotsOf t
+  unfolding slotsOf
+  slots-cong hr ht h =
+      let l : length (slotsOf r) ≡ 16 = length-part r 16 slotCount (omega arith) in
+      ext-getD 0 (slotsOf r) (slotsOf t) (l ∙ sym (length-part t 16 slotCount (omega arith)))
+      (λ j b. let b′ : j < 16 = omega arith in slot-at r j b′ ∙ slot-cong h j b′ ∙ sym (slot-at t j b′))
+
+  -- a row is its bytes below the slots, and its slots
+  pub row-ext : length r ≡ 32 → length t ≡ 32 → Agree r t 0 16 → ((j : ℕ) → j < slotCount → slotOf r j ≡ slotOf t j) → r ≡ t
+  unfolding slotOf
+  row-ext hr ht h f =
+      ext-getD 0 r t (hr ∙ sym ht)
+      (λ i b. split (lt-or-le i 16) (λ l. h i (omega arith) l)
+      (λ l. let q : 16 + (i - 16) ≡ i = omega arith in rw q at (f (i - 16) (omega arith))))
+
+  pub extent-cong : Agree r t 12 15 → extentOf r ≡ extentOf t
+  unfolding extentOf
+  extent-cong h = rw (h 12 (omega arith) (omega arith), h 14 (omega arith) (omega arith))
+
+  pub numbers-cong : Agree r t 12 16 → numbersRight r ≡ numbersRight t
+  unfolding numbersRight
+  numbers-cong h = rw (h 12 (omega arith) (omega arith), h 14 (omega arith) (omega arith), h 15 (omega arith) (omega arith))
+
+  pub name-cong : Agree r t 1 12 → SameName r 1 t 1
+  name-cong h i l = ap sevenBits (h (1 + i) (omega arith) (omega arith))
+
+  pub used-cong : userOf r ≡ userOf t → used r ≡ used t
+  unfolding used
+  used-cong e = rw e
+
+  pub empty-cong : userOf r ≡ userOf t → empty r ≡ empty t
+  unfolding empty
+  empty-cong e = rw e
+
+  pub readOnly-cong : getD r 9 0 ≡ getD t 9 0 → readOnly r ≡ readOnly t
+  unfolding readOnly
+  readOnly-cong e = rw e
+
+  pub covers-cong : extentOf r ≡ extentOf t → (ext : ℕ) → covers r ext ≡ covers t ext
+  unfolding covers
+  covers-cong e ext = rw e
+
+-- ---- rows of one user, name and extent: no look-up tells them apart
+pub record SameFile (r t : Bytes) : Type 0 where
+  pub user : userOf r ≡ userOf t
+  pub name : SameName r 1 t 1
+  pub extent : extentOf r ≡ extentOf t
+
+pub same-file : (r t : Bytes) → Agree r t 0 15 → SameFile r t
+same-file r t h = record {
+  user = h 0 (omega arith) (omega arith);
+  name = name-cong r t (λ i a b. h i (omega arith) (omega arith));
+  extent = extent-cong r t (λ i a b. h i (omega arith) (omega arith));
+}
+
+module _ (wild : Bool) (user : ℕ) (s : Bytes) (q : ℕ) (r t : Bytes) where
+  pub named-cong : userOf r ≡ userOf t → SameName r 1 t 1 → named wild user s q r ≡ named wild user s q t
+  unfolding named
+  named-cong e n = rw (e, like-cong-right wild r 1 t 1 n s q)
+
+pub isFile-cong : (user : ℕ) (s : Bytes) (q ext : ℕ) (r t : Bytes) → SameFile r t → isFile user s q ext r ≡ isFile user s q ext t
+unfolding isFile
+isFile-cong user s q ext r t k = rw (named-cong false user s q r t (k .user) (k .name), covers-cong r t (k .extent) ext)
+
+-- ---- names that are asked for: the same name asks for the same rows
+module _ (s : Bytes) (q : ℕ) (r : Bytes) (p : ℕ) (same : SameName s q r p) where
+  pub named-asked : (wild : Bool) (user : ℕ) (row : Bytes) → named wild user s q row ≡ named wild user r p row
+  unfolding named
+  named-asked wild user row = rw (like-cong-left wild s q r p same row 1)
+
+  pub isFile-asked : (user ext : ℕ) (row : Bytes) → isFile user s q ext row ≡ isFile user r p ext row
+  unfolding isFile
+  isFile-asked user ext row = rw (named-asked false user row)
+
+  pub findFile-asked : (G : Geometry) (d : Rows) (user ext : ℕ) → findFile G d user s q ext ≡ findFile G d user r p ext
+  unfolding findFile
+  findFile-asked G d user ext =
+      ap (foundBelow (G .entries)) (first-cong (λ (e : ℕ). isFile user s q ext (d e)) (λ (e : ℕ). isFile user r p ext (d e)) 0 (G .entries) (λ e a b. isFile-asked user ext (d e)))
+
+-- two entries are of one file, by either side
+module _ (r t s : Bytes) (same : SameFile r t) where
+  pub sameFile-left : sameFile r s ≡ sameFile t s
+  unfolding sameFile
+  sameFile-left = rw (used-cong r t (same .user), isFile-cong (userOf s) s 1 (extentOf s) r t same)
+
+  pub sameFile-right : sameFile s r ≡ sameFile s t
+  unfolding sameFile
+  sameFile-right = rw (used-cong r t (same .user), same .user, same .extent, isFile-asked r 1 t 1 (same .name) (userOf t) (extentOf t) s)
+
+-- ---- FCBs
+module _ (f g : Bytes) where
+  pub random-cong : Agree f g 33 36 → randomOf f ≡ randomOf g
+  unfolding randomOf
+  random-cong h = rw (h 33 (omega arith) (omega arith), h 34 (omega arith) (omega arith), h 35 (omega arith) (omega arith))
+
+  -- an FCB is looked at past its name by byte, in its name by seven bits
+  pub fcbRight-cong : SameName f 1 g 1 → Agree f g 12 33 → fcbRight f ≡ fcbRight g
+  unfolding fcbRight
+  fcbRight-cong n h =
+      rw (right-cong false f 1 g 1 n, numbers-cong f g (λ i a b. h i (omega arith) (omega arith)), h 32 (omega arith) (omega arith))
+
+fitting-cong : (d : Rows) (map f g : Bytes) (x : Found) → slotsOf f ≡ slotsOf g → fitting d map f x ≡ fitting d map g x
+fitting-cong d map f g (At e) h = rw h
+fitting-cong d map f g Nothing h = refl
+
+-- whether an FCB is current, and for which entry
+pub current-cong : (f g : Bytes) → 32 ≤ length f → 32 ≤ length g → SameName f 1 g 1 → Agree f g 12 33
+    → (G : Geometry) (d : Rows) (map : Bytes) (user : ℕ) → current G d map user f ≡ current G d map user g
+unfolding current
+current-cong f g hf hg n h G d map user =
+    rw (fcbRight-cong f g n h, extent-cong f g (λ i a b. h i (omega arith) (omega arith)), findFile-asked f 1 g 1 n G d user (extentOf g),
+    fitting-cong d map f g (findFile G d user g 1 (extentOf g)) (slots-cong f g hf hg (λ i a b. h i (omega arith) (omega arith))))

@@ -1,0 +1,6 @@
+pub mod Agree
+pub mod Closing
+pub mod Entering
+pub mod Making
+pub mod Numbers
+pub mod Target

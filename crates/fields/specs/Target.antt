@@ -1,0 +1,292 @@
+-- Where a record call's target is, and what reading and writing it leave, field by field.
+use mathlib.Core.Path.{_≡_, refl, ap, sym, _∙_}
+use mathlib.Core.Bool.{Bool, true, false, cond}
+use Prim.Native.Nat.{ℕ, _+_, _*_, _/_, _%_, _≤_, _<_, max}
+use native.Mathlib.Nat.{mod-lt}
+use native.Mathlib.Omega.{arith}
+use lib.Dec.{eqb}
+use lib.ListN.{length, getD, set, length-set}
+use lib.Seq.{getD-set-same, getD-set-other}
+use borrow.Author.Tests.{eqb-true, eqb-false, eq-eqb, ne-eqb}
+use Rattle.lists.specs.Cases.{split, bool-cases, eq-or-ne}
+use Rattle.lists.specs.Product.{first-below, same-digits}
+use Rattle.format.specs.Diskette.{Bytes, Geometry, Sound, diskRecord, recordAt, withRecord}
+use Rattle.format.specs.Entries.{entryAt, withEntry, exOf, s2Of, rcOf, slotOf, slotCount, extentOf, countIn, slotFor}
+use Rattle.format.specs.Notes.{noteAt, pendingFor, withNote}
+use Rattle.format.specs.Fcb.{crOf, randomOf}
+use Rattle.disk.specs.Places.{blockRecords, block-record, block-once}
+use Rattle.model.specs.Lent.{Lent, rowsOf}
+use Rattle.model.specs.Closing.{closedImage, closedMap}
+use Rattle.model.specs.Entering.{entered}
+use Rattle.model.specs.Target.{extents, isRandom, targetExtent, targetRecord, crAfter, stays, targetSlot, placeIn, moved, made, nextMade, haveRead, writtenCount, writtenFcb, writtenMap, haveWritten}
+use Rattle.fields.specs.Agree.{Agree, SameName, name-cong, slot-cong, extent-cong, random-cong}
+
+-- ---- the target
+module _ (n : ℕ) (fcb : Bytes) where
+  -- 33 and 34
+  module _ (random : isRandom n ≡ true) where
+    pub extent-random : targetExtent n fcb ≡ randomOf fcb / 128
+    unfolding targetExtent
+    extent-random = rw random
+
+    pub record-random : targetRecord n fcb ≡ randomOf fcb % 128
+    unfolding targetRecord
+    record-random = rw random
+
+    pub crAfter-random : crAfter n fcb ≡ targetRecord n fcb
+    unfolding crAfter
+    crAfter-random = rw random
+
+  -- 20 and 21: the record at cr, or past the last of the extent the first of the next
+  module _ (sequential : isRandom n ≡ false) where
+    pub extent-within : (crOf fcb ≡ 128 → ⊥) → targetExtent n fcb ≡ extentOf fcb
+    unfolding targetExtent
+    extent-within h = rw (sequential, ne-eqb (crOf fcb) 128 h)
+
+    pub record-within : (crOf fcb ≡ 128 → ⊥) → targetRecord n fcb ≡ crOf fcb
+    unfolding targetRecord
+    record-within h = rw (sequential, ne-eqb (crOf fcb) 128 h)
+
+    pub extent-past : crOf fcb ≡ 128 → targetExtent n fcb ≡ extentOf fcb + 1
+    unfolding targetExtent
+    extent-past h = rw (sequential, eq-eqb (crOf fcb) 128 h)
+
+    pub record-past : crOf fcb ≡ 128 → targetRecord n fcb ≡ 0
+    unfolding targetRecord
+    record-past h = rw (sequential, eq-eqb (crOf fcb) 128 h)
+
+    pub crAfter-sequential : crAfter n fcb ≡ targetRecord n fcb + 1
+    unfolding crAfter
+    crAfter-sequential = rw sequential
+
+  -- the target's record is one of an extent's 128
+  pub record-below : crOf fcb ≤ 128 → targetRecord n fcb < 128
+  record-below h =
+      split (bool-cases (isRandom n)) (λ r. rw (record-random r) (omega arith))
+      (λ s. split (eq-or-ne (crOf fcb) 128) (λ e. rw (record-past s e) (omega arith)) (λ e. rw (record-within s e) (omega arith)))
+
+  pub crAfter-high : crOf fcb ≤ 128 → crAfter n fcb ≤ 128
+  crAfter-high h =
+      split (bool-cases (isRandom n)) (λ r. rw (crAfter-random r) (omega (arith, record-below h)))
+      (λ s. rw (crAfter-sequential s) (omega (arith, record-below h)))
+
+  -- a random record that is in range is of an extent that is; a sequential one is at most one past its FCB's
+  pub extent-random-below : isRandom n ≡ true → randomOf fcb ≤ 262143 → targetExtent n fcb < extents
+  extent-random-below r h = rw (extent-random r) (omega arith)
+
+  pub extent-sequential-high : isRandom n ≡ false → targetExtent n fcb ≤ extentOf fcb + 1
+  extent-sequential-high s =
+      split (eq-or-ne (crOf fcb) 128) (λ e. rw (extent-past s e) (omega arith)) (λ e. rw (extent-within s e) (omega arith))
+
+  pub stays-extent : stays n fcb ≡ true → targetExtent n fcb ≡ extentOf fcb
+  unfolding stays
+  stays-extent t = eqb-true _ _ t
+
+  pub moves-extent : stays n fcb ≡ false → targetExtent n fcb ≡ extentOf fcb → ⊥
+  unfolding stays
+  moves-extent f = eqb-false _ _ f
+
+-- ---- the slot and the place of a record
+module _ {G : Geometry} (S : Sound G) where
+  pub slotFor-below : (ext r : ℕ) → r < 128 → slotFor G ext r < slotCount
+  unfolding slotFor
+  slotFor-below ext r h = first-below (G .perBlock) r slotCount (omega (arith, S .slots-hold))
+
+  pub targetSlot-below : (n : ℕ) (fcb : Bytes) → crOf fcb ≤ 128 → targetSlot G n fcb < slotCount
+  unfolding targetSlot
+  targetSlot-below n fcb h = slotFor-below (targetExtent n fcb) (targetRecord n fcb) (record-below n fcb h)
+
+  pub place-below : (b r : ℕ) → b < G .blocks → placeIn G b r < blockRecords G
+  unfolding placeIn
+  place-below b r h = block-record G b (r % G .perBlock) h (mod-lt r (S .some-record))
+
+  -- records of two blocks, and two records of one slot, are two places
+  pub place-block : (b r c q : ℕ) → placeIn G b r ≡ placeIn G c q → b ≡ c
+  unfolding placeIn
+  place-block b r c q e = (block-once G b (r % G .perBlock) c (q % G .perBlock) (mod-lt r (S .some-record)) (mod-lt q (S .some-record)) e) .0
+
+  pub place-record : (ext b r c q : ℕ) → placeIn G b r ≡ placeIn G c q → slotFor G ext r ≡ slotFor G ext q → r ≡ q
+  unfolding placeIn slotFor
+  place-record ext b r c q e s =
+      same-digits (G .perBlock) r q s
+      ((block-once G b (r % G .perBlock) c (q % G .perBlock) (mod-lt r (S .some-record)) (mod-lt q (S .some-record)) e) .1)
+
+-- ---- moving
+module _ (G : Geometry) (n : ℕ) (l : Lent) (e t : ℕ) where
+  pub image-moved : moved G n l e t .image ≡ closedImage G (l .image) e (l .fcb)
+  unfolding moved
+  image-moved = refl
+
+  pub map-moved : moved G n l e t .map ≡ closedMap (rowsOf G l e) (l .fcb) (l .map)
+  unfolding moved
+  map-moved = refl
+
+  pub fcb-moved : moved G n l e t .fcb ≡ entered (l .fcb) (rowsOf G l t)
+  unfolding moved
+  fcb-moved = refl
+
+  pub buffer-moved : moved G n l e t .buffer ≡ l .buffer
+  unfolding moved
+  buffer-moved = refl
+
+  pub image-made : made G n l e t .image ≡ withEntry G (closedImage G (l .image) e (l .fcb)) t (nextMade G n l e)
+  unfolding made
+  image-made = refl
+
+  pub map-made : made G n l e t .map ≡ closedMap (rowsOf G l e) (l .fcb) (l .map)
+  unfolding made
+  map-made = refl
+
+  pub fcb-made : made G n l e t .fcb ≡ entered (l .fcb) (nextMade G n l e)
+  unfolding made
+  fcb-made = refl
+
+  pub buffer-made : made G n l e t .buffer ≡ l .buffer
+  unfolding made
+  buffer-made = refl
+
+-- ---- reading: the buffer gets the record, the FCB its cr
+module _ (G : Geometry) (b r cr : ℕ) (l : Lent) where
+  pub image-read : haveRead G b r cr l .image ≡ l .image
+  unfolding haveRead
+  image-read = refl
+
+  pub map-read : haveRead G b r cr l .map ≡ l .map
+  unfolding haveRead
+  map-read = refl
+
+  pub fcb-read : haveRead G b r cr l .fcb ≡ set (l .fcb) 32 cr
+  unfolding haveRead
+  fcb-read = refl
+
+  pub buffer-read : haveRead G b r cr l .buffer ≡ recordAt G (l .image) (placeIn G b r)
+  unfolding haveRead
+  buffer-read = refl
+
+module _ (fcb : Bytes) (cr : ℕ) where
+  pub byte-read : (i : ℕ) → (i ≡ 32 → ⊥) → getD (set fcb 32 cr) i 0 ≡ getD fcb i 0
+  byte-read i h = getD-set-other fcb 32 i cr 0 h
+
+  pub cr-read : length fcb ≡ 36 → crOf (set fcb 32 cr) ≡ cr
+  cr-read hf = getD-set-same fcb 32 cr 0 (omega arith)
+
+  pub head-read : Agree (set fcb 32 cr) fcb 0 32
+  head-read i a b = byte-read i (λ q. omega arith)
+
+  pub name-read : SameName (set fcb 32 cr) 1 fcb 1
+  name-read = name-cong (set fcb 32 cr) fcb (λ i a b. head-read i (omega arith) (omega arith))
+
+  pub slot-read : (j : ℕ) → j < slotCount → slotOf (set fcb 32 cr) j ≡ slotOf fcb j
+  slot-read = slot-cong (set fcb 32 cr) fcb (λ i a b. head-read i (omega arith) b)
+
+  pub extent-read : extentOf (set fcb 32 cr) ≡ extentOf fcb
+  extent-read = extent-cong (set fcb 32 cr) fcb (λ i a b. head-read i (omega arith) (omega arith))
+
+  pub random-read : randomOf (set fcb 32 cr) ≡ randomOf fcb
+  random-read = random-cong (set fcb 32 cr) fcb (λ i a b. byte-read i (λ q. omega arith))
+
+-- ---- writing: the record, the note, and the FCB's slot, rc and cr
+module _ (G : Geometry) (t j b r cr : ℕ) (l : Lent) where
+  pub image-written : haveWritten G t j b r cr l .image ≡ withRecord G (l .image) (placeIn G b r) (l .buffer)
+  unfolding haveWritten
+  image-written = refl
+
+  pub map-written : haveWritten G t j b r cr l .map ≡ writtenMap (l .map) (l .fcb) t j b
+  unfolding haveWritten
+  map-written = refl
+
+  pub fcb-written : haveWritten G t j b r cr l .fcb ≡ writtenFcb (l .fcb) (entryAt G (l .image) t) j b r cr
+  unfolding haveWritten
+  fcb-written = refl
+
+  pub buffer-written : haveWritten G t j b r cr l .buffer ≡ l .buffer
+  unfolding haveWritten
+  buffer-written = refl
+
+module _ (fcb row : Bytes) (r : ℕ) where
+  pub count-written-target : r < writtenCount fcb row r
+  unfolding writtenCount
+  count-written-target = omega arith
+
+  pub count-written-fcb : rcOf fcb ≤ writtenCount fcb row r
+  unfolding writtenCount
+  count-written-fcb = omega arith
+
+  pub count-written-row : countIn row (extentOf fcb) ≤ writtenCount fcb row r
+  unfolding writtenCount
+  count-written-row = omega arith
+
+  pub count-written-high : (n : ℕ) → rcOf fcb ≤ n → countIn row (extentOf fcb) ≤ n → r < n → writtenCount fcb row r ≤ n
+  unfolding writtenCount
+  count-written-high n a b c = omega arith
+
+module _ (fcb row : Bytes) (j b r cr : ℕ) where
+  pub length-writtenFcb : length (writtenFcb fcb row j b r cr) ≡ length fcb
+  unfolding writtenFcb
+  length-writtenFcb =
+      length-set (set (set fcb (16 + j) b) 15 (writtenCount fcb row r)) 32 cr ∙ length-set (set fcb (16 + j) b) 15 (writtenCount fcb row r)
+      ∙ length-set fcb (16 + j) b
+
+  pub byte-written : (i : ℕ) → (i ≡ 16 + j → ⊥) → (i ≡ 15 → ⊥) → (i ≡ 32 → ⊥) → getD (writtenFcb fcb row j b r cr) i 0 ≡ getD fcb i 0
+  unfolding writtenFcb
+  byte-written i p q o =
+      getD-set-other (set (set fcb (16 + j) b) 15 (writtenCount fcb row r)) 32 i cr 0 o
+      ∙ getD-set-other (set fcb (16 + j) b) 15 i (writtenCount fcb row r) 0 q ∙ getD-set-other fcb (16 + j) i b 0 p
+
+  pub random-written : j < slotCount → randomOf (writtenFcb fcb row j b r cr) ≡ randomOf fcb
+  random-written hj =
+      random-cong (writtenFcb fcb row j b r cr) fcb (λ i p q. byte-written i (λ z. omega arith) (λ z. omega arith) (λ z. omega arith))
+
+  -- byte 0, the name, ex, s1 and s2 stay
+  pub head-written : Agree (writtenFcb fcb row j b r cr) fcb 0 15
+  head-written i p q = byte-written i (λ z. omega arith) (λ z. omega arith) (λ z. omega arith)
+
+  pub name-written : SameName (writtenFcb fcb row j b r cr) 1 fcb 1
+  name-written = name-cong (writtenFcb fcb row j b r cr) fcb (λ i p q. head-written i (omega arith) (omega arith))
+
+  pub extent-written : extentOf (writtenFcb fcb row j b r cr) ≡ extentOf fcb
+  extent-written = extent-cong (writtenFcb fcb row j b r cr) fcb (λ i p q. head-written i (omega arith) q)
+
+  pub slot-written-other : (k : ℕ) → k < slotCount → (k ≡ j → ⊥) → slotOf (writtenFcb fcb row j b r cr) k ≡ slotOf fcb k
+  unfolding slotOf
+  slot-written-other k h n = byte-written (16 + k) (λ z. n (omega arith)) (λ z. omega arith) (λ z. omega arith)
+
+  module _ (hf : length fcb ≡ 36) (hj : j < slotCount) where
+    pub slot-written : slotOf (writtenFcb fcb row j b r cr) j ≡ b
+    unfolding slotOf writtenFcb
+    slot-written =
+        getD-set-other (set (set fcb (16 + j) b) 15 (writtenCount fcb row r)) 32 (16 + j) cr 0 (λ z. omega arith)
+        ∙ getD-set-other (set fcb (16 + j) b) 15 (16 + j) (writtenCount fcb row r) 0 (λ z. omega arith) ∙ getD-set-same fcb (16 + j) b 0 (omega arith)
+
+    pub rc-written : rcOf (writtenFcb fcb row j b r cr) ≡ writtenCount fcb row r
+    unfolding writtenFcb
+    rc-written =
+        getD-set-other (set (set fcb (16 + j) b) 15 (writtenCount fcb row r)) 32 15 cr 0 (λ z. omega arith)
+        ∙ getD-set-same (set fcb (16 + j) b) 15 (writtenCount fcb row r) 0 (omega (arith, length-set fcb (16 + j) b))
+
+    pub cr-written : crOf (writtenFcb fcb row j b r cr) ≡ cr
+    unfolding writtenFcb
+    cr-written =
+        getD-set-same (set (set fcb (16 + j) b) 15 (writtenCount fcb row r)) 32 cr 0
+        (omega (arith, length-set (set fcb (16 + j) b) 15 (writtenCount fcb row r), length-set fcb (16 + j) b))
+
+module _ (map fcb : Bytes) (t j b : ℕ) where
+  pub length-writtenMap : length (writtenMap map fcb t j b) ≡ length map
+  unfolding writtenMap withNote
+  length-writtenMap =
+      split (bool-cases (eqb (slotOf fcb j) 0)) (λ e. rw e (length-set map b (pendingFor t j))) (λ e. rw e)
+
+  -- a slot that has a block: no note changes
+  pub map-written-kept : (slotOf fcb j ≡ 0 → ⊥) → writtenMap map fcb t j b ≡ map
+  unfolding writtenMap
+  map-written-kept n = rw (ne-eqb (slotOf fcb j) 0 n)
+
+  -- a slot of 0: the block taken is pending for it
+  pub note-written : slotOf fcb j ≡ 0 → b < length map → noteAt (writtenMap map fcb t j b) b ≡ pendingFor t j
+  unfolding writtenMap withNote
+  note-written z h = rw (eq-eqb (slotOf fcb j) 0 z) (getD-set-same map b (pendingFor t j) 0 h)
+
+  pub note-written-other : (c : ℕ) → (c ≡ b → ⊥) → noteAt (writtenMap map fcb t j b) c ≡ noteAt map c
+  unfolding writtenMap withNote
+  note-written-other c n =
+      split (bool-cases (eqb (slotOf fcb j) 0)) (λ e. rw e (getD-set-other map b c (pendingFor t j) 0 n)) (λ e. rw e)

@@ -1,0 +1,121 @@
+-- What a table that passed says of each call, as facts that later laws use.
+use mathlib.Core.Path.{_≡_, refl, sym, ap, _∙_}
+use mathlib.Core.Logic.{_⊎_, inl, inr}
+use mathlib.Core.Bool.{Bool, true, false, not}
+use Prim.Native.Nat.{ℕ, _≤_, _<_}
+use lib.ListN.{length, getD}
+use Rattle.format.specs.Diskette.{Geometry, imageBytes, recordBytes}
+use Rattle.format.specs.Names.{nameRight}
+use Rattle.format.specs.Entries.{exOf, s2Of, named, readOnly, findNamed, findEmpty}
+use Rattle.format.specs.Consistent.{consistent}
+use Rattle.format.specs.Notes.{mapRight, findFree}
+use Rattle.format.specs.Fcb.{fcbBytes, crOf}
+use Rattle.format.specs.FoundLaws.{FoundAt}
+use Rattle.format.specs.declared.Found.the-variants.{Nothing}
+use Rattle.model.specs.declared.Session.{Session}
+use Rattle.model.specs.Lent.{Lent, rowsOf, searchOn}
+use Rattle.model.specs.Target.{extents, targetExtent, presentEntry, targetEntry, blockThere, recordThere, readOnlyThere}
+use Rattle.model.specs.Search.{patternOf, findHit}
+use Rattle.model.specs.Table.{usesFcb, askedEntry}
+use Rattle.table.specs.Own.{Call, call13, call15, call16, call17, call18, call19, call20, call21, call22, call23, call32, call33, call34, call35, call36, call46, call98}
+
+-- the lengths, the user and the search place are right
+pub record Fits (G : Geometry) (l : Lent) (s : Session) : Type 0 where
+  pub image-long : length (l .image) ≡ imageBytes G
+  pub map-long : length (l .map) ≡ G .blocks
+  pub fcb-long : length (l .fcb) ≡ fcbBytes
+  pub buffer-long : length (l .buffer) ≡ recordBytes
+  pub user-low : s .user ≤ 15
+  pub place-low : s .place ≤ G .entries
+
+module _ (G : Geometry) (l : Lent) (s : Session) where
+  -- the files that a call names, by a pattern or not: there are some, and none of them is read-only
+  pub record NamedFiles (wild : Bool) : Type 0 where
+    pub some : FoundAt (findNamed G (rowsOf G l) wild (s .user) (l .fcb) 1 0)
+    pub writable : (e : ℕ) → e < G .entries → named wild (s .user) (l .fcb) 1 (rowsOf G l e) ≡ true → readOnly (rowsOf G l e) ≡ false
+
+  pub record Opens : Type 0 where
+    pub name : nameRight false (l .fcb) 1 ≡ true
+    pub ex : exOf (l .fcb) ≤ 31
+    pub entry : FoundAt (askedEntry G l (s .user))
+
+  pub record Closes : Type 0 where
+    pub entry : FoundAt (presentEntry G (s .user) l)
+
+  pub record Searches : Type 0 where
+    pub name : nameRight true (l .fcb) 1 ≡ true
+    pub ex : (exOf (l .fcb) ≤ 31) ⊎ (exOf (l .fcb) ≡ 63)
+    pub entry : FoundAt (findHit G (rowsOf G l) (s .user) (patternOf (l .fcb)) 0)
+
+  pub record SearchesOn : Type 0 where
+    pub on : searchOn s ≡ true
+    pub entry : FoundAt (findHit G (rowsOf G l) (s .user) (s .pattern) (s .place))
+
+  pub record Deletes : Type 0 where
+    pub name : nameRight true (l .fcb) 1 ≡ true
+    pub files : NamedFiles true
+
+  pub record Makes : Type 0 where
+    pub name : nameRight false (l .fcb) 1 ≡ true
+    pub ex : exOf (l .fcb) ≤ 31
+    pub new : askedEntry G l (s .user) ≡ Nothing
+    pub entry : FoundAt (findEmpty G (rowsOf G l))
+
+  pub record Renames : Type 0 where
+    pub name : nameRight false (l .fcb) 1 ≡ true
+    pub new-name : nameRight false (l .fcb) 17 ≡ true
+    pub files : NamedFiles false
+    pub new : (e : ℕ) → e < G .entries → named false (s .user) (l .fcb) 17 (rowsOf G l e) ≡ false
+
+  pub record Sizes : Type 0 where
+    pub name : nameRight false (l .fcb) 1 ≡ true
+    pub some : FoundAt (findNamed G (rowsOf G l) false (s .user) (l .fcb) 1 0)
+
+  pub record Positions : Type 0 where
+    pub ex : exOf (l .fcb) ≤ 31
+    pub s2 : s2Of (l .fcb) ≤ 63
+    pub cr : crOf (l .fcb) ≤ 128
+
+  -- 20 and 33
+  pub record Reads (n : ℕ) : Type 0 where
+    pub entry : FoundAt (presentEntry G (s .user) l)
+    pub target : FoundAt (targetEntry G n (s .user) l)
+    pub extent : targetExtent n (l .fcb) < extents
+    pub there : recordThere G n (s .user) l ≡ true
+
+  -- 21 and 34: an entry for the target or an empty one, and a block or a free one
+  pub record Writes (n : ℕ) : Type 0 where
+    pub entry : FoundAt (presentEntry G (s .user) l)
+    pub writable : readOnlyThere G n (s .user) l ≡ false
+    pub extent : targetExtent n (l .fcb) < extents
+    pub room : targetEntry G n (s .user) l ≡ Nothing → FoundAt (findEmpty G (rowsOf G l))
+    pub block : blockThere G n (s .user) l ≡ 0 → FoundAt (findFree G (l .map))
+
+  -- a call's own facts
+  abbrev pub Own : ℕ → {n : ℕ} → Call n → Type 0
+  Own argument call13 = Unit {0}
+  Own argument call15 = Opens
+  Own argument call16 = Closes
+  Own argument call17 = Searches
+  Own argument call18 = SearchesOn
+  Own argument call19 = Deletes
+  Own argument call20 = Reads 20
+  Own argument call21 = Writes 21
+  Own argument call22 = Makes
+  Own argument call23 = Renames
+  Own argument call32 = (argument ≡ 255) ⊎ (argument ≤ 15)
+  Own argument call33 = Reads 33
+  Own argument call34 = Writes 34
+  Own argument call35 = Sizes
+  Own argument call36 = Positions
+  Own argument call46 = Unit {0}
+  Own argument call98 = Unit {0}
+
+-- what the table has left, once no row holds
+pub record AcceptedCall (G : Geometry) (n argument : ℕ) (l : Lent) (s : Session) : Type 0 where
+  pub call : Call n
+  pub fits : Fits G l s
+  pub drive : usesFcb n ≡ true → getD (l .fcb) 0 0 ≤ 1
+  pub image-right : consistent G (l .image) ≡ true
+  pub map-right : (n ≡ 13 → ⊥) → mapRight G (rowsOf G l) (l .map) ≡ true
+  pub own : Own G l s argument call

@@ -1,0 +1,6 @@
+pub mod First
+pub mod Own
+pub mod Present
+pub mod Facts
+pub mod Reflect
+pub mod Accept

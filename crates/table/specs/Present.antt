@@ -1,0 +1,111 @@
+-- What a current FCB says, and that a record that is there has an entry for its extent, below extent 2,048.
+use mathlib.Core.Path.{_≡_, refl, sym, ap, _∙_}
+use mathlib.Core.Bool.{Bool, true, false, cond, not}
+use Prim.Native.Nat.{ℕ, zero, _+_, _*_, _≤_, _<_}
+use native.Mathlib.Omega.{arith}
+use lib.Dec.{eqb, leb, ltb}
+use borrow.Author.Tests.{eqb-true, leb-true, le-leb, ne-eqb, ltb-true}
+use Rattle.lists.specs.Cases.{split, bool-cases, not-both}
+use Rattle.lists.specs.Tests.{_and_, and-left, and-right, or-then}
+use Rattle.lists.specs.Below.{allBelow, all-at}
+use Rattle.format.specs.Diskette.{Bytes, Geometry}
+use Rattle.format.specs.Entries.{Rows, entryAt, userOf, exOf, s2Of, empty, used, slotsOf, extentOf, covers, named, isFile, findFile}
+use Rattle.format.specs.Consistent.{numbersRight, entryRight, consistentRows, consistent}
+use Rattle.format.specs.Fcb.{fcbRight, slotsFit, fitting, current}
+use Rattle.format.specs.FoundLaws.{at-nothing, at-same, FoundAt, First, found-first}
+use Rattle.format.specs.declared.Found.{Found}
+use Rattle.format.specs.declared.Found.the-variants.{At, Nothing}
+use Rattle.model.specs.Lent.{Lent, rowsOf}
+use Rattle.model.specs.Target.{extents, targetExtent, targetRecord, presentEntry, stays, targetEntry, countAt, countThere, blockThere, recordThere}
+
+-- the FCB is current, and e is its entry
+pub record Current (G : Geometry) (d : Rows) (map : Bytes) (user : ℕ) (fcb : Bytes) (e : ℕ) : Type 0 where
+  pub fcb-right : fcbRight fcb ≡ true
+  pub entry : findFile G d user fcb 1 (extentOf fcb) ≡ At e
+  pub slots : slotsFit map e (slotsOf (d e)) (slotsOf fcb) ≡ true
+
+module _ (G : Geometry) (d : Rows) (map : Bytes) (user : ℕ) (fcb : Bytes) (e : ℕ) where
+  fitting-at : (r : Found) → fitting d map fcb r ≡ At e → (r ≡ At e) × (slotsFit map e (slotsOf (d e)) (slotsOf fcb) ≡ true)
+  fitting-at (At k) q =
+      split (bool-cases (slotsFit map k (slotsOf (d k)) (slotsOf fcb)))
+      (λ t. let z : At k ≡ At e = rw t at q in let w : k ≡ e = at-same k e z in (z, rw w at t))
+      (λ f. let z : Nothing ≡ At e = rw f at q in at-nothing e (sym z))
+  fitting-at Nothing q = at-nothing e (sym q)
+
+  pub current-elim : current G d map user fcb ≡ At e → Current G d map user fcb e
+  unfolding current
+  current-elim q =
+      split (bool-cases (fcbRight fcb))
+      (λ t. let z : fitting d map fcb (findFile G d user fcb 1 (extentOf fcb)) ≡ At e = rw t at q in
+      let f = fitting-at (findFile G d user fcb 1 (extentOf fcb)) z in
+      record { fcb-right = t; entry = f .0; slots = f .1 })
+      (λ f. let z : Nothing ≡ At e = rw f at q in at-nothing e (sym z))
+
+  pub current-intro : Current G d map user fcb e → current G d map user fcb ≡ At e
+  unfolding current
+  current-intro c = rw (c .fcb-right, c .entry, c .slots)
+
+-- ---- an entry of a consistent directory that a file's look-up has found
+module _ (G : Geometry) (d : Rows) (user : ℕ) (s : Bytes) (q ext : ℕ) (e : ℕ) (at : findFile G d user s q ext ≡ At e) where
+  file-first : First (λ (e : ℕ). isFile user s q ext (d e)) 0 (G .entries) e
+  unfolding findFile
+  file-first = found-first _ 0 (G .entries) e at
+
+  pub file-below : e < G .entries
+  file-below = file-first .below
+
+  pub file-is : isFile user s q ext (d e) ≡ true
+  file-is = file-first .holds
+
+  pub file-user : userOf (d e) ≡ user
+  unfolding isFile named
+  file-user = eqb-true _ _ (and-left _ _ (and-left _ _ file-is))
+
+  pub file-extent : extentOf (d e) ≡ ext
+  unfolding isFile covers
+  file-extent = eqb-true _ _ (and-right _ _ file-is)
+
+-- a row that is right and whose byte 0 is a user has its numbers in range
+pub user-numbers : (G : Geometry) (r : Bytes) → entryRight G r ≡ true → userOf r ≤ 15 → numbersRight r ≡ true
+unfolding entryRight empty
+user-numbers G r h low =
+    let full : eqb (userOf r) 229 ≡ false = ne-eqb (userOf r) 229 (λ q. omega arith) in
+    and-left _ _ (and-right _ _ (and-right _ _ (sym (or-then _ _ full) ∙ h)))
+
+pub numbers-extent : (r : Bytes) → numbersRight r ≡ true → extentOf r < extents
+unfolding numbersRight extentOf
+numbers-extent r h =
+    let x : exOf r ≤ 31 = leb-true _ _ (and-left _ _ h) in
+    let y : s2Of r ≤ 63 = leb-true _ _ (and-left _ _ (and-right _ _ h)) in omega arith
+
+pub file-extent-below : (G : Geometry) (img : Bytes) (user : ℕ) (s : Bytes) (q ext e : ℕ) → consistent G img ≡ true → user ≤ 15
+    → findFile G (entryAt G img) user s q ext ≡ At e → ext < extents
+unfolding consistent consistentRows
+file-extent-below G img user s q ext e right low at =
+    let below = file-below G (entryAt G img) user s q ext e at in
+    let is : extentOf (entryAt G img e) ≡ ext = file-extent G (entryAt G img) user s q ext e at in
+    let mine : userOf (entryAt G img e) ≡ user = file-user G (entryAt G img) user s q ext e at in
+    let fine = user-numbers G (entryAt G img e) (all-at _ (G .entries) (and-left _ _ right) e below) (omega arith) in
+    omega (arith, numbers-extent (entryAt G img e) fine)
+
+-- ---- the target
+module _ (G : Geometry) (n user : ℕ) (l : Lent) where
+  -- where there is no move, the target's entry is the FCB's
+  pub target-present : (e : ℕ) → presentEntry G user l ≡ At e → stays n (l .fcb) ≡ true → targetEntry G n user l ≡ At e
+  unfolding presentEntry stays targetEntry
+  target-present e at t =
+      let q : targetExtent n (l .fcb) ≡ extentOf (l .fcb) = eqb-true _ _ t in
+      rw q (current-elim G (rowsOf G l) (l .map) user (l .fcb) e at .entry)
+
+  some-count : (r : Found) → targetRecord n (l .fcb) < countAt G n user l r → FoundAt r
+  some-count (At k) h = record { place = k; is = refl }
+  some-count Nothing h = absurd (omega arith)
+
+  -- a record that is there has an entry for its extent
+  pub there-target : FoundAt (presentEntry G user l) → recordThere G n user l ≡ true → FoundAt (targetEntry G n user l)
+  unfolding recordThere countThere
+  there-target p t =
+      split (bool-cases (stays n (l .fcb)))
+      (λ y. record { place = p .place; is = target-present (p .place) (p .is) y })
+      (λ y. let h : ltb (targetRecord n (l .fcb)) (countAt G n user l (targetEntry G n user l)) ≡ true = rw y at (and-left _ _ t) in
+      some-count (targetEntry G n user l) (ltb-true _ _ h))

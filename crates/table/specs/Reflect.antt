@@ -1,0 +1,152 @@
+-- The tests of single rows and the facts imply each other.
+use mathlib.Core.Path.{_≡_, refl, sym, ap, _∙_}
+use mathlib.Core.Logic.{_⊎_, inl, inr}
+use mathlib.Core.Bool.{Bool, true, false, not}
+use Prim.Native.Nat.{ℕ, _/_, _≤_, _<_}
+use native.Mathlib.Omega.{arith}
+use lib.Dec.{eqb, leb, ltb}
+use lib.ListN.{length, getD}
+use borrow.Author.Tests.{eqb-true, eqb-false, eq-eqb, ne-eqb, leb-true, le-leb, leb-false, lt-leb, ltb-false, le-ltb, not-true, not-false}
+use Rattle.lists.specs.Cases.{split, bool-cases, eq-or-ne, lt-or-le, clash, not-both}
+use Rattle.lists.specs.Tests.{_and_, _or_, and-left, and-right, and-both, and-fails-left, and-fails-right, and-then, or-left, or-right, or-then, or-cases}
+use Rattle.lists.specs.Below.{any-never, any-empty}
+use Rattle.format.specs.Diskette.{Geometry, imageBytes, recordBytes}
+use Rattle.format.specs.Names.{nameRight}
+use Rattle.format.specs.Entries.{exOf, s2Of, named, readOnly, findNamed, findEmpty}
+use Rattle.format.specs.Consistent.{consistent}
+use Rattle.format.specs.Notes.{mapRight, findFree}
+use Rattle.format.specs.Fcb.{fcbBytes, crOf, randomOf}
+use Rattle.format.specs.Found.{isFound}
+use Rattle.format.specs.FoundLaws.{FoundAt, is-found, found-so, not-found, found-none, none-found}
+use Rattle.format.specs.declared.Found.{Found}
+use Rattle.format.specs.declared.Found.the-variants.{At, Nothing}
+use Rattle.model.specs.declared.Session.{Session}
+use Rattle.model.specs.declared.Verdict.the-variants.{Passed}
+use Rattle.model.specs.Lent.{Lent, rowsOf, searchOn}
+use Rattle.model.specs.Target.{extents, extentRecords, isRandom, targetExtent, presentEntry, targetEntry, blockThere, recordThere, readOnlyThere, stays}
+use Rattle.model.specs.Search.{patternOf, findHit}
+use Rattle.model.specs.Table.{usesFcb, isListed, lengthsRight, parametersRight, diskRight, anyNamed, anyReadOnly, askedEntry, positionRight, firstRow, verdict}
+use Rattle.table.specs.First.{NoneHolds, passed-none, none-passed, passed-refused}
+use Rattle.table.specs.Own.{Call, call13, call15, call16, call17, call18, call19, call20, call21, call22, call23, call32, call33, call34, call35, call36, call46, call98, call-of, ownRows, rowsFor, verdict-rows, verdict-unlisted}
+use Rattle.table.specs.Present.{there-target, file-extent-below}
+use Rattle.table.specs.Facts.{Fits, NamedFiles, Opens, Closes, Searches, SearchesOn, Deletes, Makes, Renames, Sizes, Positions, Reads, Writes, Own, AcceptedCall}
+
+-- ---- tests of look-ups
+pub found : (r : Found) → not (isFound r) ≡ false → FoundAt r
+found r h = is-found r (not-false _ h)
+
+pub missed : (r : Found) → FoundAt r → not (isFound r) ≡ false
+missed r f = ap not (found-so r f)
+
+-- the second test failed though the first holds
+pub second-fails : (a b : Bool) → (a and b) ≡ false → a ≡ true → b ≡ false
+second-fails a b h t = sym (and-then a b t) ∙ h
+
+pub either-found : (r q : Found) → (not (isFound r) and not (isFound q)) ≡ false → r ≡ Nothing → FoundAt q
+either-found r q h z = found q (second-fails _ _ h (ap (λ (x : Found). not (isFound x)) z))
+
+pub either-missed : (r q : Found) → (r ≡ Nothing → FoundAt q) → (not (isFound r) and not (isFound q)) ≡ false
+either-missed (At k) q f = and-fails-left _ _ refl
+either-missed Nothing q f = and-fails-right _ _ (missed q (f refl))
+
+-- ---- tests of numbers
+pub pattern-of : (x : ℕ) → (ltb 31 x and not (eqb x 63)) ≡ false → (x ≤ 31) ⊎ (x ≡ 63)
+pattern-of x h = split (bool-cases (ltb 31 x)) (λ t. inr (eqb-true _ _ (not-false _ (second-fails _ _ h t)))) (λ f. inl (ltb-false _ _ f))
+
+pub pattern-right : (x : ℕ) → (x ≤ 31) ⊎ (x ≡ 63) → (ltb 31 x and not (eqb x 63)) ≡ false
+pattern-right x (inl h) = and-fails-left _ _ (le-ltb _ _ h)
+pattern-right x (inr h) = and-fails-right _ _ (ap not (eq-eqb _ _ h))
+
+pub argument-of : (a : ℕ) → not (eqb a 255 or leb a 15) ≡ false → (a ≡ 255) ⊎ (a ≤ 15)
+argument-of a h = split (or-cases _ _ (not-false _ h)) (λ t. inl (eqb-true _ _ t)) (λ t. inr (leb-true _ _ t))
+
+pub argument-right : (a : ℕ) → (a ≡ 255) ⊎ (a ≤ 15) → not (eqb a 255 or leb a 15) ≡ false
+argument-right a (inl h) = ap not (or-left _ _ (eq-eqb _ _ h))
+argument-right a (inr h) = ap not (or-right _ _ (le-leb _ _ h))
+
+-- ---- lengths, user, place and drive
+module _ (G : Geometry) (n : ℕ) (l : Lent) (s : Session) where
+  pub fits-of : parametersRight G l n s ≡ true → Fits G l s
+  unfolding parametersRight lengthsRight
+  fits-of h =
+      let p = and-left _ _ h in
+      let t = and-right _ _ h in
+      record {
+        image-long = eqb-true _ _ (and-left _ _ p);
+        map-long = eqb-true _ _ (and-left _ _ (and-right _ _ p));
+        fcb-long = eqb-true _ _ (and-left _ _ (and-right _ _ (and-right _ _ p)));
+        buffer-long = eqb-true _ _ (and-right _ _ (and-right _ _ (and-right _ _ p)));
+        user-low = leb-true _ _ (and-left _ _ t);
+        place-low = leb-true _ _ (and-left _ _ (and-right _ _ t));
+      }
+
+  pub drive-of : parametersRight G l n s ≡ true → usesFcb n ≡ true → getD (l .fcb) 0 0 ≤ 1
+  unfolding parametersRight
+  drive-of h u = leb-true _ _ (sym (or-then _ _ (ap not u)) ∙ and-right _ _ (and-right _ _ (and-right _ _ h)))
+
+  drive-right : (usesFcb n ≡ true → getD (l .fcb) 0 0 ≤ 1) → (not (usesFcb n) or leb (getD (l .fcb) 0 0) 1) ≡ true
+  drive-right d = split (bool-cases (usesFcb n)) (λ t. or-right _ _ (le-leb _ _ (d t))) (λ f. or-left _ _ (ap not f))
+
+  pub parameters-right : Fits G l s → (usesFcb n ≡ true → getD (l .fcb) 0 0 ≤ 1) → parametersRight G l n s ≡ true
+  unfolding parametersRight lengthsRight
+  parameters-right f d =
+      and-both _ _
+      (and-both _ _ (eq-eqb _ _ (f .image-long)) (and-both _ _ (eq-eqb _ _ (f .map-long)) (and-both _ _ (eq-eqb _ _ (f .fcb-long)) (eq-eqb _ _ (f .buffer-long)))))
+      (and-both _ _ (le-leb _ _ (f .user-low)) (and-both _ _ (le-leb _ _ (f .place-low)) (drive-right d)))
+
+  -- ---- the image and the map
+  pub image-of : diskRight G l n ≡ true → consistent G (l .image) ≡ true
+  unfolding diskRight
+  image-of h = and-left _ _ h
+
+  pub map-of : diskRight G l n ≡ true → (n ≡ 13 → ⊥) → mapRight G (rowsOf G l) (l .map) ≡ true
+  unfolding diskRight
+  map-of h ne = sym (or-then _ _ (ne-eqb n 13 ne)) ∙ and-right _ _ h
+
+  map-right : ((n ≡ 13 → ⊥) → mapRight G (rowsOf G l) (l .map) ≡ true) → (eqb n 13 or mapRight G (rowsOf G l) (l .map)) ≡ true
+  map-right m = split (eq-or-ne n 13) (λ q. or-left _ _ (eq-eqb _ _ q)) (λ q. or-right _ _ (m q))
+
+  pub disk-right : consistent G (l .image) ≡ true → ((n ≡ 13 → ⊥) → mapRight G (rowsOf G l) (l .map) ≡ true) → diskRight G l n ≡ true
+  unfolding diskRight
+  disk-right c m = and-both _ _ c (map-right m)
+
+-- ---- the tests of single calls
+module _ (G : Geometry) (l : Lent) (s : Session) where
+  pub some-of : (wild : Bool) (q : ℕ) → not (anyNamed G l wild (s .user) q) ≡ false → FoundAt (findNamed G (rowsOf G l) wild (s .user) (l .fcb) q 0)
+  unfolding anyNamed
+  some-of wild q h = found _ h
+
+  pub some-right : (wild : Bool) (q : ℕ) → FoundAt (findNamed G (rowsOf G l) wild (s .user) (l .fcb) q 0) → not (anyNamed G l wild (s .user) q) ≡ false
+  unfolding anyNamed
+  some-right wild q f = missed _ f
+
+  pub none-of : (q : ℕ) → anyNamed G l false (s .user) q ≡ false → (e : ℕ) → e < G .entries → named false (s .user) (l .fcb) q (rowsOf G l e) ≡ false
+  unfolding anyNamed findNamed
+  none-of q h e b = found-none _ 0 (G .entries) (not-found _ h) e (omega arith) b
+
+  pub none-right : (q : ℕ) → ((e : ℕ) → e < G .entries → named false (s .user) (l .fcb) q (rowsOf G l e) ≡ false) → anyNamed G l false (s .user) q ≡ false
+  unfolding anyNamed findNamed
+  none-right q f = ap isFound (none-found (λ (e : ℕ). named false (s .user) (l .fcb) q (rowsOf G l e)) 0 (G .entries) (omega arith) (λ j a b. f j b))
+
+  pub writable-of : (wild : Bool) → anyReadOnly G l wild (s .user) ≡ false
+      → (e : ℕ) → e < G .entries → named wild (s .user) (l .fcb) 1 (rowsOf G l e) ≡ true → readOnly (rowsOf G l e) ≡ false
+  unfolding anyReadOnly
+  writable-of wild h e b t = second-fails _ _ (any-never _ (G .entries) h e b) t
+
+  pub writable-right : (wild : Bool)
+      → ((e : ℕ) → e < G .entries → named wild (s .user) (l .fcb) 1 (rowsOf G l e) ≡ true → readOnly (rowsOf G l e) ≡ false)
+      → anyReadOnly G l wild (s .user) ≡ false
+  unfolding anyReadOnly
+  writable-right wild f =
+      any-empty _ (G .entries)
+      (λ e b. split (bool-cases (named wild (s .user) (l .fcb) 1 (rowsOf G l e))) (λ t. and-fails-right _ _ (f e b t)) (λ t. and-fails-left _ _ t))
+
+  pub positions-of : not (positionRight (l .fcb)) ≡ false → Positions G l s
+  unfolding positionRight
+  positions-of h =
+      let t = not-false _ h in
+      record { ex = leb-true _ _ (and-left _ _ t); s2 = leb-true _ _ (and-left _ _ (and-right _ _ t)); cr = leb-true _ _ (and-right _ _ (and-right _ _ t)) }
+
+  pub positions-right : Positions G l s → not (positionRight (l .fcb)) ≡ false
+  unfolding positionRight
+  positions-right p = ap not (and-both _ _ (le-leb _ _ (p .ex)) (and-both _ _ (le-leb _ _ (p .s2)) (le-leb _ _ (p .cr))))
