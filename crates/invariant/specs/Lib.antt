@@ -1,0 +1,5 @@
+pub mod Inv
+pub mod Carry
+pub mod Steps
+pub mod Close
+pub mod Change
