@@ -2,7 +2,7 @@
 --   A write that takes a block enters it for its entry and slot. An accepted close or move settles the FCB's blocks in the slots where
 --   the entry had 0; a delete all that is held for the entries it matched; freeing and log-in everything; any other call nothing.
 --   A refused call changes nothing.
-use mathlib.Core.Bool.{Bool, true, false, not, cond}
+use mathlib.Core.Bool.{Bool, true, not, cond}
 use mathlib.Core.List.{[], _∷_}
 use Prim.Native.Nat.{ℕ}
 use lib.Dec.{eqb}
@@ -43,8 +43,8 @@ unfoldable pub enteredFor : ℕ → ℕ → ℕ → Book → Book
 enteredFor b e j u c = cond (eqb c b) (pendingFor e j) (u c)
 
 -- ---- the answer of an accepted call: H is 0, and A is 0 for the record calls, not 255 for the others
-unfoldable pub accepted : ℕ → Answer → Bool
-accepted n a = eqb (a .h) 0 and cond (oneOf n (20 ∷ 21 ∷ 33 ∷ 34 ∷ [])) (eqb (a .a) 0) (not (eqb (a .a) 255))
+unfoldable pub acceptedAnswer : ℕ → Answer → Bool
+acceptedAnswer n a = eqb (a .h) 0 and cond (oneOf n (20 ∷ 21 ∷ 33 ∷ 34 ∷ [])) (eqb (a .a) 0) (not (eqb (a .a) 255))
 
 -- ---- call by call: the call was given l and s, and left o
 module _ (G : Geometry) (n : ℕ) (l : Lent) (s : Session) (o : Outcome) where
@@ -81,4 +81,4 @@ module _ (G : Geometry) (n : ℕ) (l : Lent) (s : Session) (o : Outcome) where
 
   -- the book after the call
   unfoldable pub bookStep : Book → Book
-  bookStep u = cond (accepted n (o .answer)) (bookBy u) u
+  bookStep u = cond (acceptedAnswer n (o .answer)) (bookBy u) u

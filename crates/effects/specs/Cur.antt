@@ -1,38 +1,32 @@
 -- A current FCB as facts, both ways with the test; and a record that can be read through one.
-use mathlib.Core.Path.{_≡_, refl, ap, sym, _∙_}
+use mathlib.Core.Path.{_≡_, ap, sym, _∙_}
 use mathlib.Core.Logic.{_⊎_, inl, inr}
-use mathlib.Core.Bool.{Bool, true, false, cond}
-use Prim.Native.Nat.{ℕ, _+_, _*_, _/_, _%_, _≤_, _<_}
+use mathlib.Core.Bool.{true, false}
+use Prim.Native.Nat.{ℕ, _%_, _≤_, _<_}
 use native.Mathlib.Nat.{mod-lt}
 use native.Mathlib.Omega.{arith}
 use lib.Dec.{eqb}
 use lib.ListN.{length, List·getD-eq-default}
 use borrow.Author.Tests.{eqb-true, eq-eqb}
-use Rattle.lists.specs.Cases.{split, bool-cases, lt-or-le}
+use Rattle.lists.specs.Cases.{split, lt-or-le}
 use Rattle.lists.specs.Tests.{_and_, _or_, and-left, and-right, and-both, or-left, or-right, or-cases}
 use Rattle.lists.specs.Below.{all-at, all-intro}
-use Rattle.format.specs.Diskette.{Bytes, Geometry, Sound, diskRecord}
-use Rattle.format.specs.Entries.{Rows, slotCount, slotOf, slotsOf, slotFor, rcOf, used, extentOf, named, isFile, findFile}
+use Rattle.format.specs.Diskette.{Bytes, Geometry, Sound}
+use Rattle.format.specs.Entries.{Rows, slotCount, slotOf, slotsOf, slotFor, rcOf, used, extentOf, named, isFile}
 use Rattle.format.specs.ListedLaws.{slot-at}
-use Rattle.format.specs.FoundLaws.{at-nothing, at-same}
 use Rattle.format.specs.Notes.{noteAt, pendingFor}
-use Rattle.format.specs.Fcb.{fcbRight, slotFits, slotsFit, fitting, current}
-use Rattle.format.specs.declared.Found.{Found}
-use Rattle.format.specs.declared.Found.the-variants.{At, Nothing}
+use Rattle.format.specs.Fcb.{fcbRight, slotFits, slotsFit, current}
+use Rattle.format.specs.declared.Found.the-variants.{At}
 use Rattle.consistency.specs.Facts.{Consistent}
 use Rattle.notes.specs.Numbers.{pending-not-free}
+use Rattle.invariant.specs.Close.{Held}
 use Rattle.rows.specs.Fields.{slot-for-below}
 use Rattle.rows.specs.Find.{file-says}
+use Rattle.table.specs.Present.{current-elim, current-intro}
 use Rattle.model.specs.Target.{extentRecords, placeIn}
-use Rattle.effects.specs.View.{View, viewOf, Right, Names, Mine, listed, pending}
+use Rattle.effects.specs.View.{View, viewOf, Names, Mine, listed, pending}
 use Rattle.effects.specs.Effect.{Foreign, Effect, Keeps}
 use Rattle.effects.specs.Naming.{file-named, file-used, file-found}
-
--- slot j of the entry is 0, and block b is pending for it
-pub record Held (G : Geometry) (d : Rows) (m : ℕ → ℕ) (e j b : ℕ) : Type 0 where
-  pub was : slotOf (d e) j ≡ 0
-  pub below : b < G .blocks
-  pub noted : m b ≡ pendingFor e j
 
 -- f is current for the user, and e is its entry
 pub record Cur (G : Geometry) (s : View) (user : ℕ) (f : Bytes) (e : ℕ) : Type 0 where
@@ -41,34 +35,8 @@ pub record Cur (G : Geometry) (s : View) (user : ℕ) (f : Bytes) (e : ℕ) : Ty
   pub file : isFile user f 1 (extentOf f) (s .rows e) ≡ true
   pub fits : (j : ℕ) → j < slotCount → (slotOf f j ≡ slotOf (s .rows e) j) ⊎ Held G (s .rows) (s .notes) e j (slotOf f j)
 
--- ---- the test
+-- ---- the slots
 module _ (G : Geometry) (d : Rows) (map : Bytes) (user : ℕ) (f : Bytes) where
-  -- an answer of the test, taken apart
-  pub record CurrentAt (e : ℕ) : Type 0 where
-    pub right : fcbRight f ≡ true
-    pub found : findFile G d user f 1 (extentOf f) ≡ At e
-    pub fit : slotsFit map e (slotsOf (d e)) (slotsOf f) ≡ true
-
-  pub current-at : (e : ℕ) → current G d map user f ≡ At e → CurrentAt e
-  unfolding current
-  current-at e q =
-      split (bool-cases (fcbRight f))
-      (λ r. let z : fitting d map f (findFile G d user f 1 (extentOf f)) ≡ At e = rw r at q in go r (findFile G d user f 1 (extentOf f)) refl z)
-      (λ r. let z : Nothing ≡ At e = rw r at q in at-nothing e (sym z))
-    where
-      go : fcbRight f ≡ true → (w : Found) → findFile G d user f 1 (extentOf f) ≡ w → fitting d map f w ≡ At e → CurrentAt e
-      go r (At k) p z =
-          split (bool-cases (slotsFit map k (slotsOf (d k)) (slotsOf f)))
-          (λ t. let y : At k ≡ At e = rw t at z in let i : k ≡ e = at-same k e y in
-          record { right = r; found = p ∙ ap At i; fit = rw (← i) t })
-          (λ t. let y : Nothing ≡ At e = rw t at z in at-nothing e (sym y))
-      go r Nothing p z = at-nothing e (sym z)
-
-  pub at-current : (e : ℕ) → CurrentAt e → current G d map user f ≡ At e
-  unfolding current
-  at-current e c = rw (c .right, c .found, c .fit)
-
-  -- slot by slot
   pub fits-held : length map ≡ G .blocks → (e : ℕ) → slotsFit map e (slotsOf (d e)) (slotsOf f) ≡ true
       → (j : ℕ) → j < slotCount → (slotOf f j ≡ slotOf (d e) j) ⊎ Held G d (noteAt map) e j (slotOf f j)
   unfolding slotsFit slotFits
@@ -79,7 +47,7 @@ module _ (G : Geometry) (d : Rows) (map : Bytes) (user : ℕ) (f : Bytes) where
       (λ q. let n : noteAt map (slotOf f j) ≡ pendingFor e j = eqb-true _ _ (and-right _ _ q) in
       inr (record {
         was = eqb-true _ _ (and-left _ _ q);
-        below = split (lt-or-le (slotOf f j) (G .blocks)) (λ h. h)
+        low = split (lt-or-le (slotOf f j) (G .blocks)) (λ h. h)
             (λ h. absurd (pending-not-free e j (sym n ∙ List·getD-eq-default map 0 (omega arith))));
         noted = n;
       }))
@@ -96,21 +64,21 @@ module _ (G : Geometry) (d : Rows) (map : Bytes) (user : ℕ) (f : Bytes) where
 module _ (G : Geometry) (img map : Bytes) (user : ℕ) (f : Bytes) (e : ℕ) where
   pub current-cur : length map ≡ G .blocks → current G (viewOf G img map .rows) map user f ≡ At e → Cur G (viewOf G img map) user f e
   current-cur wide q =
-      let c = current-at G (viewOf G img map .rows) map user f e q in
-      let p = file-says G (viewOf G img map .rows) user f 1 (extentOf f) e (c .found) in
+      let c = current-elim G (viewOf G img map .rows) map user f e q in
+      let p = file-says G (viewOf G img map .rows) user f 1 (extentOf f) e (c .entry) in
       record {
-        right = c .right;
+        right = c .fcb-right;
         low = p .below;
         file = p .holds;
-        fits = fits-held G (viewOf G img map .rows) map user f wide e (c .fit);
+        fits = fits-held G (viewOf G img map .rows) map user f wide e (c .slots);
       }
 
   pub cur-current : Consistent G (viewOf G img map .rows) → user ≤ 15 → Cur G (viewOf G img map) user f e → current G (viewOf G img map .rows) map user f ≡ At e
   cur-current c hu k =
-      at-current G (viewOf G img map .rows) map user f e record {
-        right = k .right;
-        found = file-found G (viewOf G img map .rows) c user hu f 1 (extentOf f) e (k .low) (k .file);
-        fit = held-fits G (viewOf G img map .rows) map user f e (k .fits);
+      current-intro G (viewOf G img map .rows) map user f e record {
+        fcb-right = k .right;
+        entry = file-found G (viewOf G img map .rows) c user hu f 1 (extentOf f) e (k .low) (k .file);
+        slots = held-fits G (viewOf G img map .rows) map user f e (k .fits);
       }
 
 -- ---- what a current FCB has
@@ -126,7 +94,7 @@ module _ (G : Geometry) (s : View) (user : ℕ) (hu : user ≤ 15) (f : Bytes) (
   cur-mine j l z =
       split (c .fits j l)
       (λ q. listed j record { entry = c .low; place = l; uses = cur-uses; is = sym q; real = z })
-      (λ h. pending j l (h .below) (h .noted))
+      (λ h. pending j l (h .low) (h .noted))
 
   -- where the FCB has 0, so has its entry
   pub cur-zero : (j : ℕ) → j < slotCount → slotOf f j ≡ 0 → slotOf (s .rows e) j ≡ 0
@@ -163,8 +131,8 @@ module _ {G : Geometry} (S : Sound G) (s t : View) (N : Names) (user : ℕ) (hu 
           fits = λ j l. split (c .fits j l) (λ q. inl (q ∙ sym (ap (λ (r : Bytes). slotOf r j) row)))
               (λ g. inr record {
                 was = ap (λ (r : Bytes). slotOf r j) row ∙ g .was;
-                below = g .below;
-                noted = kp (slotOf f j) e j (g .below) l cur-foreign (g .noted);
+                low = g .low;
+                noted = kp (slotOf f j) e j (g .low) l cur-foreign (g .noted);
               });
         }
 

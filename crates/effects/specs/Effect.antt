@@ -1,14 +1,12 @@
 -- What a call may do to what it does not name.
 use mathlib.Core.Path.{_≡_, refl, ap, sym, _∙_}
 use mathlib.Core.Logic.{_⊎_, inl, inr}
-use mathlib.Core.Bool.{Bool, true, false}
-use Prim.Native.Nat.{ℕ, _+_, _*_, _≤_, _<_}
-use native.Mathlib.Omega.{arith}
+use mathlib.Core.Bool.{true, false}
+use Prim.Native.Nat.{ℕ, _≤_, _<_}
 use Rattle.lists.specs.Cases.{split, bool-cases, not-both}
-use Rattle.format.specs.Diskette.{Bytes, Geometry, Sound, diskRecord}
+use Rattle.format.specs.Diskette.{Bytes, Geometry, diskRecord}
 use Rattle.format.specs.Entries.{slotCount, slotOf, empty, used}
 use Rattle.format.specs.Notes.{pendingFor}
-use Rattle.consistency.specs.Facts.{Stands}
 use Rattle.disk.specs.Places.{blockRecords, block-record}
 use Rattle.rows.specs.Entries.{areaRecords, block-past}
 use Rattle.effects.specs.View.{View, Right, Names, Mine, listed, pending, mine-low, mine-high}

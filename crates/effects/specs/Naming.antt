@@ -1,20 +1,19 @@
 -- The rows that a name gives: the parts of `named` and `isFile`, and rows of other files.
-use mathlib.Core.Path.{_≡_, refl, ap, sym, _∙_}
+use mathlib.Core.Path.{_≡_, sym, _∙_}
 use mathlib.Core.Bool.{Bool, true, false}
 use Prim.Native.Nat.{ℕ, _≤_, _<_}
 use native.Mathlib.Omega.{arith}
 use borrow.Author.Tests.{eqb-true, eq-eqb}
-use Rattle.lists.specs.Cases.{split, bool-cases, not-both}
+use Rattle.lists.specs.Cases.{split, bool-cases}
 use Rattle.lists.specs.Tests.{_and_, and-left, and-right, and-both}
 use Rattle.format.specs.Diskette.{Bytes, Geometry}
-use Rattle.format.specs.Names.{nameBytes, nameLike}
+use Rattle.format.specs.Names.{nameLike}
 use Rattle.format.specs.Entries.{Rows, userOf, used, extentOf, covers, named, isFile, findFile}
 use Rattle.format.specs.declared.Found.the-variants.{At}
-use Rattle.names.specs.Laws.{nameBits, like-at, like-intro, like-sym, like-trans}
+use Rattle.names.specs.Laws.{like-sym, like-trans}
 use Rattle.consistency.specs.Facts.{SameFile, Consistent}
 use Rattle.consistency.specs.Reflect.{low-used}
-use Rattle.rows.specs.Found.{FirstAt}
-use Rattle.rows.specs.Find.{fileTest, file-says, file-is, no-file-says}
+use Rattle.rows.specs.Find.{file-is}
 
 -- ---- a row of a name
 module _ (wild : Bool) (user : ℕ) (s : Bytes) (q : ℕ) (r : Bytes) (h : named wild user s q r ≡ true) where

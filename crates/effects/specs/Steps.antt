@@ -1,14 +1,13 @@
 -- The effects of a change, by what it does to rows, notes and records: named entries change, an empty entry becomes theirs, a record is
 -- written; and when what is pending for others stays so.
-use mathlib.Core.Path.{_≡_, refl, ap, sym, _∙_, subst}
+use mathlib.Core.Path.{_≡_, ap, sym, _∙_, subst}
 use mathlib.Core.Logic.{_⊎_, inl, inr}
 use mathlib.Core.Bool.{true, false}
-use Prim.Native.Nat.{ℕ, _+_, _*_, _≤_, _<_}
-use native.Mathlib.Omega.{arith}
+use Prim.Native.Nat.{ℕ, _≤_, _<_}
 use Rattle.lists.specs.Cases.{split, bool-cases, eq-or-ne, not-both}
-use Rattle.format.specs.Diskette.{Bytes, Geometry, diskRecord}
+use Rattle.format.specs.Diskette.{Geometry, diskRecord}
 use Rattle.format.specs.Entries.{slotCount, empty, used}
-use Rattle.format.specs.Notes.{freeNote, recordedNote, pendingFor}
+use Rattle.format.specs.Notes.{freeNote, pendingFor}
 use Rattle.consistency.specs.Reflect.{used-full}
 use Rattle.notes.specs.Numbers.{pending-once, pending-not-free}
 use Rattle.disk.specs.Places.{blockRecords, block-once}
