@@ -144,5 +144,9 @@ pub current-cong : (f g : Bytes) → 32 ≤ length f → 32 ≤ length g → Sam
     → (G : Geometry) (d : Rows) (map : Bytes) (user : ℕ) → current G d map user f ≡ current G d map user g
 unfolding current
 current-cong f g hf hg n h G d map user =
-    rw (fcbRight-cong f g n h, extent-cong f g (λ i a b. h i (omega arith) (omega arith)), findFile-asked f 1 g 1 n G d user (extentOf g),
-    fitting-cong d map f g (findFile G d user g 1 (extentOf g)) (slots-cong f g hf hg (λ i a b. h i (omega arith) (omega arith))))
+    rw (
+      fcbRight-cong f g n h,
+      extent-cong f g (λ i a b. h i (omega arith) (omega arith)),
+      findFile-asked f 1 g 1 n G d user (extentOf g),
+      fitting-cong d map f g (findFile G d user g 1 (extentOf g)) (slots-cong f g hf hg (λ i a b. h i (omega arith) (omega arith))),
+    )

@@ -4,3 +4,5 @@ pub mod Entering
 pub mod Making
 pub mod Numbers
 pub mod Target
+pub mod Search
+pub mod Size

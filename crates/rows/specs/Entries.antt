@@ -9,7 +9,7 @@ use Rattle.lists.specs.Cases.{split, lt-or-le, eq-or-ne}
 use Rattle.lists.specs.Splice.{part, splice, length-part, length-splice, part-part, part-splice-same, part-splice-other, getD-splice-out}
 use Rattle.format.specs.Diskette.{Bytes, Geometry, Sound, recordBytes, imageBytes, diskRecord, offsetOf, recordAt, withRecord}
 use Rattle.format.specs.Entries.{entryBytes, entriesPerRecord, entryPlace, entryAt, withEntry}
-use Rattle.disk.specs.Places.{blockRecords, offset-fits, offset-apart}
+use Rattle.disk.specs.Places.{blockRecords, offset-fits, offset-past, offset-apart}
 
 -- the records of the directory
 abbrev pub areaRecords : Geometry → ℕ
@@ -30,6 +30,11 @@ module _ {G : Geometry} (S : Sound G) where
   pub entry-fits : (e : ℕ) → e < G .entries → entryPlace G e + entryBytes ≤ imageBytes G
   unfolding entryPlace
   entry-fits e h = omega (arith, offset-fits S (e / entriesPerRecord) (omega (arith, entry-record e h, area-within)))
+
+  -- no entry lies in the system tracks
+  pub entry-past : (e : ℕ) → G .reserved * G .sectors * recordBytes ≤ entryPlace G e
+  unfolding entryPlace
+  entry-past e = omega (arith, offset-past S (e / entriesPerRecord))
 
   pub entry-apart : (e f : ℕ) → (e ≡ f → ⊥) → (entryPlace G e + entryBytes ≤ entryPlace G f) ⊎ (entryPlace G f + entryBytes ≤ entryPlace G e)
   unfolding entryPlace

@@ -23,7 +23,7 @@ use Rattle.model.specs.Table.{usesFcb, isListed, parametersRight, diskRight, fi
 use Rattle.table.specs.First.{NoneHolds, passed-none, none-passed, passed-refused}
 use Rattle.table.specs.Own.{Call, call13, call15, call16, call17, call18, call19, call20, call21, call22, call23, call32, call33, call34, call35, call36, call46, call98, call-of, ownRows, rowsFor, verdict-rows, verdict-unlisted}
 use Rattle.table.specs.Present.{there-target, file-extent-below}
-use Rattle.table.specs.Facts.{Fits, NamedFiles, Opens, Closes, Searches, SearchesOn, Deletes, Makes, Renames, Sizes, Positions, Reads, Writes, Own, AcceptedCall}
+use Rattle.table.specs.Facts.{Fits, NamedFiles, Opens, Closes, Searches, SearchesOn, Deletes, Makes, Renames, Sizes, Positions, Reads, Writes, Own, Ready, AcceptedCall}
 use Rattle.table.specs.Reflect.{found, missed, second-fails, either-found, either-missed, pattern-of, pattern-right, argument-of, argument-right, fits-of, drive-of, parameters-right, image-of, map-of, disk-right, some-of, some-right, none-of, none-right, writable-of, writable-right, positions-of, positions-right}
 
 -- the target's extent of 33 and 34 is below 2,048 exactly where the random record is at most 262,143
@@ -105,22 +105,56 @@ module _ (G : Geometry) (l : Lent) (s : Session) where
   own-right a call18 o = (ap not (o .on), (missed _ (o .entry), tt))
   own-right a call19 o = (ap not (o .name), (some-right G l s true 1 (o .files .some), (writable-right G l s true (o .files .writable), tt)))
   own-right a call20 o = (missed _ (o .entry), (and-fails-right _ _ (missed _ (o .entry)), (ap not (o .there), tt)))
-  own-right a call21 o =
-      (missed _ (o .entry), (o .writable, (and-fails-right _ _ (missed _ (o .entry)),
-      (lt-leb _ _ (o .extent), (either-missed _ _ (o .room), (block-right 21 (o .block), tt))))))
+  own-right a call21 o = (
+    missed _ (o .entry),
+    (
+      o .writable,
+      (
+        and-fails-right _ _ (missed _ (o .entry)),
+        (lt-leb _ _ (o .extent), (either-missed _ _ (o .room), (block-right 21 (o .block), tt))),
+      ),
+    ),
+  )
   own-right a call22 o = (ap not (o .name), (le-ltb _ _ (o .ex), (ap isFound (o .new), (missed _ (o .entry), tt))))
-  own-right a call23 o =
-      (ap not (o .name), (ap not (o .new-name), (some-right G l s false 1 (o .files .some), (writable-right G l s false (o .files .writable),
-      (none-right G l s 17 (o .new), tt)))))
+  own-right a call23 o = (
+    ap not (o .name),
+    (
+      ap not (o .new-name),
+      (
+        some-right G l s false 1 (o .files .some),
+        (
+          writable-right G l s false (o .files .writable),
+          (none-right G l s 17 (o .new), tt),
+        ),
+      ),
+    ),
+  )
   own-right a call32 o = (argument-right a o, tt)
   own-right a call33 o =
-      let below : targetExtent 33 (l .fcb) < extents = o .extent in
-      (le-ltb 262143 (randomOf (l .fcb)) (omega (arith, random-extent 33 (l .fcb) refl)), (missed _ (o .entry), (and-fails-right _ _ (missed _ (o .entry)),
-      (missed _ (o .target), (ap not (o .there), tt)))))
+      let below : targetExtent 33 (l .fcb) < extents = o .extent in (
+        le-ltb 262143 (randomOf (l .fcb)) (omega (arith, random-extent 33 (l .fcb) refl)),
+        (
+          missed _ (o .entry),
+          (
+            and-fails-right _ _ (missed _ (o .entry)),
+            (missed _ (o .target), (ap not (o .there), tt)),
+          ),
+        ),
+      )
   own-right a call34 o =
-      let below : targetExtent 34 (l .fcb) < extents = o .extent in
-      (le-ltb 262143 (randomOf (l .fcb)) (omega (arith, random-extent 34 (l .fcb) refl)), (missed _ (o .entry), (o .writable, (and-fails-right _ _ (missed _ (o .entry)),
-      (either-missed _ _ (o .room), (block-right 34 (o .block), tt))))))
+      let below : targetExtent 34 (l .fcb) < extents = o .extent in (
+        le-ltb 262143 (randomOf (l .fcb)) (omega (arith, random-extent 34 (l .fcb) refl)),
+        (
+          missed _ (o .entry),
+          (
+            o .writable,
+            (
+              and-fails-right _ _ (missed _ (o .entry)),
+              (either-missed _ _ (o .room), (block-right 34 (o .block), tt)),
+            ),
+          ),
+        ),
+      )
   own-right a call35 o = (ap not (o .name), (some-right G l s false 1 (o .some), tt))
   own-right a call36 o = (positions-right G l s o, tt)
   own-right a call46 o = tt
@@ -128,30 +162,40 @@ module _ (G : Geometry) (l : Lent) (s : Session) where
 
 -- ---- the table
 module _ (G : Geometry) (n argument : ℕ) (l : Lent) (s : Session) where
-  passed-listed : verdict G n argument l s ≡ Passed → isListed n ≡ true
+  pub passed-listed : verdict G n argument l s ≡ Passed → isListed n ≡ true
   passed-listed q =
       split (bool-cases (isListed n)) (λ t. t) (λ f. passed-refused NotListed (sym q ∙ verdict-unlisted G argument l s n f))
+
+  pub passed-ready : verdict G n argument l s ≡ Passed → Ready G n l s
+  passed-ready q =
+      let c = call-of n (passed-listed q) in
+      let none = passed-none (rowsFor G argument l s c) (sym (verdict-rows G argument l s c) ∙ q) in
+      let parameters = not-false (parametersRight G l n s) (none .0) in
+      let disk = not-false (diskRight G l n) (none .1 .0) in
+      record {
+        fits = fits-of G n l s parameters;
+        drive = drive-of G n l s parameters;
+        image-right = image-of G n l s disk;
+        map-right = map-of G n l s disk;
+      }
+
+  pub passed-own : (c : Call n) → verdict G n argument l s ≡ Passed → Own G l s argument c
+  passed-own c q =
+      let none = passed-none (rowsFor G argument l s c) (sym (verdict-rows G argument l s c) ∙ q) in
+      let r = passed-ready q in
+      own-of G l s argument c (r .image-right) (r .fits .user-low) (none .1 .1)
 
   -- a passed table taken apart
   pub accepted : verdict G n argument l s ≡ Passed → AcceptedCall G n argument l s
   accepted q =
       let c = call-of n (passed-listed q) in
-      let none = passed-none (rowsFor G argument l s c) (sym (verdict-rows G argument l s c) ∙ q) in
-      let parameters = not-false (parametersRight G l n s) (none .0) in
-      let disk = not-false (diskRight G l n) (none .1 .0) in
-      let fits = fits-of G n l s parameters in
-      record {
-        call = c;
-        fits = fits;
-        drive = drive-of G n l s parameters;
-        image-right = image-of G n l s disk;
-        map-right = map-of G n l s disk;
-        own = own-of G l s argument c (image-of G n l s disk) (fits .user-low) (none .1 .1);
-      }
+      record { call = c; ready = passed-ready q; own = passed-own c q }
 
   -- a call whose facts hold is passed
-  pub passes : AcceptedCall G n argument l s → verdict G n argument l s ≡ Passed
-  passes p =
-      verdict-rows G argument l s (p .call)
-      ∙ none-passed (rowsFor G argument l s (p .call))
-      (ap not (parameters-right G n l s (p .fits) (p .drive)), (ap not (disk-right G n l s (p .image-right) (p .map-right)), own-right G l s argument (p .call) (p .own)))
+  pub passes : (c : Call n) → Ready G n l s → Own G l s argument c → verdict G n argument l s ≡ Passed
+  passes c r o =
+      verdict-rows G argument l s c
+      ∙ none-passed (rowsFor G argument l s c) (
+        ap not (parameters-right G n l s (r .fits) (r .drive)),
+        (ap not (disk-right G n l s (r .image-right) (r .map-right)), own-right G l s argument c o),
+      )

@@ -111,11 +111,15 @@ module _ (G : Geometry) (l : Lent) (s : Session) where
   Own argument call46 = Unit {0}
   Own argument call98 = Unit {0}
 
--- what the table has left, once no row holds
-pub record AcceptedCall (G : Geometry) (n argument : ℕ) (l : Lent) (s : Session) : Type 0 where
-  pub call : Call n
+-- what the first three rows say of every call that they pass
+pub record Ready (G : Geometry) (n : ℕ) (l : Lent) (s : Session) : Type 0 where
   pub fits : Fits G l s
   pub drive : usesFcb n ≡ true → getD (l .fcb) 0 0 ≤ 1
   pub image-right : consistent G (l .image) ≡ true
   pub map-right : (n ≡ 13 → ⊥) → mapRight G (rowsOf G l) (l .map) ≡ true
+
+-- what the whole table says: the call is listed, and its facts hold
+pub record AcceptedCall (G : Geometry) (n argument : ℕ) (l : Lent) (s : Session) : Type 0 where
+  pub call : Call n
+  pub ready : Ready G n l s
   pub own : Own G l s argument call

@@ -4,3 +4,4 @@ pub mod Present
 pub mod Facts
 pub mod Reflect
 pub mod Accept
+pub mod Refuse

@@ -1,0 +1,245 @@
+-- What a refusal says: which row it came from, and which codes a call can be refused with at all.
+use mathlib.Core.Path.{_≡_, refl, sym, ap, subst, _∙_}
+use mathlib.Core.Logic.{_⊎_, inl, inr}
+use mathlib.Core.Bool.{Bool, true, false, cond, not}
+use mathlib.Core.List.{List, [], _∷_}
+use Prim.Native.Nat.{ℕ, _≤_, _<_}
+use native.Mathlib.Omega.{arith}
+use lib.Dec.{eqb, leb, ltb}
+use borrow.Author.Tests.{eqb-false, not-true, not-false, le-ltb}
+use Rattle.lists.specs.Cases.{split, bool-cases, clash, not-both}
+use Rattle.lists.specs.Tests.{_and_, _or_, and-left, and-right, and-fails-left, and-fails-right}
+use Rattle.format.specs.Diskette.{Geometry}
+use Rattle.format.specs.Names.{nameRight}
+use Rattle.format.specs.Entries.{exOf}
+use Rattle.format.specs.Consistent.{consistent}
+use Rattle.format.specs.Notes.{mapRight}
+use Rattle.format.specs.Found.{isFound}
+use Rattle.format.specs.FoundLaws.{not-found}
+use Rattle.format.specs.declared.Found.{Found}
+use Rattle.format.specs.declared.Found.the-variants.{Nothing}
+use Rattle.model.specs.declared.Session.{Session}
+use Rattle.model.specs.declared.Code.{Code}
+use Rattle.model.specs.declared.Code.the-variants.{Accepted, NotListed, BadParameter, BadDisk, BadRecord, NotCurrent, Failed, BadName, SearchOver, ReadOnly, Exists, NotClosed, NoExtent, NoRecord, NoEntry, DiskFull}
+use Rattle.model.specs.declared.Verdict.the-variants.{Refused}
+use Rattle.model.specs.Lent.{Lent, rowsOf, searchOn}
+use Rattle.model.specs.Target.{presentEntry, stays}
+use Rattle.model.specs.Search.{patternOf, findHit}
+use Rattle.model.specs.Table.{oneOf, isListed, parametersRight, diskRight, Row, firstRow, verdict}
+use Rattle.table.specs.First.{NoneHolds, Decides, here, later, passed-none, none-passed, refused-same, refused-decides, decides-refused}
+use Rattle.table.specs.Own.{when, Call, call13, call15, call16, call17, call18, call19, call20, call21, call22, call23, call32, call33, call34, call35, call36, call46, call98, AtEach, at-one, call-of, ownRows, rowsFor, verdict-rows, verdict-unlisted}
+use Rattle.table.specs.Facts.{Fits, Ready}
+use Rattle.table.specs.Reflect.{pattern-right, fits-of, drive-of, parameters-right, image-of, map-of, disk-right}
+
+-- ---- codes of a list of rows
+-- the test passes at every row's code
+unfoldable pub allCodes : (Code → Bool) → List Row → Bool
+allCodes t [] = true
+allCodes t (r ∷ rs) = t (r .code) and allCodes t rs
+
+pub decided-passes : (t : Code → Bool) (c : Code) (rs : List Row) → allCodes t rs ≡ true → Decides c rs → t c ≡ true
+unfolding allCodes
+decided-passes t c rs h (here {r = r} {rs = ts} y q) = subst (λ (x : Code). t x ≡ true) q (and-left _ _ h)
+decided-passes t c rs h (later {r = r} {rs = ts} f d) = decided-passes t c ts (and-right _ _ h) d
+
+-- a number for each code, by which the checker tells codes apart
+unfoldable codeNumber : Code → ℕ
+codeNumber (Accepted k) = 0
+codeNumber NotListed = 1
+codeNumber BadParameter = 2
+codeNumber BadDisk = 3
+codeNumber BadRecord = 4
+codeNumber NotCurrent = 5
+codeNumber Failed = 6
+codeNumber BadName = 7
+codeNumber SearchOver = 8
+codeNumber ReadOnly = 9
+codeNumber Exists = 10
+codeNumber NotClosed = 11
+codeNumber NoExtent = 12
+codeNumber NoRecord = 13
+codeNumber NoEntry = 14
+codeNumber DiskFull = 15
+
+abbrev isCode : Code → Code → Bool
+isCode c d = eqb (codeNumber c) (codeNumber d)
+
+other-code : {A : Type 0} (c d : Code) → isCode c d ≡ false → c ≡ d → A
+other-code c d h q = absurd (eqb-false (codeNumber c) (codeNumber d) h (ap codeNumber q))
+
+-- a row of another code has failed
+record Behind (c : Code) (r : Row) (rs : List Row) : Type 0 where
+  failed : r .holds ≡ false
+  rest : Decides c rs
+
+behind : (c : Code) (r : Row) (rs : List Row) → isCode (r .code) c ≡ false → Decides c (r ∷ rs) → Behind c r rs
+behind c r rs n (here h q) = other-code (r .code) c n q
+behind c r rs n (later f d) = record { failed = f; rest = d }
+
+-- a code that no row has decides nothing
+abbrev Absent : Code → List Row → Type 0
+Absent c [] = Unit {0}
+Absent c (r ∷ rs) = (isCode (r .code) c ≡ false) × Absent c rs
+
+absent : {A : Type 0} (c : Code) (rs : List Row) → Decides c rs → Absent c rs → A
+absent c rs (here {r = r} t q) h = other-code (r .code) c (h .0) q
+absent c rs (later {rs = ts} f d) h = absent c ts d (h .1)
+
+-- ---- the rows of document 01's table that name a call, by their codes; the first three name every call
+unfoldable pub gives : ℕ → Code → Bool
+gives n (Accepted k) = false
+gives n NotListed = false
+gives n BadParameter = false
+gives n BadDisk = false
+gives n BadRecord = oneOf n (33 ∷ 34 ∷ [])
+gives n NotCurrent = oneOf n (20 ∷ 21 ∷ 33 ∷ 34 ∷ [])
+gives n Failed = oneOf n (15 ∷ 16 ∷ 18 ∷ 19 ∷ 22 ∷ 23 ∷ 32 ∷ 35 ∷ 36 ∷ [])
+gives n BadName = oneOf n (15 ∷ 17 ∷ 19 ∷ 22 ∷ 23 ∷ 35 ∷ [])
+gives n SearchOver = oneOf n (17 ∷ 18 ∷ [])
+gives n ReadOnly = oneOf n (19 ∷ 21 ∷ 23 ∷ 34 ∷ [])
+gives n Exists = oneOf n (22 ∷ 23 ∷ [])
+gives n NotClosed = oneOf n (20 ∷ 21 ∷ 33 ∷ 34 ∷ [])
+gives n NoExtent = oneOf n (33 ∷ [])
+gives n NoRecord = oneOf n (20 ∷ 21 ∷ 33 ∷ [])
+gives n NoEntry = oneOf n (34 ∷ [])
+gives n DiskFull = oneOf n (21 ∷ 34 ∷ [])
+
+module _ (G : Geometry) (argument : ℕ) (l : Lent) (s : Session) where
+  all-given : {n : ℕ} (c : Call n) → allCodes (gives n) (ownRows G argument l s c) ≡ true
+  unfolding allCodes gives oneOf _and_ _or_
+  all-given call13 = refl
+  all-given call15 = refl
+  all-given call16 = refl
+  all-given call17 = refl
+  all-given call18 = refl
+  all-given call19 = refl
+  all-given call20 = refl
+  all-given call21 = refl
+  all-given call22 = refl
+  all-given call23 = refl
+  all-given call32 = refl
+  all-given call33 = refl
+  all-given call34 = refl
+  all-given call35 = refl
+  all-given call36 = refl
+  all-given call46 = refl
+  all-given call98 = refl
+
+  -- where a refusal comes from: one of the first three rows, or a row of the call's own
+  pub data Refuses (n : ℕ) (code : Code) : Type 0 where
+    unlisted : code ≡ NotListed → isListed n ≡ false → Refuses n code
+    parameter : code ≡ BadParameter → Call n → parametersRight G l n s ≡ false → Refuses n code
+    disk : code ≡ BadDisk → Call n → diskRight G l n ≡ false → Refuses n code
+    own : (c : Call n) → Ready G n l s → Decides code (ownRows G argument l s c) → Refuses n code
+
+  ready-of : (n : ℕ) → parametersRight G l n s ≡ true → diskRight G l n ≡ true → Ready G n l s
+  ready-of n p d = record { fits = fits-of G n l s p; drive = drive-of G n l s p; image-right = image-of G n l s d; map-right = map-of G n l s d }
+
+  refuses-listed : (code : Code) {n : ℕ} (c : Call n) → Decides code (rowsFor G argument l s c) → Refuses n code
+  refuses-listed code c (here t q) = parameter (sym q) c (not-true _ t)
+  refuses-listed code c (later f (here t q)) = disk (sym q) c (not-true _ t)
+  refuses-listed code {n} c (later f (later g d)) = own c (ready-of n (not-false _ f) (not-false _ g)) d
+
+  pub refuses : (n : ℕ) (code : Code) → verdict G n argument l s ≡ Refused code → Refuses n code
+  refuses n code q =
+      split (bool-cases (isListed n))
+      (λ t. let c = call-of n t in
+      refuses-listed code c (refused-decides code (rowsFor G argument l s c) (sym (verdict-rows G argument l s c) ∙ q)))
+      (λ f. unlisted (refused-same code NotListed (sym q ∙ verdict-unlisted G argument l s n f)) f)
+
+  -- a code of a call's own rows is one that document 01 gives for the call
+  pub own-given : (code : Code) {n : ℕ} (c : Call n) → Decides code (ownRows G argument l s c) → gives n code ≡ true
+  own-given code {n} c d = decided-passes (gives n) code (ownRows G argument l s c) (all-given c) d
+
+  -- a code that neither of the first two rows has comes from the call's own
+  own-decides : (code : Code) {n : ℕ} (c : Call n) → isCode BadParameter code ≡ false → isCode BadDisk code ≡ false
+      → verdict G n argument l s ≡ Refused code → Decides code (ownRows G argument l s c)
+  own-decides code {n} c p d q =
+      let all = refused-decides code (rowsFor G argument l s c) (sym (verdict-rows G argument l s c) ∙ q) in
+      behind code (when (not (diskRight G l n)) BadDisk) _ d (behind code (when (not (parametersRight G l n s)) BadParameter) _ p all .rest) .rest
+
+  -- the number of a call that is refused with a code of its own rows is among those that the document gives for the code
+  refused-given : (n : ℕ) (code : Code) → isCode NotListed code ≡ false → isCode BadParameter code ≡ false → isCode BadDisk code ≡ false
+      → verdict G n argument l s ≡ Refused code → gives n code ≡ true
+  refused-given n code u p d q = go (refuses n code q)
+    where
+      go : Refuses n code → gives n code ≡ true
+      go (unlisted e f) = other-code NotListed code u (sym e)
+      go (parameter e c f) = other-code BadParameter code p (sym e)
+      go (disk e c f) = other-code BadDisk code d (sym e)
+      go (own c r w) = own-given code c w
+
+  -- ---- a consistent image with a right map is never refused for the disk
+  bad-disk : (n : ℕ) → Refuses n BadDisk → diskRight G l n ≡ false
+  unfolding gives codeNumber
+  bad-disk n (unlisted e f) = other-code BadDisk NotListed refl e
+  bad-disk n (parameter e c f) = other-code BadDisk BadParameter refl e
+  bad-disk n (disk e c f) = f
+  bad-disk n (own c r d) = clash (sym (own-given BadDisk c d))
+
+  pub never-bad-disk : (n : ℕ) → consistent G (l .image) ≡ true → mapRight G (rowsOf G l) (l .map) ≡ true
+      → verdict G n argument l s ≡ Refused BadDisk → ⊥
+  never-bad-disk n right map q = not-both (diskRight G l n) (disk-right G n l s right (λ z. map)) (bad-disk n (refuses n BadDisk q))
+
+  -- ---- code 3 never comes out: its row asks for an FCB that is not current, and stands behind the row for that
+  no-three : (X Y : Bool) (rs : List Row) → X ≡ false → Decides NotClosed (when (Y and X) NotClosed ∷ rs) → Absent NotClosed rs → ⊥
+  no-three X Y rs f (here t q) a = not-both X (and-right Y X t) f
+  no-three X Y rs f (later g d) a = absent NotClosed rs d a
+
+  three-20 : Decides NotClosed (ownRows G argument l s call20) → ⊥
+  unfolding codeNumber
+  three-20 d = let p = behind NotClosed _ _ refl d in no-three _ _ _ (p .failed) (p .rest) (refl, tt)
+
+  three-21 : Decides NotClosed (ownRows G argument l s call21) → ⊥
+  unfolding codeNumber
+  three-21 d =
+      let p = behind NotClosed _ _ refl d in
+      let r = behind NotClosed _ _ refl (p .rest) in no-three _ _ _ (p .failed) (r .rest) (refl, (refl, (refl, tt)))
+
+  three-33 : Decides NotClosed (ownRows G argument l s call33) → ⊥
+  unfolding codeNumber
+  three-33 d =
+      let o = behind NotClosed _ _ refl d in
+      let p = behind NotClosed _ _ refl (o .rest) in no-three _ _ _ (p .failed) (p .rest) (refl, (refl, tt))
+
+  three-34 : Decides NotClosed (ownRows G argument l s call34) → ⊥
+  unfolding codeNumber
+  three-34 d =
+      let o = behind NotClosed _ _ refl d in
+      let p = behind NotClosed _ _ refl (o .rest) in
+      let r = behind NotClosed _ _ refl (p .rest) in no-three _ _ _ (p .failed) (r .rest) (refl, (refl, tt))
+
+  pub never-not-closed : (n : ℕ) → verdict G n argument l s ≡ Refused NotClosed → ⊥
+  unfolding gives codeNumber
+  never-not-closed n q =
+      at-one (λ (n : ℕ). verdict G n argument l s ≡ Refused NotClosed → ⊥) n (20 ∷ 21 ∷ 33 ∷ 34 ∷ []) (refused-given n NotClosed refl refl refl q) (
+        λ v. three-20 (own-decides NotClosed call20 refl refl v),
+        (
+          λ v. three-21 (own-decides NotClosed call21 refl refl v),
+          (λ v. three-33 (own-decides NotClosed call33 refl refl v), (λ v. three-34 (own-decides NotClosed call34 refl refl v), tt)),
+        ),
+      ) q
+
+  -- ---- a search ends only where it has found nothing
+  pub data SearchEnds : ℕ → Type 0 where
+    ends17 : findHit G (rowsOf G l) (s .user) (patternOf (l .fcb)) 0 ≡ Nothing → SearchEnds 17
+    ends18 : searchOn s ≡ true → findHit G (rowsOf G l) (s .user) (s .pattern) (s .place) ≡ Nothing → SearchEnds 18
+
+  last-row : (r : Found) (code : Code) → Decides code (when (not (isFound r)) code ∷ []) → r ≡ Nothing
+  last-row r code (here t q) = not-found r (not-true _ t)
+  last-row r code (later f d) = absent code [] d tt
+
+  over-17 : Decides SearchOver (ownRows G argument l s call17) → SearchEnds 17
+  unfolding codeNumber
+  over-17 d =
+      let p = behind SearchOver _ _ refl d in let r = behind SearchOver _ _ refl (p .rest) in ends17 (last-row _ SearchOver (r .rest))
+
+  over-18 : Decides SearchOver (ownRows G argument l s call18) → SearchEnds 18
+  unfolding codeNumber
+  over-18 d = let p = behind SearchOver _ _ refl d in ends18 (not-false _ (p .failed)) (last-row _ SearchOver (p .rest))
+
+  pub search-over : (n : ℕ) → verdict G n argument l s ≡ Refused SearchOver → SearchEnds n
+  unfolding gives codeNumber
+  search-over n q =
+      at-one (λ (n : ℕ). verdict G n argument l s ≡ Refused SearchOver → SearchEnds n) n (17 ∷ 18 ∷ []) (refused-given n SearchOver refl refl refl q)
+      (λ v. over-17 (own-decides SearchOver call17 refl refl v), (λ v. over-18 (own-decides SearchOver call18 refl refl v), tt)) q
