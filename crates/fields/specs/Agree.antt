@@ -14,11 +14,12 @@ use Rattle.format.specs.Names.{nameBytes, nameRight, nameLike, sevenBits}
 use Rattle.format.specs.Entries.{Rows, userOf, exOf, s2Of, rcOf, slotOf, slotsOf, slotCount, empty, used, readOnly, extentOf, covers, named, isFile, findFile}
 use Rattle.format.specs.Found.{foundBelow}
 use Rattle.format.specs.Consistent.{numbersRight, sameFile}
-use Rattle.format.specs.ListedLaws.{slot-at}
+use Rattle.format.specs.SlotLaws.{getD-slotsOf}
 use Rattle.format.specs.Fcb.{crOf, randomOf, fcbRight, fitting, current}
 use Rattle.format.specs.declared.Found.{Found}
 use Rattle.format.specs.declared.Found.the-variants.{At, Nothing}
-use Rattle.names.specs.Laws.{nameBits, like-cong-left, like-cong-right, right-cong}
+use Rattle.consistency.specs.Facts.{SameFile}
+use Rattle.names.specs.Laws.{nameBits, like-at, like-intro, like-cong-left, like-cong-right, right-cong}
 
 -- bytes a to b - 1 of r and t are the same
 abbrev pub Agree : Bytes → Bytes → ℕ → ℕ → Type 0
@@ -39,7 +40,7 @@ module _ (r t : Bytes) where
   slots-cong hr ht h =
       let l : length (slotsOf r) ≡ 16 = length-part r 16 slotCount (omega arith) in
       ext-getD 0 (slotsOf r) (slotsOf t) (l ∙ sym (length-part t 16 slotCount (omega arith)))
-      (λ j b. let b′ : j < 16 = omega arith in slot-at r j b′ ∙ slot-cong h j b′ ∙ sym (slot-at t j b′))
+      (λ j b. let b′ : j < 16 = omega arith in getD-slotsOf r j b′ ∙ slot-cong h j b′ ∙ sym (getD-slotsOf t j b′))
 
   -- a row is its bytes below the slots, and its slots
   pub row-ext : length r ≡ 32 → length t ≡ 32 → Agree r t 0 16 → ((j : ℕ) → j < slotCount → slotOf r j ≡ slotOf t j) → r ≡ t
@@ -77,17 +78,16 @@ module _ (r t : Bytes) where
   covers-cong e ext = rw e
 
 -- ---- rows of one user, name and extent: no look-up tells them apart
-pub record SameFile (r t : Bytes) : Type 0 where
-  pub user : userOf r ≡ userOf t
-  pub name : SameName r 1 t 1
-  pub extent : extentOf r ≡ extentOf t
-
 pub same-file : (r t : Bytes) → Agree r t 0 15 → SameFile r t
 same-file r t h = record {
   user = h 0 (omega arith) (omega arith);
-  name = name-cong r t (λ i a b. h i (omega arith) (omega arith));
+  name = like-intro t 1 r 1 (λ i l. sym (name-cong r t (λ k a b. h k (omega arith) (omega arith)) i l));
   extent = extent-cong r t (λ i a b. h i (omega arith) (omega arith));
 }
+
+-- its names, byte by byte
+pub same-name : (r t : Bytes) → SameFile r t → SameName r 1 t 1
+same-name r t s i l = sym (like-at t 1 r 1 (s .name) i l)
 
 module _ (wild : Bool) (user : ℕ) (s : Bytes) (q : ℕ) (r t : Bytes) where
   pub named-cong : userOf r ≡ userOf t → SameName r 1 t 1 → named wild user s q r ≡ named wild user s q t
@@ -96,7 +96,7 @@ module _ (wild : Bool) (user : ℕ) (s : Bytes) (q : ℕ) (r t : Bytes) where
 
 pub isFile-cong : (user : ℕ) (s : Bytes) (q ext : ℕ) (r t : Bytes) → SameFile r t → isFile user s q ext r ≡ isFile user s q ext t
 unfolding isFile
-isFile-cong user s q ext r t k = rw (named-cong false user s q r t (k .user) (k .name), covers-cong r t (k .extent) ext)
+isFile-cong user s q ext r t k = rw (named-cong false user s q r t (k .user) (same-name r t k), covers-cong r t (k .extent) ext)
 
 -- ---- names that are asked for: the same name asks for the same rows
 module _ (s : Bytes) (q : ℕ) (r : Bytes) (p : ℕ) (same : SameName s q r p) where
@@ -121,7 +121,7 @@ module _ (r t s : Bytes) (same : SameFile r t) where
 
   pub sameFile-right : sameFile s r ≡ sameFile s t
   unfolding sameFile
-  sameFile-right = rw (used-cong r t (same .user), same .user, same .extent, isFile-asked r 1 t 1 (same .name) (userOf t) (extentOf t) s)
+  sameFile-right = rw (used-cong r t (same .user), same .user, same .extent, isFile-asked r 1 t 1 (same-name r t same) (userOf t) (extentOf t) s)
 
 -- ---- FCBs
 module _ (f g : Bytes) where

@@ -17,11 +17,12 @@ use Rattle.lists.specs.Fold.{foldBelow, fold-keeps}
 use Rattle.format.specs.Diskette.{Bytes, Geometry}
 use Rattle.format.specs.Names.{sevenBits}
 use Rattle.format.specs.Entries.{Rows, userOf, exOf, s2Of, rcOf, slotOf, slotsOf, slotCount, empty, used, readOnly, extentOf, countIn}
-use Rattle.format.specs.ListedLaws.{slot-at}
+use Rattle.format.specs.SlotLaws.{getD-slotsOf}
 use Rattle.format.specs.Notes.{noteAt, withNote, recordedNote}
 use Rattle.format.specs.Fcb.{crOf, randomOf, fcbRight, current}
 use Rattle.model.specs.Closing.{takesSlot, mergedSlot, mergedSlots, countsMore, closedCount, closedRow, closeChanges, closedNote, closedMap, closedFcb}
-use Rattle.fields.specs.Agree.{Agree, SameName, SameFile, same-file, row-ext, slot-cong, used-cong, empty-cong, readOnly-cong, extent-cong, random-cong, fcbRight-cong, current-cong}
+use Rattle.consistency.specs.Facts.{SameFile}
+use Rattle.fields.specs.Agree.{Agree, SameName, same-file, row-ext, slot-cong, used-cong, empty-cong, readOnly-cong, extent-cong, random-cong, fcbRight-cong, current-cong}
 
 -- ---- the slots taken
 pub length-mergedSlots : (es fs : Bytes) → length (mergedSlots es fs) ≡ slotCount
@@ -36,7 +37,7 @@ module _ (row fcb : Bytes) (j : ℕ) (below : j < slotCount) where
   -- slot j is taken exactly when the entry has 0 there and the FCB doesn't
   takes-is : takesSlot (slotsOf row) (slotsOf fcb) j ≡ (eqb (slotOf row j) 0 and not (eqb (slotOf fcb j) 0))
   unfolding takesSlot
-  takes-is = rw (slot-at row j below, slot-at fcb j below)
+  takes-is = rw (getD-slotsOf row j below, getD-slotsOf fcb j below)
 
   pub takes-intro : slotOf row j ≡ 0 → (slotOf fcb j ≡ 0 → ⊥) → takesSlot (slotsOf row) (slotsOf fcb) j ≡ true
   takes-intro z n = takes-is ∙ and-both _ _ (eq-eqb _ _ z) (ap not (ne-eqb _ _ n))
@@ -50,14 +51,14 @@ module _ (row fcb : Bytes) (j : ℕ) (below : j < slotCount) where
   -- the entry keeps its own block, and takes what the FCB has for 0
   pub merged-old : (slotOf row j ≡ 0 → ⊥) → mergedSlot (slotsOf row) (slotsOf fcb) j ≡ slotOf row j
   unfolding mergedSlot
-  merged-old n = rw (takes-is, and-fails-left _ (not (eqb (slotOf fcb j) 0)) (ne-eqb _ _ n)) (slot-at row j below)
+  merged-old n = rw (takes-is, and-fails-left _ (not (eqb (slotOf fcb j) 0)) (ne-eqb _ _ n)) (getD-slotsOf row j below)
 
   pub merged-new : slotOf row j ≡ 0 → mergedSlot (slotsOf row) (slotsOf fcb) j ≡ slotOf fcb j
   unfolding mergedSlot
   merged-new z =
       split (eq-or-ne (slotOf fcb j) 0)
-      (λ q. rw (takes-is, and-fails-right (eqb (slotOf row j) 0) _ (ap not (eq-eqb _ _ q))) (slot-at row j below ∙ z ∙ sym q))
-      (λ n. rw (takes-intro z n) (slot-at fcb j below))
+      (λ q. rw (takes-is, and-fails-right (eqb (slotOf row j) 0) _ (ap not (eq-eqb _ _ q))) (getD-slotsOf row j below ∙ z ∙ sym q))
+      (λ n. rw (takes-intro z n) (getD-slotsOf fcb j below))
 
 -- ---- the count
 module _ (row fcb : Bytes) where
@@ -142,7 +143,7 @@ module _ (row fcb : Bytes) (same : closeChanges row fcb ≡ false) where
       row-ext (closedRow row fcb) row (length-closedRow row fcb hr) hr
       (λ i a h. split (lt-or-le i 15) (λ l. head-closed row fcb hr i a l)
       (λ l. let q : i ≡ 15 = omega arith in rw q (rc-closed row fcb hr ∙ c)))
-      (λ j h. slot-closed row fcb hr j h ∙ rw (takes-none j h) (slot-at row j h))
+      (λ j h. slot-closed row fcb hr j h ∙ rw (takes-none j h) (getD-slotsOf row j h))
 
   pub map-unchanged : (map : Bytes) → closedMap row fcb map ≡ map
   unfolding closedMap closedNote
@@ -221,7 +222,7 @@ module _ (row fcb map : Bytes) (b : ℕ) where
       let j : ℕ = s .place in
       let l : j < slotCount = s .below in
       let k : takesSlot (slotsOf row) (slotsOf fcb) j ≡ true = and-left _ _ (s .holds) in
-      let e : slotOf fcb j ≡ b = sym (slot-at fcb j l) ∙ eqb-true _ _ (and-right _ _ (s .holds)) in
+      let e : slotOf fcb j ≡ b = sym (getD-slotsOf fcb j l) ∙ eqb-true _ _ (and-right _ _ (s .holds)) in
       record { slot = j; below = l; was = takes-row row fcb j l k; is = e; some = λ z. takes-fcb row fcb j l k (e ∙ z) }
 
   pub some-taken : Takes row fcb b → anyBelow (takesBlock (slotsOf row) (slotsOf fcb) b) slotCount ≡ true
@@ -229,7 +230,7 @@ module _ (row fcb map : Bytes) (b : ℕ) where
   some-taken t =
       any-at (takesBlock (slotsOf row) (slotsOf fcb) b) slotCount (t .slot) (t .below)
       (and-both _ _ (takes-intro row fcb (t .slot) (t .below) (t .was) (λ z. t .some (sym (t .is) ∙ z)))
-      (eq-eqb _ _ (slot-at fcb (t .slot) (t .below) ∙ t .is)))
+      (eq-eqb _ _ (getD-slotsOf fcb (t .slot) (t .below) ∙ t .is)))
 
   -- a block taken is recorded, and no other note changes
   pub note-closed-taken : b < length map → Takes row fcb b → noteAt (closedMap row fcb map) b ≡ recordedNote

@@ -6,3 +6,4 @@ pub mod Numbers
 pub mod Target
 pub mod Search
 pub mod Size
+pub mod Changing

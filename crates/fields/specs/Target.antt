@@ -15,6 +15,7 @@ use Rattle.format.specs.Entries.{entryAt, withEntry, exOf, s2Of, rcOf, slotOf, 
 use Rattle.format.specs.Notes.{noteAt, pendingFor, withNote}
 use Rattle.format.specs.Fcb.{crOf, randomOf}
 use Rattle.disk.specs.Places.{blockRecords, block-record, block-once}
+use Rattle.rows.specs.Fields.{slot-for-below}
 use Rattle.model.specs.Lent.{Lent, rowsOf}
 use Rattle.model.specs.Closing.{closedImage, closedMap}
 use Rattle.model.specs.Entering.{entered}
@@ -88,13 +89,9 @@ module _ (n : ℕ) (fcb : Bytes) where
 
 -- ---- the slot and the place of a record
 module _ {G : Geometry} (S : Sound G) where
-  pub slotFor-below : (ext r : ℕ) → r < 128 → slotFor G ext r < slotCount
-  unfolding slotFor
-  slotFor-below ext r h = first-below (G .perBlock) r slotCount (omega (arith, S .slots-hold))
-
   pub targetSlot-below : (n : ℕ) (fcb : Bytes) → crOf fcb ≤ 128 → targetSlot G n fcb < slotCount
   unfolding targetSlot
-  targetSlot-below n fcb h = slotFor-below (targetExtent n fcb) (targetRecord n fcb) (record-below n fcb h)
+  targetSlot-below n fcb h = slot-for-below S (targetExtent n fcb) (targetRecord n fcb) (record-below n fcb h)
 
   pub place-below : (b r : ℕ) → b < G .blocks → placeIn G b r < blockRecords G
   unfolding placeIn

@@ -1,4 +1,4 @@
--- What the answer of a look-up says, and the turns of a loop that looks: the first number from i on, below n, that passes the test p.
+-- The answer of a look-up: what it is, what it says, and the turns of the loop that makes it.
 use mathlib.Core.Path.{_≡_, refl, sym, ap, _∙_}
 use mathlib.Core.Bool.{Bool, true, false}
 use Prim.Native.Nat.{ℕ, _≤_, _<_}
@@ -6,26 +6,23 @@ use native.Mathlib.Omega.{arith}
 use borrow.Author.Tests.{lt-ltb, le-ltb}
 use Rattle.lists.specs.Cases.{split, clash, lt-or-le}
 use Rattle.lists.specs.Below.{firstIn, first-hit, first-end, first-low, first-holds, first-before, first-is, first-none}
-use Rattle.format.specs.Found.{foundBelow, isFound}
+use Rattle.format.specs.Found.{foundBelow, numberOf, isFound}
 use Rattle.format.specs.declared.Found.{Found}
 use Rattle.format.specs.declared.Found.the-variants.{At, Nothing}
 
-pub found-at : (n k : ℕ) → k < n → foundBelow n k ≡ At k
-unfolding foundBelow
-found-at n k h = rw (lt-ltb k n h)
+-- ---- the two answers
+pub at-not-nothing : (e : ℕ) → At e ≡ Nothing → ⊥
+at-not-nothing e q = let z : _≡_ {A = ℕ} 0 1 = cc in omega arith
 
-pub found-nothing : (n k : ℕ) → n ≤ k → foundBelow n k ≡ Nothing
-unfolding foundBelow
-found-nothing n k h = rw (le-ltb k n h)
+pub at-once : (k e : ℕ) → At k ≡ At e → k ≡ e
+at-once k e q = cc
 
--- `At` and `Nothing` differ, and `At` is one to one
-pub at-nothing : {A : Type 0} (k : ℕ) → At k ≡ Nothing → A
-at-nothing k q = absurd (let z : _≡_ {A = ℕ} 0 1 = cc in omega arith)
+-- by cases, with the answer in hand
+pub found-cases : {A : Type 0} (f : Found) → ((k : ℕ) → f ≡ At k → A) → (f ≡ Nothing → A) → A
+found-cases (At k) a b = a k refl
+found-cases Nothing a b = b refl
 
-pub at-same : (k m : ℕ) → At k ≡ At m → k ≡ m
-at-same k m q = cc
-
--- ---- an answer that has found something, and one that has not
+-- an answer that has found something, and one that has not
 pub record FoundAt (r : Found) : Type 0 where
   pub place : ℕ
   pub is : r ≡ At place
@@ -41,43 +38,64 @@ pub not-found : (r : Found) → isFound r ≡ false → r ≡ Nothing
 not-found (At k) h = clash h
 not-found Nothing h = refl
 
--- ---- numbers below a bound
-pub found-is : (n k e : ℕ) → foundBelow n k ≡ At e → (k < n) × (e ≡ k)
-found-is n k e q =
-    split (lt-or-le k n) (λ h. (h, at-same e k (sym q ∙ found-at n k h))) (λ h. at-nothing e (sym q ∙ found-nothing n k h))
+-- ---- a number among n
+pub found-at : (n k : ℕ) → k < n → foundBelow n k ≡ At k
+unfolding foundBelow
+found-at n k h = rw (lt-ltb k n h)
 
-pub found-no : (n k : ℕ) → foundBelow n k ≡ Nothing → n ≤ k
-found-no n k q = split (lt-or-le k n) (λ h. at-nothing k (sym (found-at n k h) ∙ q)) (λ h. h)
+pub found-nothing : (n k : ℕ) → n ≤ k → foundBelow n k ≡ Nothing
+unfolding foundBelow
+found-nothing n k h = rw (le-ltb k n h)
+
+pub found-says : (n k e : ℕ) → foundBelow n k ≡ At e → (k ≡ e) × (e < n)
+found-says n k e q =
+    split (lt-or-le k n)
+    (λ w. let p : k ≡ e = at-once k e (sym (found-at n k w) ∙ q) in (p, omega arith))
+    (λ w. absurd (at-not-nothing e (sym q ∙ found-nothing n k w)))
+
+pub nothing-says : (n k : ℕ) → foundBelow n k ≡ Nothing → n ≤ k
+nothing-says n k q = split (lt-or-le k n) (λ w. absurd (at-not-nothing k (sym (found-at n k w) ∙ q))) (λ w. w)
+
+-- the number of an answer is the number that was looked at
+pub number-found : (n k : ℕ) → k ≤ n → numberOf n (foundBelow n k) ≡ k
+number-found n k h =
+    split (lt-or-le k n) (λ w. rw (found-at n k w)) (λ w. let q : n ≡ k = omega arith in rw (found-nothing n k w) q)
+
+-- ---- the first number from i on, below n, that passes a test
+pub record FirstAt (p : ℕ → Bool) (i n e : ℕ) : Type 0 where
+  pub low : i ≤ e
+  pub below : e < n
+  pub holds : p e ≡ true
+  pub before : (j : ℕ) → i ≤ j → j < e → p j ≡ false
 
 module _ (p : ℕ → Bool) (i n : ℕ) where
-  -- k is the first number from i on, below n, that passes
-  pub record First (k : ℕ) : Type 0 where
-    pub from : i ≤ k
-    pub below : k < n
-    pub holds : p k ≡ true
-    pub before : (j : ℕ) → i ≤ j → j < k → p j ≡ false
+  pub first-says : (e : ℕ) → foundBelow n (firstIn p i n) ≡ At e → FirstAt p i n e
+  first-says e q =
+      let s = found-says n (firstIn p i n) e q in
+      let k : firstIn p i n ≡ e = s .0 in
+      record {
+        low = omega (arith, first-low p i n);
+        below = s .1;
+        holds = rw (← k) (first-holds p i n (omega (arith, s .1)));
+        before = λ j a b. first-before p i n j a (omega arith);
+      }
 
-  pub found-first : (k : ℕ) → foundBelow n (firstIn p i n) ≡ At k → First k
-  found-first k q =
-      let f = found-is n (firstIn p i n) k q in
-      let h : firstIn p i n < n = f .0 in
-      let e : k ≡ firstIn p i n = f .1 in
-      rw e record { from = first-low p i n; below = h; holds = first-holds p i n h; before = λ j a b. first-before p i n j a b }
+  pub first-is-at : (e : ℕ) → FirstAt p i n e → foundBelow n (firstIn p i n) ≡ At e
+  first-is-at e f = rw (first-is p i n e (f .low) (f .below) (f .holds) (f .before)) (found-at n e (f .below))
 
-  pub first-found : (k : ℕ) → First k → foundBelow n (firstIn p i n) ≡ At k
-  first-found k f =
-      ap (foundBelow n) (first-is p i n k (f .from) (f .below) (f .holds) (f .before)) ∙ found-at n k (f .below)
+  -- none passes
+  pub none-says : foundBelow n (firstIn p i n) ≡ Nothing → (j : ℕ) → i ≤ j → j < n → p j ≡ false
+  none-says q j a b = first-before p i n j a (omega (arith, nothing-says n (firstIn p i n) q))
 
-  pub found-none : foundBelow n (firstIn p i n) ≡ Nothing → (j : ℕ) → i ≤ j → j < n → p j ≡ false
-  found-none q j a b =
-      let h : n ≤ firstIn p i n = found-no n (firstIn p i n) q in first-before p i n j a (omega arith)
+  pub none-is : ((j : ℕ) → i ≤ j → j < n → p j ≡ false) → foundBelow n (firstIn p i n) ≡ Nothing
+  none-is f =
+      split (lt-or-le n i)
+      (λ w. rw (first-end p i n (omega arith)) (found-nothing n i (omega arith)))
+      (λ w. rw (first-none p i n w f) (found-nothing n n (omega arith)))
 
-  pub none-found : i ≤ n → ((j : ℕ) → i ≤ j → j < n → p j ≡ false) → foundBelow n (firstIn p i n) ≡ Nothing
-  none-found h f = ap (foundBelow n) (first-none p i n h f) ∙ found-nothing n n (omega arith)
+  -- a loop that has come to e: a hit there, and its end
+  pub look-hit : (e : ℕ) → firstIn p e n ≡ firstIn p i n → e < n → p e ≡ true → At e ≡ foundBelow n (firstIn p i n)
+  look-hit e q h t = sym (rw (← q, first-hit p e n h t) (found-at n e h))
 
-  -- ---- a loop that looks from i on and has come to k: its answer, and its end
-  pub look-hit : (k : ℕ) → firstIn p k n ≡ firstIn p i n → k < n → p k ≡ true → At k ≡ foundBelow n (firstIn p i n)
-  look-hit k q h e = sym (ap (foundBelow n) (sym q ∙ first-hit p k n h e) ∙ found-at n k h)
-
-  pub look-end : (k : ℕ) → firstIn p k n ≡ firstIn p i n → n ≤ k → Nothing ≡ foundBelow n (firstIn p i n)
-  look-end k q h = sym (ap (foundBelow n) (sym q ∙ first-end p k n h) ∙ found-nothing n k h)
+  pub look-end : (e : ℕ) → firstIn p e n ≡ firstIn p i n → n ≤ e → Nothing ≡ foundBelow n (firstIn p i n)
+  look-end e q h = sym (rw (← q, first-end p e n h) (found-nothing n e h))

@@ -7,4 +7,4 @@ pub mod Marks
 pub mod Fcb
 pub mod Found
 pub mod FoundLaws
-pub mod ListedLaws
+pub mod SlotLaws

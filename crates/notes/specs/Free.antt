@@ -6,7 +6,7 @@ use native.Mathlib.Omega.{arith}
 use borrow.Author.Tests.{eq-eqb, ne-eqb, eqb-true, eqb-false}
 use Rattle.format.specs.Diskette.{Bytes, Geometry}
 use Rattle.format.specs.Entries.{Rows}
-use Rattle.format.specs.FoundLaws.{found-first, first-found, found-none, none-found}
+use Rattle.format.specs.FoundLaws.{first-says, first-is-at, none-says, none-is}
 use Rattle.format.specs.Notes.{freeNote, noteAt, mapRight, isFree, findFree}
 use Rattle.format.specs.declared.Found.the-variants.{At, Nothing}
 use Rattle.notes.specs.Right.{NoteOk, ok-area, ok-recorded, ok-free, ok-pending, Spare, map-ok}
@@ -21,22 +21,22 @@ module _ (G : Geometry) (map : Bytes) where
   pub free-is : (b : ℕ) → findFree G map ≡ At b → FirstFree G map b
   unfolding findFree isFree
   free-is b q =
-      let f = found-first (isFree map) 0 (G .blocks) b q in
+      let f = first-says (isFree map) 0 (G .blocks) b q in
       record { below = f .below; free = eqb-true _ _ (f .holds); lowest = λ c h. eqb-false _ _ (f .before c (omega arith) h) }
 
   pub is-free : (b : ℕ) → FirstFree G map b → findFree G map ≡ At b
   unfolding findFree isFree
   is-free b f =
-      first-found (isFree map) 0 (G .blocks) b
-      record { from = omega arith; below = f .below; holds = eq-eqb _ _ (f .free); before = λ c l h. ne-eqb _ _ (f .lowest c h) }
+      first-is-at (isFree map) 0 (G .blocks) b
+      record { low = omega arith; below = f .below; holds = eq-eqb _ _ (f .free); before = λ c l h. ne-eqb _ _ (f .lowest c h) }
 
   pub none-free : findFree G map ≡ Nothing → (b : ℕ) → b < G .blocks → noteAt map b ≡ freeNote → ⊥
   unfolding findFree isFree
-  none-free q b h = eqb-false _ _ (found-none (isFree map) 0 (G .blocks) q b (omega arith) h)
+  none-free q b h = eqb-false _ _ (none-says (isFree map) 0 (G .blocks) q b (omega arith) h)
 
   pub free-none : ((b : ℕ) → b < G .blocks → noteAt map b ≡ freeNote → ⊥) → findFree G map ≡ Nothing
   unfolding findFree isFree
-  free-none f = none-found (isFree map) 0 (G .blocks) (omega arith) (λ b l h. ne-eqb _ _ (f b h))
+  free-none f = none-is (isFree map) 0 (G .blocks) (λ b l h. ne-eqb _ _ (f b h))
 
 -- a free note of a right map is that of a spare block
 pub free-spare : (G : Geometry) (d : Rows) (b n : ℕ) → NoteOk G d b n → n ≡ freeNote → Spare G d b

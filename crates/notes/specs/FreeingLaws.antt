@@ -15,7 +15,9 @@ use Rattle.lists.specs.Tab.{tab, length-tab, getD-tab, tab-cong, tab-getD}
 use Rattle.format.specs.Diskette.{Bytes, Geometry}
 use Rattle.format.specs.Entries.{Rows, used, slotCount, slotsOf}
 use Rattle.format.specs.Consistent.{listed, slotsInAll}
-use Rattle.format.specs.ListedLaws.{slot-at, listed-stands, stands-place}
+use Rattle.consistency.specs.Facts.{Stands}
+use Rattle.consistency.specs.Listed.{stands-at, stands-place, stands-listed}
+use Rattle.format.specs.SlotLaws.{getD-slotsOf}
 use Rattle.format.specs.Notes.{freeNote, noteAt, withNote, pendingEntry, heldFor, listedBy, releasedNote, releasedMap}
 use Rattle.notes.specs.Numbers.{settled-not}
 use Rattle.notes.specs.Changes.{length-note, note-same, note-other}
@@ -166,19 +168,26 @@ module _ (G : Geometry) (d : Rows) (picked : ℕ → Bool) (sure : (e : ℕ) →
       let r = any-some (λ (j : ℕ). eqb (getD (slotsOf (d e)) j 0) b) slotCount (and-right _ _ (and-right _ _ (s .holds))) in
       let j : ℕ = r .place in
       let l : j < slotCount = r .below in
-      let p = stands-place G d b e j record { entry = s .below; place = l; owner = sure e (s .below) (and-left _ _ (s .holds)); is = sym (slot-at (d e) j l) ∙ eqb-true _ _ (r .holds) } in
+      let z : not (eqb b 0) ≡ true = and-left _ _ (and-right _ _ (s .holds)) in
+      let a : Stands G d b e j = record {
+        entry = s .below;
+        place = l;
+        uses = sure e (s .below) (and-left _ _ (s .holds));
+        is = sym (getD-slotsOf (d e) j l) ∙ eqb-true _ _ (r .holds);
+        real = eqb-false b 0 (not-true (eqb b 0) z);
+      } in
       let q : (slotCount * e + j) / slotCount ≡ e = omega arith in
-      and-both _ _ (and-left _ _ (and-right _ _ (s .holds)))
-      (any-at (λ (x : ℕ). picked (x / slotCount) and eqb (listed d x) b) (slotsInAll G) (slotCount * e + j) (p .0)
-      (and-both _ _ (ap picked q ∙ and-left _ _ (s .holds)) (eq-eqb _ _ (p .1)))))
+      and-both _ _ z
+      (any-at (λ (x : ℕ). picked (x / slotCount) and eqb (listed d x) b) (slotsInAll G) (slotCount * e + j) (stands-place G d b e j a)
+      (and-both _ _ (ap picked q ∙ and-left _ _ (s .holds)) (eq-eqb _ _ (stands-listed G d b e j a)))))
       (λ t. let s = any-some (λ (x : ℕ). picked (x / slotCount) and eqb (listed d x) b) (slotsInAll G) (and-right _ _ t) in
       let x : ℕ = s .place in
       let z : not (eqb b 0) ≡ true = and-left _ _ t in
-      let a = listed-stands G d b x (s .below) (eqb-true _ _ (and-right _ _ (s .holds))) (eqb-false b 0 (not-true (eqb b 0) z)) in
+      let a = stands-at G d x b (s .below) (eqb-true _ _ (and-right _ _ (s .holds))) (eqb-false b 0 (not-true (eqb b 0) z)) in
       any-at (λ (e : ℕ). picked e and inSlots (slotsOf (d e)) slotCount b) (G .entries) (x / slotCount) (a .entry)
       (and-both _ _ (and-left _ _ (s .holds)) (and-both _ _ z
       (any-at (λ (j : ℕ). eqb (getD (slotsOf (d (x / slotCount))) j 0) b) slotCount (x % slotCount) (a .place)
-      (eq-eqb _ _ (slot-at (d (x / slotCount)) (x % slotCount) (a .place) ∙ a .is))))))
+      (eq-eqb _ _ (getD-slotsOf (d (x / slotCount)) (x % slotCount) (a .place) ∙ a .is))))))
 
   -- after the loop, freeing what is held releases the blocks of the picked entries
   pub entries-released : (old map : Bytes) → length old ≡ G .blocks → Freed (inEntries d picked (G .entries)) old map → unheldMap G picked map ≡ releasedMap G d picked old

@@ -28,6 +28,16 @@ pub fn pending_note(e: usize, j: usize) -> u16
     (PENDING + PLACES * e + j) as u16
 }
 
+// The note of a block: 0 for a number past the last block.
+pub fn note_at(map: &[u16], b: usize) -> u16
+    ensures { λ r. ⌜ r ≡ noteAt (now (map .entry)) b ⌝ }
+{
+    if b < map.len() {
+        return map[b];
+    }
+    0
+}
+
 // The one change of a note: all others go through here.
 pub fn set_note(map: &mut [u16], b: usize, n: u16)
     requires { ⌜ b < length (now map) ⌝ }

@@ -1,4 +1,3 @@
-pub mod Found
 pub mod Fields
 pub mod Entries
 pub mod Find

@@ -4,6 +4,7 @@ ghost use Prim.Native.Nat.{_+_, _*_, _≤_, _<_};
 ghost use lib.ListN.{length};
 ghost use Rattle.format.specs.Diskette.{eightInch, imageBytes};
 ghost use Rattle.format.specs.Names.{nameBytes};
+ghost use Rattle.format.specs.Consistent.{numbersRight};
 ghost use Rattle.format.specs.Entries.{entryBytes, slotCount, entryPlace, entryAt, withEntry, slotsOf, extentOf, covers, countIn, slotFor, named, isFile, findFile, findNamed, findEmpty};
 use format::ENTRIES;
 use format::ENTRIES_PER_RECORD;
@@ -88,6 +89,20 @@ pub fn slot_for(ext: usize, k: usize) -> usize
     ensures { λ j. ⌜ (j ≡ slotFor eightInch ext k) × (j < slotCount) ⌝ }
 {
     k / format::RECORDS_PER_BLOCK
+}
+
+// Whether ex, s2 and rc are in range, in a row or an FCB.
+pub fn numbers_right(r: &[u8]) -> bool
+    requires { ⌜ entryBytes ≤ length (now r) ⌝ }
+    ensures { λ b. ⌜ b ≡ numbersRight (now (r .entry)) ⌝ }
+{
+    if 31 < r[12] {
+        return false;
+    }
+    if 63 < r[14] {
+        return false;
+    }
+    r[15] <= 128
 }
 
 // Whether a row is the user's, and its name is what the name in s at q asks for.

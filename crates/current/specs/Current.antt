@@ -1,0 +1,117 @@
+-- What it says that an FCB is current, as facts: its fields are in range, its entry is found, and its slots fit, slot by slot.
+use mathlib.Core.Path.{_≡_, sym, ap, _∙_}
+use mathlib.Core.Bool.{true, false, cond}
+use Prim.Native.Nat.{ℕ, _≤_, _<_}
+use lib.Dec.{eqb}
+use lib.ListN.{getD}
+use borrow.Author.Tests.{leb-true, le-leb, eqb-true, eq-eqb}
+use Rattle.lists.specs.Cases.{split, bool-cases}
+use Rattle.lists.specs.Tests.{_and_, _or_, and-left, and-right, and-both, or-left, or-right, or-cases}
+use Rattle.lists.specs.Below.{allBelow, all-at, all-intro}
+use Rattle.format.specs.Diskette.{Bytes, Geometry}
+use Rattle.format.specs.Names.{nameRight}
+use Rattle.format.specs.Entries.{Rows, slotCount, slotsOf, slotOf, extentOf, isFile, findFile}
+use Rattle.format.specs.Notes.{pendingFor, noteAt}
+use Rattle.format.specs.Fcb.{crOf, fcbRight, slotFits, slotsFit, fitting, current}
+use Rattle.format.specs.SlotLaws.{getD-slotsOf}
+use Rattle.format.specs.FoundLaws.{FirstAt, at-not-nothing, at-once, found-cases}
+use Rattle.format.specs.declared.Found.{Found}
+use Rattle.format.specs.declared.Found.the-variants.{At, Nothing}
+use Rattle.rows.specs.Find.{fileTest, file-says}
+use Rattle.consistency.specs.Facts.{Numbers}
+use Rattle.consistency.specs.Reflect.{numbers-elim, numbers-intro}
+
+-- ---- the fields
+pub record FcbOk (fcb : Bytes) : Type 0 where
+  pub name : nameRight false fcb 1 ≡ true
+  pub numbers : Numbers fcb
+  pub cr : crOf fcb ≤ 128
+
+pub fcb-says : (fcb : Bytes) → fcbRight fcb ≡ true → FcbOk fcb
+unfolding fcbRight
+fcb-says fcb t = record {
+  name = and-left _ _ t;
+  numbers = numbers-elim fcb (and-left _ _ (and-right _ _ t));
+  cr = leb-true _ _ (and-right _ _ (and-right _ _ t));
+}
+
+pub fcb-is : (fcb : Bytes) → FcbOk fcb → fcbRight fcb ≡ true
+unfolding fcbRight
+fcb-is fcb f = and-both _ _ (f .name) (and-both _ _ (numbers-intro fcb (f .numbers)) (le-leb _ _ (f .cr)))
+
+-- ---- the slots
+-- slot j of the FCB fits entry e, whose row is r
+pub data SlotOk (map : Bytes) (e : ℕ) (r fcb : Bytes) (j : ℕ) : Type 0 where
+  slot-same : slotOf fcb j ≡ slotOf r j → SlotOk map e r fcb j
+  slot-pending : slotOf r j ≡ 0 → noteAt map (slotOf fcb j) ≡ pendingFor e j → SlotOk map e r fcb j
+
+module _ (map : Bytes) (e : ℕ) (r fcb : Bytes) where
+  pub slot-says : (j : ℕ) → j < slotCount → slotFits map e (slotsOf r) (slotsOf fcb) j ≡ true → SlotOk map e r fcb j
+  unfolding slotFits
+  slot-says j h t =
+      let p : getD (slotsOf r) j 0 ≡ slotOf r j = getD-slotsOf r j h in
+      let q : getD (slotsOf fcb) j 0 ≡ slotOf fcb j = getD-slotsOf fcb j h in
+      split (or-cases _ _ t) (λ w. slot-same (sym q ∙ eqb-true _ _ w ∙ p))
+      (λ w. slot-pending (sym p ∙ eqb-true _ _ (and-left _ _ w)) (ap (noteAt map) (sym q) ∙ eqb-true _ _ (and-right _ _ w)))
+
+  pub slot-is : (j : ℕ) → j < slotCount → SlotOk map e r fcb j → slotFits map e (slotsOf r) (slotsOf fcb) j ≡ true
+  unfolding slotFits
+  slot-is j h (slot-same q) = or-left _ _ (eq-eqb _ _ (getD-slotsOf fcb j h ∙ q ∙ sym (getD-slotsOf r j h)))
+  slot-is j h (slot-pending z q) =
+      or-right _ _ (and-both _ _ (eq-eqb _ _ (getD-slotsOf r j h ∙ z)) (eq-eqb _ _ (ap (noteAt map) (getD-slotsOf fcb j h) ∙ q)))
+
+  pub slots-say : slotsFit map e (slotsOf r) (slotsOf fcb) ≡ true → (j : ℕ) → j < slotCount → SlotOk map e r fcb j
+  unfolding slotsFit
+  slots-say t j h = slot-says j h (all-at (slotFits map e (slotsOf r) (slotsOf fcb)) slotCount t j h)
+
+  pub slots-are : ((j : ℕ) → j < slotCount → SlotOk map e r fcb j) → slotsFit map e (slotsOf r) (slotsOf fcb) ≡ true
+  unfolding slotsFit
+  slots-are f = all-intro (slotFits map e (slotsOf r) (slotsOf fcb)) slotCount (λ j h. slot-is j h (f j h))
+
+-- ---- the FCB is current, and e is its entry
+pub record Current (G : Geometry) (d : Rows) (map : Bytes) (user : ℕ) (fcb : Bytes) (e : ℕ) : Type 0 where
+  pub right : fcbRight fcb ≡ true
+  pub found : findFile G d user fcb 1 (extentOf fcb) ≡ At e
+  pub fits : slotsFit map e (slotsOf (d e)) (slotsOf fcb) ≡ true
+
+module _ (G : Geometry) (d : Rows) (map : Bytes) (user : ℕ) (fcb : Bytes) where
+  -- the ways to be current or not, in the order in which they are tested
+  pub current-wrong : fcbRight fcb ≡ false → current G d map user fcb ≡ Nothing
+  unfolding current
+  current-wrong f = rw f
+
+  pub current-missing : fcbRight fcb ≡ true → findFile G d user fcb 1 (extentOf fcb) ≡ Nothing → current G d map user fcb ≡ Nothing
+  unfolding current
+  current-missing t q = rw (t, q)
+
+  pub current-fitting : (e : ℕ) → fcbRight fcb ≡ true → findFile G d user fcb 1 (extentOf fcb) ≡ At e
+      → current G d map user fcb ≡ cond (slotsFit map e (slotsOf (d e)) (slotsOf fcb)) (At e) Nothing
+  unfolding current
+  current-fitting e t q = rw (t, q)
+
+  pub current-is : (e : ℕ) → Current G d map user fcb e → current G d map user fcb ≡ At e
+  current-is e c = current-fitting e (c .right) (c .found) ∙ rw (c .fits)
+
+  pub current-says : (e : ℕ) → current G d map user fcb ≡ At e → Current G d map user fcb e
+  current-says e q =
+      split (bool-cases (fcbRight fcb))
+      (λ t. found-cases (findFile G d user fcb 1 (extentOf fcb))
+      (λ k w. split (bool-cases (slotsFit map k (slotsOf (d k)) (slotsOf fcb)))
+      (λ f. let z : k ≡ e = at-once k e (sym (current-fitting k t w ∙ rw f) ∙ q) in rw (← z) record { right = t; found = w; fits = f })
+      (λ f. absurd (at-not-nothing e (sym q ∙ current-fitting k t w ∙ rw f))))
+      (λ w. absurd (at-not-nothing e (sym q ∙ current-missing t w))))
+      (λ f. absurd (at-not-nothing e (sym q ∙ current-wrong f)))
+
+  -- the entry of a current FCB is the first of its file
+  pub current-file : (e : ℕ) → Current G d map user fcb e → FirstAt (fileTest d user fcb 1 (extentOf fcb)) 0 (G .entries) e
+  current-file e c = file-says G d user fcb 1 (extentOf fcb) e (c .found)
+
+  pub current-low : (e : ℕ) → Current G d map user fcb e → e < G .entries
+  current-low e c = current-file e c .below
+
+  pub current-slot : (e : ℕ) → Current G d map user fcb e → (j : ℕ) → j < slotCount → SlotOk map e (d e) fcb j
+  current-slot e c = slots-say map e (d e) fcb (c .fits)
+
+  -- where none is the FCB's, it is not current
+  pub current-none : ((e : ℕ) → Current G d map user fcb e → ⊥) → current G d map user fcb ≡ Nothing
+  current-none f = found-cases (current G d map user fcb) (λ e q. absurd (f e (current-says e q))) (λ q. q)

@@ -1,0 +1,125 @@
+-- An image in which the rows that a test picks are changed (19, 23): its rows, its records and its bytes; and the row of a delete.
+use mathlib.Core.Path.{_≡_, refl, ap, sym, _∙_}
+use mathlib.Core.Logic.{_⊎_}
+use mathlib.Core.Bool.{Bool, true, false, cond}
+use Prim.Native.Nat.{ℕ, _+_, _≤_, _<_}
+use native.Mathlib.Omega.{arith}
+use lib.ListN.{length, getD, length-set}
+use lib.Seq.{getD-set-same, getD-set-other}
+use borrow.Author.Tests.{lt-leb, eq-eqb}
+use Rattle.lists.specs.Cases.{split, bool-cases, lt-or-le}
+use Rattle.lists.specs.Fold.{fold-builds}
+use Rattle.format.specs.Diskette.{Bytes, Geometry, Sound, imageBytes, recordAt}
+use Rattle.format.specs.Entries.{entryBytes, entryPlace, entryAt, withEntry, userOf, slotOf, slotCount, empty, used, extentOf}
+use Rattle.disk.specs.Places.{blockRecords}
+use Rattle.rows.specs.Entries.{areaRecords, length-entryAt, length-withEntry, entry-stored, entry-left, entry-byte-left, record-kept}
+use Rattle.model.specs.Calls.{changedRow, changedRows, erasedRow}
+use Rattle.fields.specs.Agree.{Agree, slot-cong, extent-cong}
+
+-- ---- rows that a test picks are changed, one after the other
+module _ {G : Geometry} (S : Sound G) (picks : Bytes → Bool) (change : Bytes → Bytes)
+    (keeps : (r : Bytes) → length r ≡ entryBytes → length (change r) ≡ entryBytes) (img : Bytes) (long : length img ≡ imageBytes G) where
+  -- a row after it
+  after : Bytes → Bytes
+  after r = cond (picks r) (change r) r
+
+  -- byte i lies in no row that is picked among the first n
+  Outside : ℕ → ℕ → Type 0
+  Outside n i = (e : ℕ) → e < n → picks (entryAt G img e) ≡ true → (i < entryPlace G e) ⊎ (entryPlace G e + entryBytes ≤ i)
+
+  -- the image after the first n rows
+  record So (n : ℕ) (out : Bytes) : Type 0 where
+    size : length out ≡ imageBytes G
+    done : (e : ℕ) → e < n → e < G .entries → entryAt G out e ≡ after (entryAt G img e)
+    left : (e : ℕ) → n ≤ e → e < G .entries → entryAt G out e ≡ entryAt G img e
+    past : (d : ℕ) → areaRecords G ≤ d → d < blockRecords G → recordAt G out d ≡ recordAt G img d
+    byte : (i : ℕ) → Outside n i → getD out i 0 ≡ getD img i 0
+
+  so-none : So 0 img
+  so-none = record { size = long; done = λ e h. absurd (omega arith); left = λ e a b. refl; past = λ d a b. refl; byte = λ i o. refl }
+
+  -- a row that is not picked
+  so-kept : (n : ℕ) (out : Bytes) → n < G .entries → picks (entryAt G img n) ≡ false → So n out → So (n + 1) out
+  unfolding after Outside
+  so-kept n out h f s = record {
+    size = s .size;
+    done = λ e a b. split (lt-or-le e n) (λ l. s .done e l b)
+        (λ l. let q : e ≡ n = omega arith in rw q (s .left n (omega arith) h ∙ rw f));
+    left = λ e a b. s .left e (omega arith) b;
+    past = s .past;
+    byte = λ i o. s .byte i (λ e a p. o e (omega arith) p);
+  }
+
+  -- a row that is
+  so-changed : (n : ℕ) (out : Bytes) → n < G .entries → picks (entryAt G img n) ≡ true → So n out → So (n + 1) (withEntry G out n (change (entryAt G img n)))
+  unfolding after Outside
+  so-changed n out h t s =
+      let row : Bytes = change (entryAt G img n) in
+      let w : length row ≡ entryBytes = keeps (entryAt G img n) (length-entryAt S img long n h) in
+      record {
+        size = length-withEntry S out (s .size) n h row w ∙ s .size;
+        done = λ e a b. split (lt-or-le e n)
+            (λ l. entry-left S out (s .size) n h row w e b (λ q. omega arith) ∙ s .done e l b)
+            (λ l. let q : e ≡ n = omega arith in rw q (entry-stored S out (s .size) n h row w ∙ rw t));
+        left = λ e a b. entry-left S out (s .size) n h row w e b (λ q. omega arith) ∙ s .left e (omega arith) b;
+        past = λ d a b. record-kept S out (s .size) n h row w d a b ∙ s .past d a b;
+        byte = λ i o. entry-byte-left S out (s .size) n h row w i (o n (omega arith) t) ∙ s .byte i (λ e a p. o e (omega arith) p);
+      }
+
+  so-next : (n : ℕ) (out : Bytes) → n < G .entries → So n out → So (n + 1) (changedRow G picks change out n)
+  unfolding changedRow
+  so-next n out h s =
+      let q : entryAt G out n ≡ entryAt G img n = s .left n (omega arith) h in
+      rw q
+      (split (bool-cases (picks (entryAt G img n))) (λ t. rw t (so-changed n out h t s)) (λ f. rw f (so-kept n out h f s)))
+
+  so-all : So (G .entries) (changedRows G picks change img)
+  unfolding changedRows
+  so-all = fold-builds So (changedRow G picks change) img (G .entries) so-none (λ n out h s. so-next n out h s)
+
+  pub length-changedRows : length (changedRows G picks change img) ≡ length img
+  length-changedRows = so-all .size ∙ sym long
+
+  pub row-changedRows : (e : ℕ) → e < G .entries
+      → entryAt G (changedRows G picks change img) e ≡ cond (picks (entryAt G img e)) (change (entryAt G img e)) (entryAt G img e)
+  unfolding after
+  row-changedRows e h = so-all .done e h h
+
+  pub row-picked : (e : ℕ) → e < G .entries → picks (entryAt G img e) ≡ true → entryAt G (changedRows G picks change img) e ≡ change (entryAt G img e)
+  row-picked e h t = row-changedRows e h ∙ rw t
+
+  pub row-unpicked : (e : ℕ) → e < G .entries → picks (entryAt G img e) ≡ false → entryAt G (changedRows G picks change img) e ≡ entryAt G img e
+  row-unpicked e h f = row-changedRows e h ∙ rw f
+
+  -- records past the directory stay, and so does a byte that lies in no row that is picked
+  pub record-changedRows : (d : ℕ) → areaRecords G ≤ d → d < blockRecords G → recordAt G (changedRows G picks change img) d ≡ recordAt G img d
+  record-changedRows d a b = so-all .past d a b
+
+  pub byte-changedRows : (i : ℕ)
+      → ((e : ℕ) → e < G .entries → picks (entryAt G img e) ≡ true → (i < entryPlace G e) ⊎ (entryPlace G e + entryBytes ≤ i))
+      → getD (changedRows G picks change img) i 0 ≡ getD img i 0
+  unfolding Outside
+  byte-changedRows i o = so-all .byte i o
+
+-- ---- 19: byte 0 to E5H only
+module _ (row : Bytes) where
+  pub length-erasedRow : length (erasedRow row) ≡ length row
+  unfolding erasedRow
+  length-erasedRow = length-set row 0 229
+
+  pub rest-erased : (n : ℕ) → Agree (erasedRow row) row 1 n
+  unfolding erasedRow
+  rest-erased n i a b = getD-set-other row 0 i 229 0 (λ q. omega arith)
+
+  module _ (hr : length row ≡ 32) where
+    pub user-erased : userOf (erasedRow row) ≡ 229
+    unfolding erasedRow
+    user-erased = getD-set-same row 0 229 0 (omega arith)
+
+    pub empty-erased : empty (erasedRow row) ≡ true
+    unfolding empty
+    empty-erased = eq-eqb _ _ user-erased
+
+    pub used-erased : used (erasedRow row) ≡ false
+    unfolding used
+    used-erased = rw user-erased
