@@ -8,7 +8,7 @@ use native.Mathlib.Omega.{arith}
 use lib.Dec.{eqb}
 use borrow.Author.Tests.{eqb-true, eqb-false}
 use Rattle.lists.specs.Cases.{split, eq-or-ne, not-both}
-use Rattle.format.specs.Diskette.{Geometry, Sound}
+use Rattle.format.specs.Diskette.{Bytes, Geometry, Sound}
 use Rattle.format.specs.Names.{nameRight}
 use Rattle.format.specs.Entries.{Rows, slotCount, userOf, slotOf, used}
 use Rattle.format.specs.Notes.{recordedNote, pendingFor}
@@ -26,11 +26,17 @@ pub record Held (G : Geometry) (d : Rows) (m : ℕ → ℕ) (e j b : ℕ) : Type
   pub low : b < G .blocks
   pub noted : m b ≡ pendingFor e j
 
+-- what the closed entry's row r is to the row that it was
+pub record ClosedTo (G : Geometry) (d : Rows) (m : ℕ → ℕ) (e : ℕ) (r : Bytes) : Type 0 where
+  pub file : SameFile r (d e)
+  pub name : nameRight false r 1 ≡ true
+  pub numbers : Numbers r
+  pub slot : (j : ℕ) → j < slotCount → (slotOf r j ≡ slotOf (d e) j) ⊎ Held G d m e j (slotOf r j)
+
 module _ {G : Geometry} (S : Sound G) (d d′ : Rows) (m m′ : ℕ → ℕ) (v : Inv G d m) (e : ℕ) (below : e < G .entries) (uses : used (d e) ≡ true)
-    (there : (k : ℕ) → k < G .entries → (k ≡ e → ⊥) → d′ k ≡ d k)
-    (file : SameFile (d′ e) (d e)) (name : nameRight false (d′ e) 1 ≡ true) (numbers : Numbers (d′ e))
-    (slot : (j : ℕ) → j < slotCount → (slotOf (d′ e) j ≡ slotOf (d e) j) ⊎ Held G d m e j (slotOf (d′ e) j))
-    (settled : (j : ℕ) → j < slotCount → Held G d m e j (slotOf (d′ e) j) → m′ (slotOf (d′ e) j) ≡ recordedNote)
+    (there : (k : ℕ) → k < G .entries → (k ≡ e → ⊥) → d′ k ≡ d k) (closed : ClosedTo G d m e (d′ e))
+    -- the blocks that the entry takes are recorded, the other notes stay
+    (settled : (b j : ℕ) → j < slotCount → Held G d m e j b → slotOf (d′ e) j ≡ b → (b ≡ 0 → ⊥) → m′ b ≡ recordedNote)
     (left : (b : ℕ) → b < G .blocks → ((j : ℕ) → j < slotCount → Held G d m e j b → slotOf (d′ e) j ≡ b → ⊥) → m′ b ≡ m b) where
   -- a block that is held is listed nowhere
   held-spare : (b j : ℕ) → Held G d m e j b → Spare G d b
@@ -51,11 +57,11 @@ module _ {G : Geometry} (S : Sound G) (d d′ : Rows) (m m′ : ℕ → ℕ) (v 
     new : f ≡ e → j < slotCount → Held G d m e j b → Origin b f j
 
   still-used : used (d′ e) ≡ true
-  still-used = low-used (d′ e) (let q : userOf (d′ e) ≡ userOf (d e) = file .user in omega (arith, used-low (d e) uses))
+  still-used = low-used (d′ e) (let q : userOf (d′ e) ≡ userOf (d e) = closed .file .user in omega (arith, used-low (d e) uses))
 
   here : (b j : ℕ) → Stands G d′ b e j → Origin b e j
   here b j s =
-      split (slot j (s .place))
+      split (closed .slot j (s .place))
       (λ q. old (record { entry = below; place = s .place; uses = uses; is = sym q ∙ s .is; real = s .real }))
       (λ h. new refl (s .place) (subst (Held G d m e j) (s .is) h))
 
@@ -75,7 +81,7 @@ module _ {G : Geometry} (S : Sound G) (d d′ : Rows) (m m′ : ℕ → ℕ) (v 
         entry = below;
         place = s .place;
         uses = still-used;
-        is = split (slot j (s .place)) (λ p. p ∙ i) (λ h. absurd (s .real (sym i ∙ h .was)));
+        is = split (closed .slot j (s .place)) (λ p. p ∙ i) (λ h. absurd (s .real (sym i ∙ h .was)));
         real = s .real;
       }))
       (λ q. stands-row G d d′ b f j (sym (there f (s .entry) q)) s)
@@ -102,12 +108,12 @@ module _ {G : Geometry} (S : Sound G) (d d′ : Rows) (m m′ : ℕ → ℕ) (v 
   closed-fine : Fine G (d′ e)
   closed-fine = record {
     user = used-low (d′ e) still-used;
-    name = name;
-    numbers = numbers;
-    low = λ j l r. split (slot j l)
+    name = closed .name;
+    numbers = closed .numbers;
+    low = λ j l r. split (closed .slot j l)
         (λ q. subst (λ (x : ℕ). G .area ≤ x) (sym q) (v .dir .fine e below uses .low j l (λ z. r (q ∙ z))))
         (λ h. held-spare (slotOf (d′ e) j) j h .past);
-    high = λ j l r. split (slot j l)
+    high = λ j l r. split (closed .slot j l)
         (λ q. subst (λ (x : ℕ). x < G .blocks) (sym q) (v .dir .fine e below uses .high j l (λ z. r (q ∙ z))))
         (λ h. h .low);
   }
@@ -120,7 +126,7 @@ module _ {G : Geometry} (S : Sound G) (d d′ : Rows) (m m′ : ℕ → ℕ) (v 
       once-entry once-slot
       (λ k f l h p q u w s. eqb-true k e p ∙ sym (eqb-true f e q))
       (λ k f l h p q u w s. eqb-false f e q
-      (sym (v .dir .apart e f below h uses w (same-trans (d e) (d′ e) (d f) (same-sym (d′ e) (d e) file) (subst (λ (x : ℕ). SameFile (d′ x) (d f)) (eqb-true k e p) s)))))
+      (sym (v .dir .apart e f below h uses w (same-trans (d e) (d′ e) (d f) (same-sym (d′ e) (d e) (closed .file)) (subst (λ (x : ℕ). SameFile (d′ x) (d f)) (eqb-true k e p) s)))))
 
   -- ---- the notes
   -- a block that no slot takes keeps its note, and stays spare
@@ -140,10 +146,10 @@ module _ {G : Geometry} (S : Sound G) (d d′ : Rows) (m m′ : ℕ → ℕ) (v 
   -- a block that is pending for slot k, and that the entry takes there
   taken : (b k : ℕ) → k < slotCount → Spare G d b → slotOf (d′ e) k ≡ b → NoteOk G d′ b (m′ b)
   taken b k l s z =
-      split (slot k l)
+      split (closed .slot k l)
       (λ p. absurd (unlisted-never G d b (s .unlisted) e k
       (record { entry = below; place = l; uses = uses; is = sym p ∙ z; real = past-real S b (s .past) })))
-      (λ h. ok-recorded (sym (ap m′ z) ∙ settled k l h) (s .past)
+      (λ h. ok-recorded (settled b k l (subst (Held G d m e k) z h) z (past-real S b (s .past))) (s .past)
       (somewhere-listed G d′ b e k (record { entry = below; place = l; uses = still-used; is = z; real = past-real S b (s .past) })))
 
   -- a block whose note is no note of the entry's is not held for it
