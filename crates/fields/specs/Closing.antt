@@ -15,14 +15,15 @@ use Rattle.lists.specs.Splice.{splice, length-splice, getD-splice-in, getD-spli
 use Rattle.lists.specs.Tab.{length-tab, getD-tab}
 use Rattle.lists.specs.Fold.{foldBelow, fold-keeps}
 use Rattle.format.specs.Diskette.{Bytes, Geometry}
-use Rattle.format.specs.Names.{sevenBits}
+use Rattle.format.specs.Names.{sevenBits, nameRight}
 use Rattle.format.specs.Entries.{Rows, userOf, exOf, s2Of, rcOf, slotOf, slotsOf, slotCount, empty, used, readOnly, extentOf, countIn}
 use Rattle.format.specs.SlotLaws.{getD-slotsOf}
 use Rattle.format.specs.Notes.{noteAt, withNote, recordedNote}
 use Rattle.format.specs.Fcb.{crOf, randomOf, fcbRight, current}
 use Rattle.model.specs.Closing.{takesSlot, mergedSlot, mergedSlots, countsMore, closedCount, closedRow, closeChanges, closedNote, closedMap, closedFcb}
-use Rattle.consistency.specs.Facts.{SameFile}
-use Rattle.fields.specs.Agree.{Agree, SameName, same-file, row-ext, slot-cong, used-cong, empty-cong, readOnly-cong, extent-cong, random-cong, fcbRight-cong, current-cong}
+use Rattle.consistency.specs.Facts.{Numbers, SameFile}
+use Rattle.names.specs.Laws.{right-cong}
+use Rattle.fields.specs.Agree.{Agree, SameName, same-file, same-name, row-ext, slot-cong, used-cong, empty-cong, readOnly-cong, extent-cong, random-cong, fcbRight-cong, current-cong}
 
 -- ---- the slots taken
 pub length-mergedSlots : (es fs : Bytes) → length (mergedSlots es fs) ≡ slotCount
@@ -116,6 +117,15 @@ module _ (row fcb : Bytes) (hr : length row ≡ 32) where
   pub slot-closed-new : (j : ℕ) → j < slotCount → slotOf row j ≡ 0 → slotOf (closedRow row fcb) j ≡ slotOf fcb j
   slot-closed-new j h z = slot-closed j h ∙ merged-new row fcb j h z
 
+  -- a slot stays, or takes the FCB's block
+  pub slot-closed-cases : (j : ℕ) → j < slotCount
+      → (slotOf (closedRow row fcb) j ≡ slotOf row j)
+      ⊎ ((slotOf row j ≡ 0) × (slotOf fcb j ≡ 0 → ⊥) × (slotOf (closedRow row fcb) j ≡ slotOf fcb j))
+  slot-closed-cases j h =
+      split (eq-or-ne (slotOf row j) 0)
+      (λ z. split (eq-or-ne (slotOf fcb j) 0) (λ y. inl (slot-closed-new j h z ∙ y ∙ sym z)) (λ n. inr (z, n, slot-closed-new j h z)))
+      (λ n. inl (slot-closed-old j h n))
+
   -- an entry of the same file, with the same attributes
   pub file-closed : SameFile (closedRow row fcb) row
   file-closed = same-file (closedRow row fcb) row head-closed
@@ -128,6 +138,21 @@ module _ (row fcb : Bytes) (hr : length row ≡ 32) where
 
   pub readOnly-closed : readOnly (closedRow row fcb) ≡ readOnly row
   readOnly-closed = readOnly-cong (closedRow row fcb) row (head-closed 9 (omega arith) (omega arith))
+
+  pub right-closed : (wild : Bool) → nameRight wild (closedRow row fcb) 1 ≡ nameRight wild row 1
+  right-closed wild = right-cong wild (closedRow row fcb) 1 row 1 (same-name (closedRow row fcb) row file-closed)
+
+  pub numbers-closed : Numbers row → Numbers fcb → Numbers (closedRow row fcb)
+  numbers-closed n m = record {
+    ex = rw (head-closed 12 (omega arith) (omega arith)) (n .ex);
+    s2 = rw (head-closed 14 (omega arith) (omega arith)) (n .s2);
+    rc = rw rc-closed (count-closed-high row fcb 128 (n .rc) (m .rc));
+  }
+
+  -- the records that it counts
+  pub countIn-closed : (ext : ℕ) → countIn (closedRow row fcb) ext ≡ closedCount row fcb
+  unfolding countIn
+  countIn-closed ext = rc-closed
 
 -- ---- a close that changes nothing
 module _ (row fcb : Bytes) (same : closeChanges row fcb ≡ false) where

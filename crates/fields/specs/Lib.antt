@@ -2,6 +2,7 @@ pub mod Agree
 pub mod Closing
 pub mod Entering
 pub mod Making
+pub mod Fine
 pub mod Numbers
 pub mod Target
 pub mod Search

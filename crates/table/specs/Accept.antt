@@ -1,35 +1,40 @@
 -- A table passes a call exactly when the call's facts hold.
 use mathlib.Core.Path.{_≡_, refl, sym, ap, _∙_}
-use mathlib.Core.Bool.{Bool, true, false, cond, not}
+use mathlib.Core.Bool.{true, false, not}
 use Prim.Native.Nat.{ℕ, _/_, _≤_, _<_}
 use native.Mathlib.Omega.{arith}
-use lib.Dec.{eqb}
-use lib.ListN.{getD}
+use lib.Dec.{eqb, ltb}
 use borrow.Author.Tests.{leb-false, lt-leb, ltb-false, le-ltb, ne-eqb, eq-eqb, not-false}
-use Rattle.lists.specs.Cases.{split, bool-cases, eq-or-ne, clash}
+use Rattle.lists.specs.Cases.{split, bool-cases, eq-or-ne}
 use Rattle.lists.specs.Tests.{_and_, _or_, and-fails-left, and-fails-right}
 use Rattle.format.specs.Diskette.{Bytes, Geometry}
 use Rattle.format.specs.Consistent.{consistent}
-use Rattle.format.specs.Notes.{mapRight, findFree}
+use Rattle.format.specs.Notes.{findFree}
 use Rattle.format.specs.Fcb.{randomOf}
 use Rattle.format.specs.Found.{isFound}
 use Rattle.format.specs.FoundLaws.{FoundAt, not-found}
 use Rattle.model.specs.declared.Session.{Session}
 use Rattle.model.specs.declared.Code.the-variants.{NotListed}
 use Rattle.model.specs.declared.Verdict.the-variants.{Passed}
-use Rattle.model.specs.Lent.{Lent, rowsOf}
+use Rattle.model.specs.Lent.{Lent}
 use Rattle.model.specs.Target.{extents, isRandom, targetExtent, presentEntry, targetEntry, recordThere, blockThere}
-use Rattle.model.specs.Table.{usesFcb, isListed, parametersRight, diskRight, firstRow, verdict}
-use Rattle.table.specs.First.{NoneHolds, passed-none, none-passed, passed-refused}
+use Rattle.model.specs.Table.{isListed, parametersRight, diskRight, verdict}
+use Rattle.table.specs.First.{_&_, NoneHolds, passed-none, none-passed, passed-refused}
 use Rattle.table.specs.Own.{Call, call13, call15, call16, call17, call18, call19, call20, call21, call22, call23, call32, call33, call34, call35, call36, call46, call98, call-of, ownRows, rowsFor, verdict-rows, verdict-unlisted}
 use Rattle.table.specs.Present.{there-target, file-extent-below}
-use Rattle.table.specs.Facts.{Fits, NamedFiles, Opens, Closes, Searches, SearchesOn, Deletes, Makes, Renames, Sizes, Positions, Reads, Writes, Own, Ready, AcceptedCall}
+use Rattle.table.specs.Facts.{Reads, Own, Ready, AcceptedCall}
 use Rattle.table.specs.Reflect.{found, missed, second-fails, either-found, either-missed, pattern-of, pattern-right, argument-of, argument-right, fits-of, drive-of, parameters-right, image-of, map-of, disk-right, some-of, some-right, none-of, none-right, writable-of, writable-right, positions-of, positions-right}
 
 -- the target's extent of 33 and 34 is below 2,048 exactly where the random record is at most 262,143
 pub random-extent : (n : ℕ) (fcb : Bytes) → isRandom n ≡ true → targetExtent n fcb ≡ randomOf fcb / 128
 unfolding targetExtent
 random-extent n fcb h = rw h
+
+pub random-below : (n : ℕ) (fcb : Bytes) → isRandom n ≡ true → ltb 262143 (randomOf fcb) ≡ false → targetExtent n fcb < extents
+random-below n fcb r h = omega (arith, random-extent n fcb r, ltb-false 262143 (randomOf fcb) h)
+
+pub random-low : (n : ℕ) (fcb : Bytes) → isRandom n ≡ true → targetExtent n fcb < extents → ltb 262143 (randomOf fcb) ≡ false
+random-low n fcb r h = le-ltb 262143 (randomOf fcb) (omega (arith, random-extent n fcb r))
 
 module _ (G : Geometry) (l : Lent) (s : Session) where
   -- ---- from the rows to the facts
@@ -77,11 +82,10 @@ module _ (G : Geometry) (l : Lent) (s : Session) where
   own-of a call32 right low h = argument-of a (h .0)
   own-of a call33 right low h = read-of 33 right low (h .1 .0) (h .1 .1 .1 .1 .0)
   own-of a call34 right low h =
-      let random : randomOf (l .fcb) ≤ 262143 = ltb-false _ _ (h .0) in
       record {
         entry = found _ (h .1 .0);
         writable = h .1 .1 .0;
-        extent = omega (arith, random-extent 34 (l .fcb) refl);
+        extent = random-below 34 (l .fcb) refl (h .0);
         room = either-found _ _ (h .1 .1 .1 .1 .0);
         block = λ z. found _ (second-fails _ _ (h .1 .1 .1 .1 .1 .0) (eq-eqb _ _ z));
       }
@@ -99,64 +103,28 @@ module _ (G : Geometry) (l : Lent) (s : Session) where
   own-right : (argument : ℕ) {n : ℕ} (c : Call n) → Own G l s argument c → NoneHolds (ownRows G argument l s c)
   unfolding _or_
   own-right a call13 o = tt
-  own-right a call15 o = (ap not (o .name), (le-ltb _ _ (o .ex), (missed _ (o .entry), tt)))
-  own-right a call16 o = (missed _ (o .entry), tt)
-  own-right a call17 o = (ap not (o .name), (pattern-right _ (o .ex), (missed _ (o .entry), tt)))
-  own-right a call18 o = (ap not (o .on), (missed _ (o .entry), tt))
-  own-right a call19 o = (ap not (o .name), (some-right G l s true 1 (o .files .some), (writable-right G l s true (o .files .writable), tt)))
-  own-right a call20 o = (missed _ (o .entry), (and-fails-right _ _ (missed _ (o .entry)), (ap not (o .there), tt)))
-  own-right a call21 o = (
-    missed _ (o .entry),
-    (
-      o .writable,
-      (
-        and-fails-right _ _ (missed _ (o .entry)),
-        (lt-leb _ _ (o .extent), (either-missed _ _ (o .room), (block-right 21 (o .block), tt))),
-      ),
-    ),
-  )
-  own-right a call22 o = (ap not (o .name), (le-ltb _ _ (o .ex), (ap isFound (o .new), (missed _ (o .entry), tt))))
-  own-right a call23 o = (
-    ap not (o .name),
-    (
-      ap not (o .new-name),
-      (
-        some-right G l s false 1 (o .files .some),
-        (
-          writable-right G l s false (o .files .writable),
-          (none-right G l s 17 (o .new), tt),
-        ),
-      ),
-    ),
-  )
-  own-right a call32 o = (argument-right a o, tt)
+  own-right a call15 o = ap not (o .name) & le-ltb _ _ (o .ex) & missed _ (o .entry) & tt
+  own-right a call16 o = missed _ (o .entry) & tt
+  own-right a call17 o = ap not (o .name) & pattern-right _ (o .ex) & missed _ (o .entry) & tt
+  own-right a call18 o = ap not (o .on) & missed _ (o .entry) & tt
+  own-right a call19 o = ap not (o .name) & some-right G l s true 1 (o .files .some) & writable-right G l s true (o .files .writable) & tt
+  own-right a call20 o = missed _ (o .entry) & and-fails-right _ _ (missed _ (o .entry)) & ap not (o .there) & tt
+  own-right a call21 o =
+      missed _ (o .entry) & o .writable & and-fails-right _ _ (missed _ (o .entry)) & lt-leb _ _ (o .extent)
+      & either-missed _ _ (o .room) & block-right 21 (o .block) & tt
+  own-right a call22 o = ap not (o .name) & le-ltb _ _ (o .ex) & ap isFound (o .new) & missed _ (o .entry) & tt
+  own-right a call23 o =
+      ap not (o .name) & ap not (o .new-name) & some-right G l s false 1 (o .files .some)
+      & writable-right G l s false (o .files .writable) & none-right G l s 17 (o .new) & tt
+  own-right a call32 o = argument-right a o & tt
   own-right a call33 o =
-      let below : targetExtent 33 (l .fcb) < extents = o .extent in (
-        le-ltb 262143 (randomOf (l .fcb)) (omega (arith, random-extent 33 (l .fcb) refl)),
-        (
-          missed _ (o .entry),
-          (
-            and-fails-right _ _ (missed _ (o .entry)),
-            (missed _ (o .target), (ap not (o .there), tt)),
-          ),
-        ),
-      )
+      random-low 33 (l .fcb) refl (o .extent) & missed _ (o .entry) & and-fails-right _ _ (missed _ (o .entry))
+      & missed _ (o .target) & ap not (o .there) & tt
   own-right a call34 o =
-      let below : targetExtent 34 (l .fcb) < extents = o .extent in (
-        le-ltb 262143 (randomOf (l .fcb)) (omega (arith, random-extent 34 (l .fcb) refl)),
-        (
-          missed _ (o .entry),
-          (
-            o .writable,
-            (
-              and-fails-right _ _ (missed _ (o .entry)),
-              (either-missed _ _ (o .room), (block-right 34 (o .block), tt)),
-            ),
-          ),
-        ),
-      )
-  own-right a call35 o = (ap not (o .name), (some-right G l s false 1 (o .some), tt))
-  own-right a call36 o = (positions-right G l s o, tt)
+      random-low 34 (l .fcb) refl (o .extent) & missed _ (o .entry) & o .writable & and-fails-right _ _ (missed _ (o .entry))
+      & either-missed _ _ (o .room) & block-right 34 (o .block) & tt
+  own-right a call35 o = ap not (o .name) & some-right G l s false 1 (o .some) & tt
+  own-right a call36 o = positions-right G l s o & tt
   own-right a call46 o = tt
   own-right a call98 o = tt
 
@@ -195,7 +163,5 @@ module _ (G : Geometry) (n argument : ℕ) (l : Lent) (s : Session) where
   pub passes : (c : Call n) → Ready G n l s → Own G l s argument c → verdict G n argument l s ≡ Passed
   passes c r o =
       verdict-rows G argument l s c
-      ∙ none-passed (rowsFor G argument l s c) (
-        ap not (parameters-right G n l s (r .fits) (r .drive)),
-        (ap not (disk-right G n l s (r .image-right) (r .map-right)), own-right G l s argument c o),
-      )
+      ∙ none-passed (rowsFor G argument l s c)
+      (ap not (parameters-right G n l s (r .fits) (r .drive)) & ap not (disk-right G n l s (r .image-right) (r .map-right)) & own-right G l s argument c o)

@@ -1,15 +1,19 @@
 -- The first row that holds, of any list of rows: what it says that a table passed, and what a refusal says.
 use mathlib.Core.Path.{_≡_, refl, sym, _∙_}
-use mathlib.Core.Bool.{Bool, true, false, cond}
+use mathlib.Core.Bool.{true, false}
 use mathlib.Core.List.{List, [], _∷_}
 use Prim.Native.Nat.{ℕ}
 use native.Mathlib.Omega.{arith}
 use Rattle.lists.specs.Cases.{split, bool-cases}
 use Rattle.model.specs.declared.Code.{Code}
-use Rattle.model.specs.declared.Verdict.{Verdict}
 use Rattle.model.specs.declared.Verdict.the-variants.{Passed, Refused}
 use Rattle.model.specs.Table.{Row, firstRow}
 
+-- a pair, for chains of facts
+abbrev pub _&_ : {A B : Type 0} → A → B → A × B
+a & b = (a, b)
+
+infixr 20 _&_
 -- no row of the list holds
 abbrev pub NoneHolds : List Row → Type 0
 NoneHolds [] = Unit {0}

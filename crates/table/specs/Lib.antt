@@ -5,3 +5,6 @@ pub mod Facts
 pub mod Reflect
 pub mod Accept
 pub mod Refuse
+pub mod Carried
+pub mod Total
+pub mod Plans

@@ -1,6 +1,6 @@
 -- The calls by their numbers, and the rows of the table that apply to each: the whole table decides as they do.
-use mathlib.Core.Path.{_≡_, refl, sym, subst, _∙_}
-use mathlib.Core.Bool.{Bool, true, false, cond, not}
+use mathlib.Core.Path.{_≡_, refl, sym, subst}
+use mathlib.Core.Bool.{Bool, true, false, not}
 use mathlib.Core.List.{List, [], _∷_}
 use Prim.Native.Nat.{ℕ}
 use lib.Dec.{eqb, leb, ltb}
@@ -20,8 +20,8 @@ use Rattle.model.specs.declared.Verdict.the-variants.{Refused}
 use Rattle.model.specs.Lent.{Lent, rowsOf, searchOn}
 use Rattle.model.specs.Target.{extents, targetExtent, stays, presentEntry, targetEntry, blockThere, recordThere, readOnlyThere}
 use Rattle.model.specs.Search.{patternOf, findHit}
+use Rattle.table.specs.First.{_&_}
 use Rattle.model.specs.Table.{oneOf, fcbCalls, plainCalls, usesFcb, isListed, parametersRight, diskRight, anyNamed, askedEntry, anyReadOnly, positionRight, Row, firstRow, table, verdict}
-use Rattle.table.specs.First.{first-holds}
 
 -- the calls
 pub data Call : ℕ → Type 0 where
@@ -58,8 +58,8 @@ pub call-of : (n : ℕ) → isListed n ≡ true → Call n
 unfolding isListed usesFcb
 call-of n h =
     split (or-cases (oneOf n fcbCalls) (oneOf n plainCalls) h)
-    (λ e. at-one Call n fcbCalls e (call15, (call16, (call17, (call19, (call20, (call21, (call22, (call23, (call33, (call34, (call35, (call36, tt)))))))))))))
-    (λ e. at-one Call n plainCalls e (call13, (call18, (call32, (call46, (call98, tt))))))
+    (λ e. at-one Call n fcbCalls e (call15 & call16 & call17 & call19 & call20 & call21 & call22 & call23 & call33 & call34 & call35 & call36 & tt))
+    (λ e. at-one Call n plainCalls e (call13 & call18 & call32 & call46 & call98 & tt))
 
 pub listed-call : {n : ℕ} → Call n → isListed n ≡ true
 unfolding isListed usesFcb oneOf _or_

@@ -1,22 +1,22 @@
 -- What a current FCB says, and that a record that is there has an entry for its extent, below extent 2,048.
-use mathlib.Core.Path.{_≡_, refl, sym, ap, _∙_}
-use mathlib.Core.Bool.{Bool, true, false, cond, not}
-use Prim.Native.Nat.{ℕ, zero, _+_, _*_, _≤_, _<_}
+use mathlib.Core.Path.{_≡_, refl, sym, _∙_}
+use mathlib.Core.Bool.{true, false}
+use Prim.Native.Nat.{ℕ, _≤_, _<_}
 use native.Mathlib.Omega.{arith}
-use lib.Dec.{eqb, leb, ltb}
-use borrow.Author.Tests.{eqb-true, leb-true, le-leb, ne-eqb, ltb-true}
-use Rattle.lists.specs.Cases.{split, bool-cases, not-both}
+use lib.Dec.{eqb, ltb}
+use borrow.Author.Tests.{eqb-true, leb-true, ne-eqb, ltb-true}
+use Rattle.lists.specs.Cases.{split, bool-cases}
 use Rattle.lists.specs.Tests.{_and_, and-left, and-right, or-then}
-use Rattle.lists.specs.Below.{allBelow, all-at}
+use Rattle.lists.specs.Below.{all-at}
 use Rattle.format.specs.Diskette.{Bytes, Geometry}
-use Rattle.format.specs.Entries.{Rows, entryAt, userOf, exOf, s2Of, empty, used, slotsOf, extentOf, covers, named, isFile, findFile}
+use Rattle.format.specs.Entries.{Rows, entryAt, userOf, exOf, s2Of, empty, slotsOf, extentOf, covers, named, isFile, findFile}
 use Rattle.format.specs.Consistent.{numbersRight, entryRight, consistentRows, consistent}
 use Rattle.format.specs.Fcb.{fcbRight, slotsFit, fitting, current}
 use Rattle.format.specs.FoundLaws.{at-not-nothing, at-once, FoundAt, FirstAt, first-says}
 use Rattle.format.specs.declared.Found.{Found}
 use Rattle.format.specs.declared.Found.the-variants.{At, Nothing}
 use Rattle.model.specs.Lent.{Lent, rowsOf}
-use Rattle.model.specs.Target.{extents, targetExtent, targetRecord, presentEntry, stays, targetEntry, countAt, countThere, blockThere, recordThere}
+use Rattle.model.specs.Target.{extents, targetExtent, targetRecord, presentEntry, stays, targetEntry, countAt, countThere, recordThere}
 
 -- the FCB is current, and e is its entry
 pub record Current (G : Geometry) (d : Rows) (map : Bytes) (user : ℕ) (fcb : Bytes) (e : ℕ) : Type 0 where

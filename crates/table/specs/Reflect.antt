@@ -2,34 +2,26 @@
 use mathlib.Core.Path.{_≡_, refl, sym, ap, _∙_}
 use mathlib.Core.Logic.{_⊎_, inl, inr}
 use mathlib.Core.Bool.{Bool, true, false, not}
-use Prim.Native.Nat.{ℕ, _/_, _≤_, _<_}
+use Prim.Native.Nat.{ℕ, _≤_, _<_}
 use native.Mathlib.Omega.{arith}
 use lib.Dec.{eqb, leb, ltb}
-use lib.ListN.{length, getD}
-use borrow.Author.Tests.{eqb-true, eqb-false, eq-eqb, ne-eqb, leb-true, le-leb, leb-false, lt-leb, ltb-false, le-ltb, not-true, not-false}
-use Rattle.lists.specs.Cases.{split, bool-cases, eq-or-ne, lt-or-le, clash, not-both}
+use lib.ListN.{getD}
+use borrow.Author.Tests.{eqb-true, eq-eqb, ne-eqb, leb-true, le-leb, ltb-false, le-ltb, not-false}
+use Rattle.lists.specs.Cases.{split, bool-cases, eq-or-ne}
 use Rattle.lists.specs.Tests.{_and_, _or_, and-left, and-right, and-both, and-fails-left, and-fails-right, and-then, or-left, or-right, or-then, or-cases}
 use Rattle.lists.specs.Below.{any-never, any-empty}
-use Rattle.format.specs.Diskette.{Geometry, imageBytes, recordBytes}
-use Rattle.format.specs.Names.{nameRight}
-use Rattle.format.specs.Entries.{exOf, s2Of, named, readOnly, findNamed, findEmpty}
+use Rattle.format.specs.Diskette.{Geometry}
+use Rattle.format.specs.Entries.{named, readOnly, findNamed}
 use Rattle.format.specs.Consistent.{consistent}
-use Rattle.format.specs.Notes.{mapRight, findFree}
-use Rattle.format.specs.Fcb.{fcbBytes, crOf, randomOf}
+use Rattle.format.specs.Notes.{mapRight}
 use Rattle.format.specs.Found.{isFound}
 use Rattle.format.specs.FoundLaws.{FoundAt, is-found, found-so, not-found, none-says, none-is}
 use Rattle.format.specs.declared.Found.{Found}
 use Rattle.format.specs.declared.Found.the-variants.{At, Nothing}
 use Rattle.model.specs.declared.Session.{Session}
-use Rattle.model.specs.declared.Verdict.the-variants.{Passed}
-use Rattle.model.specs.Lent.{Lent, rowsOf, searchOn}
-use Rattle.model.specs.Target.{extents, extentRecords, isRandom, targetExtent, presentEntry, targetEntry, blockThere, recordThere, readOnlyThere, stays}
-use Rattle.model.specs.Search.{patternOf, findHit}
-use Rattle.model.specs.Table.{usesFcb, isListed, lengthsRight, parametersRight, diskRight, anyNamed, anyReadOnly, askedEntry, positionRight, firstRow, verdict}
-use Rattle.table.specs.First.{NoneHolds, passed-none, none-passed, passed-refused}
-use Rattle.table.specs.Own.{Call, call13, call15, call16, call17, call18, call19, call20, call21, call22, call23, call32, call33, call34, call35, call36, call46, call98, call-of, ownRows, rowsFor, verdict-rows, verdict-unlisted}
-use Rattle.table.specs.Present.{there-target, file-extent-below}
-use Rattle.table.specs.Facts.{Fits, NamedFiles, Opens, Closes, Searches, SearchesOn, Deletes, Makes, Renames, Sizes, Positions, Reads, Writes, Own, AcceptedCall}
+use Rattle.model.specs.Lent.{Lent, rowsOf}
+use Rattle.model.specs.Table.{usesFcb, lengthsRight, parametersRight, diskRight, anyNamed, anyReadOnly, positionRight}
+use Rattle.table.specs.Facts.{Fits, Positions}
 
 -- ---- tests of look-ups
 pub found : (r : Found) → not (isFound r) ≡ false → FoundAt r

@@ -1,14 +1,13 @@
 -- What a refusal says: which row it came from, and which codes a call can be refused with at all.
 use mathlib.Core.Path.{_≡_, refl, sym, ap, subst, _∙_}
-use mathlib.Core.Logic.{_⊎_, inl, inr}
-use mathlib.Core.Bool.{Bool, true, false, cond, not}
+use mathlib.Core.Logic.{_⊎_}
+use mathlib.Core.Bool.{Bool, true, false, not}
 use mathlib.Core.List.{List, [], _∷_}
-use Prim.Native.Nat.{ℕ, _≤_, _<_}
-use native.Mathlib.Omega.{arith}
-use lib.Dec.{eqb, leb, ltb}
-use borrow.Author.Tests.{eqb-false, not-true, not-false, le-ltb}
+use Prim.Native.Nat.{ℕ, _≤_}
+use lib.Dec.{eqb}
+use borrow.Author.Tests.{eqb-false, not-true, not-false}
 use Rattle.lists.specs.Cases.{split, bool-cases, clash, not-both}
-use Rattle.lists.specs.Tests.{_and_, _or_, and-left, and-right, and-fails-left, and-fails-right}
+use Rattle.lists.specs.Tests.{_and_, _or_, and-left, and-right}
 use Rattle.format.specs.Diskette.{Geometry}
 use Rattle.format.specs.Names.{nameRight}
 use Rattle.format.specs.Entries.{exOf}
@@ -23,12 +22,11 @@ use Rattle.model.specs.declared.Code.{Code}
 use Rattle.model.specs.declared.Code.the-variants.{Accepted, NotListed, BadParameter, BadDisk, BadRecord, NotCurrent, Failed, BadName, SearchOver, ReadOnly, Exists, NotClosed, NoExtent, NoRecord, NoEntry, DiskFull}
 use Rattle.model.specs.declared.Verdict.the-variants.{Refused}
 use Rattle.model.specs.Lent.{Lent, rowsOf, searchOn}
-use Rattle.model.specs.Target.{presentEntry, stays}
 use Rattle.model.specs.Search.{patternOf, findHit}
-use Rattle.model.specs.Table.{oneOf, isListed, parametersRight, diskRight, Row, firstRow, verdict}
-use Rattle.table.specs.First.{NoneHolds, Decides, here, later, passed-none, none-passed, refused-same, refused-decides, decides-refused}
-use Rattle.table.specs.Own.{when, Call, call13, call15, call16, call17, call18, call19, call20, call21, call22, call23, call32, call33, call34, call35, call36, call46, call98, AtEach, at-one, call-of, ownRows, rowsFor, verdict-rows, verdict-unlisted}
-use Rattle.table.specs.Facts.{Fits, Ready}
+use Rattle.model.specs.Table.{oneOf, isListed, parametersRight, diskRight, Row, verdict}
+use Rattle.table.specs.First.{_&_, Decides, here, later, refused-same, refused-decides, decides-refused}
+use Rattle.table.specs.Own.{when, Call, call13, call15, call16, call17, call18, call19, call20, call21, call22, call23, call32, call33, call34, call35, call36, call46, call98, at-one, call-of, ownRows, rowsFor, verdict-rows, verdict-unlisted}
+use Rattle.table.specs.Facts.{Ready}
 use Rattle.table.specs.Reflect.{pattern-right, fits-of, drive-of, parameters-right, image-of, map-of, disk-right}
 
 -- ---- codes of a list of rows
@@ -104,6 +102,11 @@ gives n NoRecord = oneOf n (20 ∷ 21 ∷ 33 ∷ [])
 gives n NoEntry = oneOf n (34 ∷ [])
 gives n DiskFull = oneOf n (21 ∷ 34 ∷ [])
 
+-- a search has found nothing: 17 from the first entry on, or 18, with a search on, from its place on
+pub data SearchEnds (G : Geometry) (l : Lent) (s : Session) : ℕ → Type 0 where
+  ends17 : findHit G (rowsOf G l) (s .user) (patternOf (l .fcb)) 0 ≡ Nothing → SearchEnds G l s 17
+  ends18 : searchOn s ≡ true → findHit G (rowsOf G l) (s .user) (s .pattern) (s .place) ≡ Nothing → SearchEnds G l s 18
+
 module _ (G : Geometry) (argument : ℕ) (l : Lent) (s : Session) where
   all-given : {n : ℕ} (c : Call n) → allCodes (gives n) (ownRows G argument l s c) ≡ true
   unfolding allCodes gives oneOf _and_ _or_
@@ -125,12 +128,16 @@ module _ (G : Geometry) (argument : ℕ) (l : Lent) (s : Session) where
   all-given call46 = refl
   all-given call98 = refl
 
-  -- where a refusal comes from: one of the first three rows, or a row of the call's own
+  -- where a refusal comes from: one of the first three rows, or a row of the call's own, with a code that document 01 gives for the call
   pub data Refuses (n : ℕ) (code : Code) : Type 0 where
     unlisted : code ≡ NotListed → isListed n ≡ false → Refuses n code
     parameter : code ≡ BadParameter → Call n → parametersRight G l n s ≡ false → Refuses n code
     disk : code ≡ BadDisk → Call n → diskRight G l n ≡ false → Refuses n code
-    own : (c : Call n) → Ready G n l s → Decides code (ownRows G argument l s c) → Refuses n code
+    own : (c : Call n) → gives n code ≡ true → Ready G n l s → Decides code (ownRows G argument l s c) → Refuses n code
+
+  -- a code of a call's own rows is one that document 01 gives for the call
+  pub own-given : (code : Code) {n : ℕ} (c : Call n) → Decides code (ownRows G argument l s c) → gives n code ≡ true
+  own-given code {n} c d = decided-passes (gives n) code (ownRows G argument l s c) (all-given c) d
 
   ready-of : (n : ℕ) → parametersRight G l n s ≡ true → diskRight G l n ≡ true → Ready G n l s
   ready-of n p d = record { fits = fits-of G n l s p; drive = drive-of G n l s p; image-right = image-of G n l s d; map-right = map-of G n l s d }
@@ -138,7 +145,7 @@ module _ (G : Geometry) (argument : ℕ) (l : Lent) (s : Session) where
   refuses-listed : (code : Code) {n : ℕ} (c : Call n) → Decides code (rowsFor G argument l s c) → Refuses n code
   refuses-listed code c (here t q) = parameter (sym q) c (not-true _ t)
   refuses-listed code c (later f (here t q)) = disk (sym q) c (not-true _ t)
-  refuses-listed code {n} c (later f (later g d)) = own c (ready-of n (not-false _ f) (not-false _ g)) d
+  refuses-listed code {n} c (later f (later g d)) = own c (own-given code c d) (ready-of n (not-false _ f) (not-false _ g)) d
 
   pub refuses : (n : ℕ) (code : Code) → verdict G n argument l s ≡ Refused code → Refuses n code
   refuses n code q =
@@ -146,10 +153,6 @@ module _ (G : Geometry) (argument : ℕ) (l : Lent) (s : Session) where
       (λ t. let c = call-of n t in
       refuses-listed code c (refused-decides code (rowsFor G argument l s c) (sym (verdict-rows G argument l s c) ∙ q)))
       (λ f. unlisted (refused-same code NotListed (sym q ∙ verdict-unlisted G argument l s n f)) f)
-
-  -- a code of a call's own rows is one that document 01 gives for the call
-  pub own-given : (code : Code) {n : ℕ} (c : Call n) → Decides code (ownRows G argument l s c) → gives n code ≡ true
-  own-given code {n} c d = decided-passes (gives n) code (ownRows G argument l s c) (all-given c) d
 
   -- a code that neither of the first two rows has comes from the call's own
   own-decides : (code : Code) {n : ℕ} (c : Call n) → isCode BadParameter code ≡ false → isCode BadDisk code ≡ false
@@ -167,7 +170,7 @@ module _ (G : Geometry) (argument : ℕ) (l : Lent) (s : Session) where
       go (unlisted e f) = other-code NotListed code u (sym e)
       go (parameter e c f) = other-code BadParameter code p (sym e)
       go (disk e c f) = other-code BadDisk code d (sym e)
-      go (own c r w) = own-given code c w
+      go (own c g r w) = g
 
   -- ---- a consistent image with a right map is never refused for the disk
   bad-disk : (n : ℕ) → Refuses n BadDisk → diskRight G l n ≡ false
@@ -175,7 +178,7 @@ module _ (G : Geometry) (argument : ℕ) (l : Lent) (s : Session) where
   bad-disk n (unlisted e f) = other-code BadDisk NotListed refl e
   bad-disk n (parameter e c f) = other-code BadDisk BadParameter refl e
   bad-disk n (disk e c f) = f
-  bad-disk n (own c r d) = clash (sym (own-given BadDisk c d))
+  bad-disk n (own c g r d) = clash (sym g)
 
   pub never-bad-disk : (n : ℕ) → consistent G (l .image) ≡ true → mapRight G (rowsOf G l) (l .map) ≡ true
       → verdict G n argument l s ≡ Refused BadDisk → ⊥
@@ -212,34 +215,42 @@ module _ (G : Geometry) (argument : ℕ) (l : Lent) (s : Session) where
   pub never-not-closed : (n : ℕ) → verdict G n argument l s ≡ Refused NotClosed → ⊥
   unfolding gives codeNumber
   never-not-closed n q =
-      at-one (λ (n : ℕ). verdict G n argument l s ≡ Refused NotClosed → ⊥) n (20 ∷ 21 ∷ 33 ∷ 34 ∷ []) (refused-given n NotClosed refl refl refl q) (
-        λ v. three-20 (own-decides NotClosed call20 refl refl v),
-        (
-          λ v. three-21 (own-decides NotClosed call21 refl refl v),
-          (λ v. three-33 (own-decides NotClosed call33 refl refl v), (λ v. three-34 (own-decides NotClosed call34 refl refl v), tt)),
-        ),
-      ) q
+      at-one (λ (n : ℕ). verdict G n argument l s ≡ Refused NotClosed → ⊥) n (20 ∷ 21 ∷ 33 ∷ 34 ∷ []) (refused-given n NotClosed refl refl refl q)
+      ((λ v. three-20 (own-decides NotClosed call20 refl refl v)) & (λ v. three-21 (own-decides NotClosed call21 refl refl v))
+      & (λ v. three-33 (own-decides NotClosed call33 refl refl v)) & (λ v. three-34 (own-decides NotClosed call34 refl refl v)) & tt) q
 
-  -- ---- a search ends only where it has found nothing
-  pub data SearchEnds : ℕ → Type 0 where
-    ends17 : findHit G (rowsOf G l) (s .user) (patternOf (l .fcb)) 0 ≡ Nothing → SearchEnds 17
-    ends18 : searchOn s ≡ true → findHit G (rowsOf G l) (s .user) (s .pattern) (s .place) ≡ Nothing → SearchEnds 18
-
+  -- ---- a search ends exactly where it has found nothing
   last-row : (r : Found) (code : Code) → Decides code (when (not (isFound r)) code ∷ []) → r ≡ Nothing
   last-row r code (here t q) = not-found r (not-true _ t)
   last-row r code (later f d) = absent code [] d tt
 
-  over-17 : Decides SearchOver (ownRows G argument l s call17) → SearchEnds 17
+  over-17 : Decides SearchOver (ownRows G argument l s call17) → SearchEnds G l s 17
   unfolding codeNumber
   over-17 d =
       let p = behind SearchOver _ _ refl d in let r = behind SearchOver _ _ refl (p .rest) in ends17 (last-row _ SearchOver (r .rest))
 
-  over-18 : Decides SearchOver (ownRows G argument l s call18) → SearchEnds 18
+  over-18 : Decides SearchOver (ownRows G argument l s call18) → SearchEnds G l s 18
   unfolding codeNumber
   over-18 d = let p = behind SearchOver _ _ refl d in ends18 (not-false _ (p .failed)) (last-row _ SearchOver (p .rest))
 
-  pub search-over : (n : ℕ) → verdict G n argument l s ≡ Refused SearchOver → SearchEnds n
+  pub search-over : (n : ℕ) → verdict G n argument l s ≡ Refused SearchOver → SearchEnds G l s n
   unfolding gives codeNumber
   search-over n q =
-      at-one (λ (n : ℕ). verdict G n argument l s ≡ Refused SearchOver → SearchEnds n) n (17 ∷ 18 ∷ []) (refused-given n SearchOver refl refl refl q)
+      at-one (λ (n : ℕ). verdict G n argument l s ≡ Refused SearchOver → SearchEnds G l s n) n (17 ∷ 18 ∷ []) (refused-given n SearchOver refl refl refl q)
       (λ v. over-17 (own-decides SearchOver call17 refl refl v), (λ v. over-18 (own-decides SearchOver call18 refl refl v), tt)) q
+
+  -- a row of the call's own decides, once the first three have failed
+  pub refused-own : {n : ℕ} (c : Call n) (code : Code) → Ready G n l s → Decides code (ownRows G argument l s c) → verdict G n argument l s ≡ Refused code
+  refused-own {n} c code r d =
+      verdict-rows G argument l s c
+      ∙ decides-refused code (rowsFor G argument l s c)
+      (later (ap not (parameters-right G n l s (r .fits) (r .drive))) (later (ap not (disk-right G n l s (r .image-right) (r .map-right))) d))
+
+  pub over-first : Ready G 17 l s → nameRight true (l .fcb) 1 ≡ true → (exOf (l .fcb) ≤ 31) ⊎ (exOf (l .fcb) ≡ 63)
+      → findHit G (rowsOf G l) (s .user) (patternOf (l .fcb)) 0 ≡ Nothing → verdict G 17 argument l s ≡ Refused SearchOver
+  over-first r name ex none =
+      refused-own call17 SearchOver r (later (ap not name) (later (pattern-right _ ex) (here (ap (λ (x : Found). not (isFound x)) none) refl)))
+
+  pub over-next : Ready G 18 l s → searchOn s ≡ true → findHit G (rowsOf G l) (s .user) (s .pattern) (s .place) ≡ Nothing
+      → verdict G 18 argument l s ≡ Refused SearchOver
+  over-next r on none = refused-own call18 SearchOver r (later (ap not on) (here (ap (λ (x : Found). not (isFound x)) none) refl))
