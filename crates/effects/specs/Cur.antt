@@ -13,7 +13,7 @@ use Rattle.lists.specs.Tests.{_and_, _or_, and-left, and-right, and-both, or-le
 use Rattle.lists.specs.Below.{all-at, all-intro}
 use Rattle.format.specs.Diskette.{Bytes, Geometry, Sound}
 use Rattle.format.specs.Entries.{Rows, slotCount, slotOf, slotsOf, slotFor, rcOf, used, extentOf, named, isFile}
-use Rattle.format.specs.ListedLaws.{slot-at}
+use Rattle.format.specs.SlotLaws.{getD-slotsOf}
 use Rattle.format.specs.Notes.{noteAt, pendingFor}
 use Rattle.format.specs.Fcb.{fcbRight, slotFits, slotsFit, current}
 use Rattle.format.specs.declared.Found.the-variants.{At}
@@ -42,7 +42,7 @@ module _ (G : Geometry) (d : Rows) (map : Bytes) (user : ℕ) (f : Bytes) where
   unfolding slotsFit slotFits
   fits-held wide e t j l =
       let z : (eqb (slotOf f j) (slotOf (d e) j) or (eqb (slotOf (d e) j) 0 and eqb (noteAt map (slotOf f j)) (pendingFor e j))) ≡ true =
-      rw (slot-at f j l, slot-at (d e) j l) at (all-at (slotFits map e (slotsOf (d e)) (slotsOf f)) slotCount t j l) in
+      rw (getD-slotsOf f j l, getD-slotsOf (d e) j l) at (all-at (slotFits map e (slotsOf (d e)) (slotsOf f)) slotCount t j l) in
       split (or-cases _ _ z) (λ q. inl (eqb-true _ _ q))
       (λ q. let n : noteAt map (slotOf f j) ≡ pendingFor e j = eqb-true _ _ (and-right _ _ q) in
       inr (record {
@@ -57,7 +57,7 @@ module _ (G : Geometry) (d : Rows) (map : Bytes) (user : ℕ) (f : Bytes) where
   unfolding slotsFit slotFits
   held-fits e h =
       all-intro (slotFits map e (slotsOf (d e)) (slotsOf f)) slotCount
-      (λ j l. rw (slot-at f j l, slot-at (d e) j l)
+      (λ j l. rw (getD-slotsOf f j l, getD-slotsOf (d e) j l)
       (split (h j l) (λ q. or-left _ _ (eq-eqb _ _ q)) (λ g. or-right _ _ (and-both _ _ (eq-eqb _ _ (g .was)) (eq-eqb _ _ (g .noted))))))
 
 -- ---- the test and the facts, both ways

@@ -6,3 +6,4 @@ pub mod Cur
 pub mod Where
 pub mod Book
 pub mod Tracks
+pub mod Change

@@ -11,7 +11,7 @@ use Rattle.lists.specs.Tests.{_and_, _or_, and-then}
 use Rattle.lists.specs.Below.{anyBelow, any-cong}
 use Rattle.format.specs.Diskette.{Bytes, Geometry}
 use Rattle.format.specs.Entries.{Rows, slotCount, slotsOf, used}
-use Rattle.format.specs.ListedLaws.{slot-at}
+use Rattle.format.specs.SlotLaws.{getD-slotsOf}
 use Rattle.format.specs.Notes.{recordedNote, pendingFor, isPending, noteAt, freshNote, settledNote, heldFor, listedBy, releasedNote, isListed}
 use Rattle.notes.specs.Numbers.{pending-is, pending-entry, settled-not}
 use Rattle.notes.specs.Right.{NoteOk, ok-area, ok-recorded, ok-free, ok-pending, ok-settles, fresh-settled}
@@ -116,7 +116,7 @@ freed-tracks G m m′ q =
 -- a close
 pub settles-taken : (row fcb : Bytes) (b : ℕ) → settles row fcb b ≡ anyBelow (takesBlock (slotsOf row) (slotsOf fcb) b) slotCount
 unfolding settles takesBlock
-settles-taken row fcb b = any-cong _ _ slotCount (λ j l. rw (slot-at fcb j l))
+settles-taken row fcb b = any-cong _ _ slotCount (λ j l. rw (getD-slotsOf fcb j l))
 
 pub closed-tracks : (G : Geometry) (u : Book) (row fcb map : Bytes) → length map ≡ G .blocks → Tracks G u (noteAt map)
     → Tracks G (settledBy row fcb u) (noteAt (closedMap row fcb map))
