@@ -12,7 +12,7 @@ use Rattle.lists.specs.Cases.{split, lt-or-le}
 use Rattle.lists.specs.Tests.{_and_, _or_, and-left, and-right, and-both, or-left, or-right, or-cases}
 use Rattle.lists.specs.Below.{all-at, all-intro}
 use Rattle.format.specs.Diskette.{Bytes, Geometry, Sound}
-use Rattle.format.specs.Entries.{Rows, slotCount, slotOf, slotsOf, slotFor, rcOf, used, extentOf, named, isFile}
+use Rattle.format.specs.Entries.{Rows, entryAt, slotCount, slotOf, slotsOf, slotFor, rcOf, used, extentOf, named, isFile}
 use Rattle.format.specs.SlotLaws.{getD-slotsOf}
 use Rattle.format.specs.Notes.{noteAt, pendingFor}
 use Rattle.format.specs.Fcb.{fcbRight, slotFits, slotsFit, current}
@@ -22,7 +22,7 @@ use Rattle.notes.specs.Numbers.{pending-not-free}
 use Rattle.invariant.specs.Close.{Held}
 use Rattle.rows.specs.Fields.{slot-for-below}
 use Rattle.rows.specs.Find.{file-says}
-use Rattle.table.specs.Present.{current-elim, current-intro}
+use Rattle.table.specs.Present.{Current, current-elim, current-intro}
 use Rattle.model.specs.Target.{extentRecords, placeIn}
 use Rattle.effects.specs.View.{View, viewOf, Names, Mine, listed, pending}
 use Rattle.effects.specs.Effect.{Foreign, Effect, Keeps}
@@ -62,24 +62,27 @@ module _ (G : Geometry) (d : Rows) (map : Bytes) (user : ℕ) (f : Bytes) where
 
 -- ---- the test and the facts, both ways
 module _ (G : Geometry) (img map : Bytes) (user : ℕ) (f : Bytes) (e : ℕ) where
-  pub current-cur : length map ≡ G .blocks → current G (viewOf G img map .rows) map user f ≡ At e → Cur G (viewOf G img map) user f e
+  pub current-cur : length map ≡ G .blocks → current G (entryAt G img) map user f ≡ At e → Cur G (viewOf G img map) user f e
   current-cur wide q =
-      let c = current-elim G (viewOf G img map .rows) map user f e q in
-      let p = file-says G (viewOf G img map .rows) user f 1 (extentOf f) e (c .entry) in
+      let c = current-elim G (entryAt G img) map user f e q in
+      let p = file-says G (entryAt G img) user f 1 (extentOf f) e (c .entry) in
       record {
         right = c .fcb-right;
         low = p .below;
         file = p .holds;
-        fits = fits-held G (viewOf G img map .rows) map user f wide e (c .slots);
+        fits = fits-held G (entryAt G img) map user f wide e (c .slots);
       }
 
-  pub cur-current : Consistent G (viewOf G img map .rows) → user ≤ 15 → Cur G (viewOf G img map) user f e → current G (viewOf G img map .rows) map user f ≡ At e
-  cur-current c hu k =
-      current-intro G (viewOf G img map .rows) map user f e record {
-        fcb-right = k .right;
-        entry = file-found G (viewOf G img map .rows) c user hu f 1 (extentOf f) e (k .low) (k .file);
-        slots = held-fits G (viewOf G img map .rows) map user f e (k .fits);
-      }
+  module _ (c : Consistent G (entryAt G img)) (hu : user ≤ 15) (k : Cur G (viewOf G img map) user f e) where
+    pub cur-facts : Current G (entryAt G img) map user f e
+    cur-facts = record {
+      fcb-right = k .right;
+      entry = file-found G (entryAt G img) c user hu f 1 (extentOf f) e (k .low) (k .file);
+      slots = held-fits G (entryAt G img) map user f e (k .fits);
+    }
+
+    pub cur-current : current G (entryAt G img) map user f ≡ At e
+    cur-current = current-intro G (entryAt G img) map user f e cur-facts
 
 -- ---- what a current FCB has
 module _ (G : Geometry) (s : View) (user : ℕ) (hu : user ≤ 15) (f : Bytes) (e : ℕ) (c : Cur G s user f e) where

@@ -7,3 +7,5 @@ pub mod Where
 pub mod Book
 pub mod Tracks
 pub mod Change
+pub mod Closed
+pub mod Put
