@@ -9,14 +9,14 @@ use borrow.Author.Tests.{eqb-true, eqb-false, eq-eqb, ne-eqb, not-true}
 use Rattle.lists.specs.Cases.{split, bool-cases, not-both, refute}
 use Rattle.lists.specs.Tests.{_and_, _or_, and-left, and-right, and-both, and-then, and-fails-left, or-left, or-right, or-then}
 use Rattle.lists.specs.Below.{Some, any-some, any-at}
-use Rattle.format.specs.Diskette.{Geometry, Sound}
-use Rattle.format.specs.Names.{nameRight, nameLike}
+use Rattle.format.specs.Diskette.{Bytes, Geometry, Sound}
+use Rattle.format.specs.Names.{nameLike}
 use Rattle.format.specs.Entries.{Rows, slotCount, userOf, slotOf, used, empty, extentOf}
 use Rattle.format.specs.Consistent.{listed, slotsInAll}
 use Rattle.format.specs.Notes.{freeNote, isPending, pendingEntry, pendingFor, isListed, listedBy, heldFor, releasedNote}
-use Rattle.consistency.specs.Facts.{Numbers, Fine, Stands, SameFile, Consistent}
+use Rattle.consistency.specs.Facts.{Fine, Stands, SameFile, Consistent}
 use Rattle.consistency.specs.Listed.{stands-at, stands-place, stands-listed, listed-somewhere, somewhere-listed}
-use Rattle.consistency.specs.Reflect.{used-full, used-low, low-used}
+use Rattle.consistency.specs.Reflect.{used-full, low-used}
 use Rattle.notes.specs.Numbers.{pending-is, pending-entry, settled-not}
 use Rattle.notes.specs.Right.{Spare, NoteOk, ok-area, ok-recorded, ok-free, ok-pending}
 use Rattle.invariant.specs.Inv.{Inv}
@@ -139,51 +139,46 @@ module _ {G : Geometry} (S : Sound G) (d d′ : Rows) (m m′ : ℕ → ℕ) (v 
   erase-inv = record { dir = erased-dir; map = λ b h. subst (NoteOk G d′ b) (sym (note b h)) (erased-note b (m b) (v .map b h)) }
 
 -- ---- a rename: the picked entries are those of one file, and no entry has the new name yet
+-- what the renamed row r′ is to the row that it was
+pub record RenamedTo (G : Geometry) (r r′ : Bytes) : Type 0 where
+  pub fine : Fine G r′
+  pub user : userOf r′ ≡ userOf r
+  pub extent : extentOf r′ ≡ extentOf r
+  pub slot : (j : ℕ) → j < slotCount → slotOf r′ j ≡ slotOf r j
+
 module _ {G : Geometry} (S : Sound G) (d d′ : Rows) (m : ℕ → ℕ) (v : Inv G d m) (picked : ℕ → Bool)
     (kept : (k : ℕ) → k < G .entries → picked k ≡ false → d′ k ≡ d k)
     (uses : (k : ℕ) → k < G .entries → picked k ≡ true → used (d k) ≡ true)
-    (user : (k : ℕ) → k < G .entries → picked k ≡ true → userOf (d′ k) ≡ userOf (d k))
-    (name : (k : ℕ) → k < G .entries → picked k ≡ true → nameRight false (d′ k) 1 ≡ true)
-    (extent : (k : ℕ) → k < G .entries → picked k ≡ true → extentOf (d′ k) ≡ extentOf (d k))
-    (numbers : (k : ℕ) → k < G .entries → picked k ≡ true → Numbers (d′ k))
-    (slot : (k j : ℕ) → k < G .entries → j < slotCount → picked k ≡ true → slotOf (d′ k) j ≡ slotOf (d k) j)
+    (renamed : (k : ℕ) → k < G .entries → picked k ≡ true → RenamedTo G (d k) (d′ k))
     (one : (k f : ℕ) → k < G .entries → f < G .entries → picked k ≡ true → picked f ≡ true → nameLike false (d f) 1 (d k) 1 ≡ true)
     (new : (k f : ℕ) → k < G .entries → f < G .entries → picked k ≡ true → picked f ≡ false → used (d f) ≡ true → SameFile (d′ k) (d f) → ⊥) where
   used-same : (k : ℕ) → k < G .entries → picked k ≡ true → used (d′ k) ≡ true
-  used-same k l p = low-used (d′ k) (let q : userOf (d′ k) ≡ userOf (d k) = user k l p in omega (arith, used-low (d k) (uses k l p)))
+  used-same k l p = low-used (d′ k) (renamed k l p .fine .user)
 
   used-on : (k : ℕ) → k < G .entries → used (d k) ≡ true → used (d′ k) ≡ true
   used-on k l u = split (bool-cases (picked k)) (λ p. used-same k l p) (λ p. ap used (kept k l p) ∙ u)
 
-  stays : (b e j : ℕ) → Stands G d′ b e j → Stands G d b e j
-  stays b e j s =
+  slots-back : (b e j : ℕ) → Stands G d′ b e j → Stands G d b e j
+  slots-back b e j s =
       split (bool-cases (picked e))
-      (λ p. record { entry = s .entry; place = s .place; uses = uses e (s .entry) p; is = sym (slot e j (s .entry) (s .place) p) ∙ s .is; real = s .real })
+      (λ p. record { entry = s .entry; place = s .place; uses = uses e (s .entry) p; is = sym (renamed e (s .entry) p .slot j (s .place)) ∙ s .is; real = s .real })
       (λ p. stands-row G d′ d b e j (kept e (s .entry) p) s)
 
-  stays-forth : (b e j : ℕ) → Stands G d b e j → Stands G d′ b e j
-  stays-forth b e j s =
+  slots-forth : (b e j : ℕ) → Stands G d b e j → Stands G d′ b e j
+  slots-forth b e j s =
       split (bool-cases (picked e))
-      (λ p. record { entry = s .entry; place = s .place; uses = used-same e (s .entry) p; is = slot e j (s .entry) (s .place) p ∙ s .is; real = s .real })
+      (λ p. record { entry = s .entry; place = s .place; uses = used-same e (s .entry) p; is = renamed e (s .entry) p .slot j (s .place) ∙ s .is; real = s .real })
       (λ p. stands-row G d d′ b e j (sym (kept e (s .entry) p)) s)
-
-  renamed-fine : (k : ℕ) → k < G .entries → picked k ≡ true → Fine G (d′ k)
-  renamed-fine k l p = record {
-    user = used-low (d′ k) (used-same k l p);
-    name = name k l p;
-    numbers = numbers k l p;
-    low = λ j h r. let q = slot k j l h p in subst (λ (x : ℕ). G .area ≤ x) (sym q) (v .dir .fine k l (uses k l p) .low j h (λ z. r (q ∙ z)));
-    high = λ j h r. let q = slot k j l h p in subst (λ (x : ℕ). x < G .blocks) (sym q) (v .dir .fine k l (uses k l p) .high j h (λ z. r (q ∙ z)));
-  }
 
   renamed-dir : Consistent G d′
   renamed-dir =
-      change-dir G d d′ (v .dir) picked kept (λ k l p u. renamed-fine k l p) (λ k l p u. not-both (used (d′ k)) (used-same k l p) u)
-      (λ b e j f k s u. v .dir .once-entry b e j f k (stays b e j s) (stays b f k u))
-      (λ b e j f k s u. v .dir .once-slot b e j f k (stays b e j s) (stays b f k u))
-      (λ k f l h p q u w s. v .dir .apart k f l h (uses k l p) (uses f h q)
-      (record { user = sym (user k l p) ∙ s .user ∙ user f h q; name = one k f l h p q; extent = sym (extent k l p) ∙ s .extent ∙ extent f h q }))
+      change-dir G d d′ (v .dir) picked kept (λ k l p u. renamed k l p .fine) (λ k l p u. not-both (used (d′ k)) (used-same k l p) u)
+      (λ b e j f k s u. v .dir .once-entry b e j f k (slots-back b e j s) (slots-back b f k u))
+      (λ b e j f k s u. v .dir .once-slot b e j f k (slots-back b e j s) (slots-back b f k u))
+      (λ k f l h p q u w s. let r = renamed k l p in let t = renamed f h q in
+      v .dir .apart k f l h (uses k l p) (uses f h q)
+      (record { user = sym (r .user) ∙ s .user ∙ t .user; name = one k f l h p q; extent = sym (r .extent) ∙ s .extent ∙ t .extent }))
       (λ k f l h p q u w s. new k f l h p q w s)
 
   pub rename-inv : Inv G d′ m
-  rename-inv = record { dir = renamed-dir; map = λ b h. note-on S d d′ stays stays-forth used-on b (m b) (m b) refl (v .map b h) }
+  rename-inv = record { dir = renamed-dir; map = λ b h. note-on S d d′ slots-back slots-forth used-on b (m b) (m b) refl (v .map b h) }

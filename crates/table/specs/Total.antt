@@ -8,7 +8,7 @@ use lib.Dec.{eqb}
 use borrow.Author.Tests.{eq-eqb, ne-eqb}
 use Rattle.lists.specs.Cases.{split}
 use Rattle.format.specs.Diskette.{Bytes, Geometry, eightInch}
-use Rattle.format.specs.FoundLaws.{found-first}
+use Rattle.format.specs.FoundLaws.{first-says}
 use Rattle.model.specs.declared.Asked.{Asked}
 use Rattle.model.specs.declared.Session.{Session}
 use Rattle.model.specs.declared.Code.{Code}
@@ -136,7 +136,7 @@ module _ (G : Geometry) (argument : ℕ) (l : Lent) (s : Session) (r : InRange G
   on-range : (pattern : Bytes) (place : ℕ) (t : Session) → GoesOn s pattern (findHit G (rowsOf G l) (s .user) pattern place) t → InRange G t
   unfolding findHit
   on-range pattern place t g =
-      let below : g .entry < G .entries = found-first _ place (G .entries) (g .entry) (g .found) .below in
+      let below : g .entry < G .entries = first-says _ place (G .entries) (g .entry) (g .found) .below in
       rw (g .on) record { user = r .user; place = omega arith }
 
   user-range : (t : Session) → (argument ≡ 255) ⊎ (argument ≤ 15) → t ≡ ended (cond (eqb argument 255) s (withUser s argument)) → InRange G t
