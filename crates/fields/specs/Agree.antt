@@ -8,14 +8,13 @@ use lib.Seq.{ext-getD}
 use Rattle.lists.specs.Cases.{split, lt-or-le}
 use Rattle.lists.specs.Tests.{_and_}
 use Rattle.lists.specs.Below.{first-cong}
-use Rattle.lists.specs.Splice.{length-part}
 use Rattle.format.specs.Diskette.{Bytes, Geometry}
-use Rattle.format.specs.Names.{nameBytes, nameRight, nameLike, sevenBits}
-use Rattle.format.specs.Entries.{Rows, userOf, exOf, s2Of, rcOf, slotOf, slotsOf, slotCount, empty, used, readOnly, extentOf, covers, named, isFile, findFile}
+use Rattle.format.specs.Names.{nameBytes, sevenBits}
+use Rattle.format.specs.Entries.{Rows, userOf, slotOf, slotsOf, slotCount, empty, used, readOnly, extentOf, covers, named, isFile, findFile}
 use Rattle.format.specs.Found.{foundBelow}
 use Rattle.format.specs.Consistent.{numbersRight, sameFile}
-use Rattle.format.specs.SlotLaws.{getD-slotsOf}
-use Rattle.format.specs.Fcb.{crOf, randomOf, fcbRight, fitting, current}
+use Rattle.format.specs.SlotLaws.{length-slotsOf, getD-slotsOf}
+use Rattle.format.specs.Fcb.{randomOf, fcbRight, fitting, current}
 use Rattle.format.specs.declared.Found.{Found}
 use Rattle.format.specs.declared.Found.the-variants.{At, Nothing}
 use Rattle.consistency.specs.Facts.{SameFile}
@@ -36,11 +35,10 @@ module _ (r t : Bytes) where
   slot-cong h j l = h (16 + j) (omega arith) (omega arith)
 
   pub slots-cong : 32 ≤ length r → 32 ≤ length t → Agree r t 16 32 → slotsOf r ≡ slotsOf t
-  unfolding slotsOf
   slots-cong hr ht h =
-      let l : length (slotsOf r) ≡ 16 = length-part r 16 slotCount (omega arith) in
-      ext-getD 0 (slotsOf r) (slotsOf t) (l ∙ sym (length-part t 16 slotCount (omega arith)))
-      (λ j b. let b′ : j < 16 = omega arith in getD-slotsOf r j b′ ∙ slot-cong h j b′ ∙ sym (getD-slotsOf t j b′))
+      let l : length (slotsOf r) ≡ slotCount = length-slotsOf r hr in
+      ext-getD 0 (slotsOf r) (slotsOf t) (l ∙ sym (length-slotsOf t ht))
+      (λ j b. let c : j < slotCount = omega arith in getD-slotsOf r j c ∙ slot-cong h j c ∙ sym (getD-slotsOf t j c))
 
   -- a row is its bytes below the slots, and its slots
   pub row-ext : length r ≡ 32 → length t ≡ 32 → Agree r t 0 16 → ((j : ℕ) → j < slotCount → slotOf r j ≡ slotOf t j) → r ≡ t

@@ -1,20 +1,20 @@
 -- An image in which the rows that a test picks are changed (19, 23): its rows, its records and its bytes; and the row of a delete.
-use mathlib.Core.Path.{_≡_, refl, ap, sym, _∙_}
+use mathlib.Core.Path.{_≡_, refl, sym, _∙_}
 use mathlib.Core.Logic.{_⊎_}
 use mathlib.Core.Bool.{Bool, true, false, cond}
 use Prim.Native.Nat.{ℕ, _+_, _≤_, _<_}
 use native.Mathlib.Omega.{arith}
 use lib.ListN.{length, getD, length-set}
 use lib.Seq.{getD-set-same, getD-set-other}
-use borrow.Author.Tests.{lt-leb, eq-eqb}
+use borrow.Author.Tests.{eq-eqb}
 use Rattle.lists.specs.Cases.{split, bool-cases, lt-or-le}
 use Rattle.lists.specs.Fold.{fold-builds}
 use Rattle.format.specs.Diskette.{Bytes, Geometry, Sound, imageBytes, recordAt}
-use Rattle.format.specs.Entries.{entryBytes, entryPlace, entryAt, withEntry, userOf, slotOf, slotCount, empty, used, extentOf}
+use Rattle.format.specs.Entries.{entryBytes, entryPlace, entryAt, withEntry, userOf, empty, used}
 use Rattle.disk.specs.Places.{blockRecords}
 use Rattle.rows.specs.Entries.{areaRecords, length-entryAt, length-withEntry, entry-stored, entry-left, entry-byte-left, record-kept}
 use Rattle.model.specs.Calls.{changedRow, changedRows, erasedRow}
-use Rattle.fields.specs.Agree.{Agree, slot-cong, extent-cong}
+use Rattle.fields.specs.Agree.{Agree}
 
 -- ---- rows that a test picks are changed, one after the other
 module _ {G : Geometry} (S : Sound G) (picks : Bytes → Bool) (change : Bytes → Bytes)

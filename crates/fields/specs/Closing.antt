@@ -2,24 +2,24 @@
 use mathlib.Core.Path.{_≡_, refl, ap, sym, _∙_}
 use mathlib.Core.Logic.{_⊎_, inl, inr}
 use mathlib.Core.Bool.{Bool, true, false, cond, not}
-use Prim.Native.Nat.{ℕ, zero, suc, _+_, _≤_, _<_}
+use Prim.Native.Nat.{ℕ, zero, suc, _+_, _≤_, _<_, max}
 use native.Mathlib.Omega.{arith}
 use lib.Dec.{eqb}
 use lib.ListN.{length, getD, set, length-set}
 use lib.Seq.{getD-set-same, getD-set-other, ext-getD}
 use borrow.Author.Tests.{eqb-true, eqb-false, eq-eqb, ne-eqb, ltb-true, ltb-false, not-true}
 use Rattle.lists.specs.Cases.{split, bool-cases, eq-or-ne, lt-or-le, not-both}
-use Rattle.lists.specs.Tests.{_and_, _or_, and-left, and-right, and-both, and-then, and-fails-left, and-fails-right, or-left, or-right, or-first, or-neither, or-cases, cond-or}
-use Rattle.lists.specs.Below.{anyBelow, any-at, any-some, any-never, any-empty}
-use Rattle.lists.specs.Splice.{splice, length-splice, getD-splice-in, getD-splice-out}
+use Rattle.lists.specs.Tests.{_and_, _or_, and-left, and-right, and-both, and-then, and-fails-left, and-fails-right, or-neither, or-cases, cond-or}
+use Rattle.lists.specs.Below.{anyBelow, any-at, any-some, any-never}
+use Rattle.lists.specs.Splice.{length-splice, getD-splice-in, getD-splice-out}
 use Rattle.lists.specs.Tab.{length-tab, getD-tab}
 use Rattle.lists.specs.Fold.{foldBelow, fold-keeps}
 use Rattle.format.specs.Diskette.{Bytes, Geometry}
 use Rattle.format.specs.Names.{sevenBits, nameRight}
-use Rattle.format.specs.Entries.{Rows, userOf, exOf, s2Of, rcOf, slotOf, slotsOf, slotCount, empty, used, readOnly, extentOf, countIn}
-use Rattle.format.specs.SlotLaws.{getD-slotsOf}
+use Rattle.format.specs.Entries.{Rows, rcOf, slotOf, slotsOf, slotCount, empty, used, readOnly, extentOf, countIn}
+use Rattle.format.specs.SlotLaws.{length-slotsOf, getD-slotsOf}
 use Rattle.format.specs.Notes.{noteAt, withNote, recordedNote}
-use Rattle.format.specs.Fcb.{crOf, randomOf, fcbRight, current}
+use Rattle.format.specs.Fcb.{randomOf, fcbRight, current}
 use Rattle.model.specs.Closing.{takesSlot, mergedSlot, mergedSlots, countsMore, closedCount, closedRow, closeChanges, closedNote, closedMap, closedFcb}
 use Rattle.consistency.specs.Facts.{Numbers, SameFile}
 use Rattle.names.specs.Laws.{right-cong}
@@ -73,6 +73,13 @@ module _ (row fcb : Bytes) where
   count-closed-fcb =
       split (bool-cases (countsMore row fcb)) (λ t. rw t (omega arith)) (λ f. rw f (omega (arith, ltb-false (rcOf row) (rcOf fcb) f)))
 
+  -- the larger of the two
+  pub count-closed : closedCount row fcb ≡ max (rcOf row) (rcOf fcb)
+  unfolding closedCount countsMore countIn
+  count-closed =
+      split (bool-cases (countsMore row fcb)) (λ t. rw t (omega (arith, ltb-true (rcOf row) (rcOf fcb) t)))
+      (λ f. rw f (omega (arith, ltb-false (rcOf row) (rcOf fcb) f)))
+
   pub count-closed-high : (n : ℕ) → rcOf row ≤ n → rcOf fcb ≤ n → closedCount row fcb ≤ n
   unfolding closedCount
   count-closed-high n a b = split (bool-cases (countsMore row fcb)) (λ t. rw t b) (λ f. rw f a)
@@ -116,6 +123,19 @@ module _ (row fcb : Bytes) (hr : length row ≡ 32) where
 
   pub slot-closed-new : (j : ℕ) → j < slotCount → slotOf row j ≡ 0 → slotOf (closedRow row fcb) j ≡ slotOf fcb j
   slot-closed-new j h z = slot-closed j h ∙ merged-new row fcb j h z
+
+  -- with an FCB whose slots fit, the entry's slots become the FCB's
+  pub slot-closed-fits : (j : ℕ) → j < slotCount → (slotOf fcb j ≡ slotOf row j) ⊎ (slotOf row j ≡ 0) → slotOf (closedRow row fcb) j ≡ slotOf fcb j
+  slot-closed-fits j h (inr z) = slot-closed-new j h z
+  slot-closed-fits j h (inl q) =
+      split (eq-or-ne (slotOf row j) 0) (λ z. slot-closed-new j h z) (λ n. slot-closed-old j h n ∙ sym q)
+
+  pub slots-closed : slotsOf (closedRow row fcb) ≡ mergedSlots (slotsOf row) (slotsOf fcb)
+  slots-closed =
+      let l : length (slotsOf (closedRow row fcb)) ≡ slotCount = length-slotsOf (closedRow row fcb) (omega (arith, length-closedRow)) in
+      ext-getD 0 (slotsOf (closedRow row fcb)) (mergedSlots (slotsOf row) (slotsOf fcb)) (l ∙ sym (length-mergedSlots (slotsOf row) (slotsOf fcb)))
+      (λ j h. let b : j < slotCount = omega arith in
+      getD-slotsOf (closedRow row fcb) j b ∙ slot-closed j b ∙ sym (getD-mergedSlots (slotsOf row) (slotsOf fcb) j b))
 
   -- a slot stays, or takes the FCB's block
   pub slot-closed-cases : (j : ℕ) → j < slotCount

@@ -1,19 +1,19 @@
 -- What an FCB holds once it has taken an entry, byte by byte and field by field.
-use mathlib.Core.Path.{_≡_, ap, sym, _∙_}
+use mathlib.Core.Path.{_≡_, ap, _∙_}
 use mathlib.Core.Logic.{_⊎_, inl, inr}
-use mathlib.Core.Bool.{Bool, true, false}
+use mathlib.Core.Bool.{true, false}
 use Prim.Native.Nat.{ℕ, _+_, _-_, _≤_, _<_}
 use native.Mathlib.Omega.{arith}
 use lib.Dec.{leb}
 use lib.ListN.{length, getD}
 use borrow.Author.Tests.{le-leb, lt-leb}
-use Rattle.lists.specs.Cases.{split, bool-cases, lt-or-le}
+use Rattle.lists.specs.Cases.{split, bool-cases}
 use Rattle.lists.specs.Tests.{_and_, and-both, and-fails-left, and-fails-right}
-use Rattle.lists.specs.Splice.{part, splice, length-part, getD-part, length-splice, getD-splice-at, getD-splice-out}
+use Rattle.lists.specs.Splice.{part, length-part, getD-part, length-splice, getD-splice-at, getD-splice-out}
 use Rattle.lists.specs.Tab.{length-tab, getD-tab}
 use Rattle.format.specs.Diskette.{Bytes}
 use Rattle.format.specs.Names.{sevenBits, nameRight}
-use Rattle.format.specs.Entries.{entryBytes, exOf, s2Of, rcOf, slotOf, slotsOf, slotCount, readOnly, extentOf}
+use Rattle.format.specs.Entries.{entryBytes, exOf, s2Of, rcOf, slotOf, slotsOf, slotCount, extentOf}
 use Rattle.format.specs.Fcb.{crOf, randomOf, fcbRight}
 use Rattle.format.specs.Consistent.{numbersRight}
 use Rattle.names.specs.Laws.{right-cong}

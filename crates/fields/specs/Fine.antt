@@ -1,13 +1,13 @@
 -- Rows that calls make are fine entries: a user, a name, numbers and blocks in range.
-use mathlib.Core.Path.{_≡_, sym, _∙_}
+use mathlib.Core.Path.{_≡_, _∙_}
 use mathlib.Core.Bool.{true, false}
-use Prim.Native.Nat.{ℕ, _/_, _%_, _≤_, _<_}
+use Prim.Native.Nat.{ℕ, _≤_, _<_}
 use native.Mathlib.Omega.{arith}
 use lib.ListN.{length}
 use Rattle.lists.specs.Cases.{split}
 use Rattle.format.specs.Diskette.{Bytes, Geometry}
 use Rattle.format.specs.Names.{nameRight}
-use Rattle.format.specs.Entries.{userOf, exOf, s2Of, rcOf, slotOf, slotCount}
+use Rattle.format.specs.Entries.{exOf, slotOf, slotCount}
 use Rattle.consistency.specs.Facts.{Numbers, Fine}
 use Rattle.names.specs.Laws.{right-cong}
 use Rattle.model.specs.Closing.{closedRow}

@@ -1,5 +1,6 @@
 pub mod Agree
 pub mod Closing
+pub mod Images
 pub mod Entering
 pub mod Making
 pub mod Fine

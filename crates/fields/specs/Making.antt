@@ -1,16 +1,15 @@
 -- The rows that are made: a new file's, a new extent's, and a renamed one, byte by byte and field by field.
-use mathlib.Core.Path.{_≡_, refl, ap, sym, _∙_}
-use mathlib.Core.Logic.{_⊎_, inl, inr}
-use mathlib.Core.Bool.{Bool, true, false}
-use mathlib.Core.List.{List, [], _∷_, _++_}
-use Prim.Native.Nat.{ℕ, suc, _+_, _-_, _*_, _/_, _%_, _≤_, _<_}
+use mathlib.Core.Path.{_≡_, refl, ap, _∙_}
+use mathlib.Core.Logic.{inl, inr}
+use mathlib.Core.Bool.{true, false}
+use mathlib.Core.List.{_∷_, _++_}
+use Prim.Native.Nat.{ℕ, suc, _+_, _-_, _/_, _%_, _≤_, _<_}
 use native.Mathlib.Omega.{arith}
-use lib.Dec.{leb}
 use lib.ListN.{length, getD, take, replicate, length-append, List·getD-append}
 use lib.Seq.{length-take-le, getD-take}
 use borrow.Author.Tests.{leb-true, le-leb, lt-leb}
-use Rattle.lists.specs.Cases.{split, bool-ext}
-use Rattle.lists.specs.Splice.{splice, length-splice, getD-splice-in, getD-splice-out, getD-append-past}
+use Rattle.lists.specs.Cases.{bool-ext}
+use Rattle.lists.specs.Splice.{length-splice, getD-splice-in, getD-splice-out, getD-append-past}
 use Rattle.lists.specs.Tab.{tab, length-tab, getD-tab, getD-zeros}
 use Rattle.format.specs.Diskette.{Bytes}
 use Rattle.format.specs.Names.{sevenBits, nameBytes}
@@ -123,15 +122,19 @@ module _ (row : Bytes) (ext : ℕ) (hr : length row ≡ 32) where
   unfolding numbers
   s2-next = past-head 2
 
-  pub rc-next : rcOf (nextRow row ext) ≡ 0
+  -- rc and the slots
+  pub zero-next : (i : ℕ) → 15 ≤ i → getD (nextRow row ext) i 0 ≡ 0
   unfolding numbers
-  rc-next = past-head 3
+  zero-next i h =
+      let q : i ≡ 12 + suc (suc (suc (i - 15))) = omega arith in
+      ap (λ (k : ℕ). getD (nextRow row ext) k 0) q ∙ past-head (suc (suc (suc (i - 15)))) ∙ getD-zeros 17 (i - 15)
+
+  pub rc-next : rcOf (nextRow row ext) ≡ 0
+  rc-next = zero-next 15 (omega arith)
 
   pub slot-next : (j : ℕ) → slotOf (nextRow row ext) j ≡ 0
-  unfolding numbers slotOf
-  slot-next j =
-      let q : 16 + j ≡ 12 + suc (suc (suc (suc j))) = omega arith in
-      ap (λ (k : ℕ). getD (nextRow row ext) k 0) q ∙ past-head (suc (suc (suc (suc j)))) ∙ getD-zeros slotCount j
+  unfolding slotOf
+  slot-next j = zero-next (16 + j) (omega arith)
 
   pub extent-next : extentOf (nextRow row ext) ≡ ext
   unfolding extentOf

@@ -1,7 +1,7 @@
 -- Where a record call's target is, and what reading and writing it leave, field by field.
-use mathlib.Core.Path.{_≡_, refl, ap, sym, _∙_}
-use mathlib.Core.Bool.{Bool, true, false, cond}
-use Prim.Native.Nat.{ℕ, _+_, _*_, _/_, _%_, _≤_, _<_, max}
+use mathlib.Core.Path.{_≡_, refl, _∙_}
+use mathlib.Core.Bool.{true, false}
+use Prim.Native.Nat.{ℕ, _+_, _/_, _%_, _≤_, _<_}
 use native.Mathlib.Nat.{mod-lt}
 use native.Mathlib.Omega.{arith}
 use lib.Dec.{eqb}
@@ -9,13 +9,14 @@ use lib.ListN.{length, getD, set, length-set}
 use lib.Seq.{getD-set-same, getD-set-other}
 use borrow.Author.Tests.{eqb-true, eqb-false, eq-eqb, ne-eqb}
 use Rattle.lists.specs.Cases.{split, bool-cases, eq-or-ne}
-use Rattle.lists.specs.Product.{first-below, same-digits}
-use Rattle.format.specs.Diskette.{Bytes, Geometry, Sound, diskRecord, recordAt, withRecord}
-use Rattle.format.specs.Entries.{entryAt, withEntry, exOf, s2Of, rcOf, slotOf, slotCount, extentOf, countIn, slotFor}
+use Rattle.lists.specs.Product.{same-digits}
+use Rattle.format.specs.Diskette.{Bytes, Geometry, Sound, recordAt, withRecord}
+use Rattle.format.specs.Entries.{entryAt, withEntry, rcOf, slotOf, slotCount, extentOf, countIn, slotFor}
 use Rattle.format.specs.Notes.{noteAt, pendingFor, withNote}
 use Rattle.format.specs.Fcb.{crOf, randomOf}
 use Rattle.disk.specs.Places.{blockRecords, block-record, block-once}
 use Rattle.rows.specs.Fields.{slot-for-below}
+use Rattle.rows.specs.Entries.{areaRecords, block-past}
 use Rattle.model.specs.Lent.{Lent, rowsOf}
 use Rattle.model.specs.Closing.{closedImage, closedMap}
 use Rattle.model.specs.Entering.{entered}
@@ -96,6 +97,10 @@ module _ {G : Geometry} (S : Sound G) where
   pub place-below : (b r : ℕ) → b < G .blocks → placeIn G b r < blockRecords G
   unfolding placeIn
   place-below b r h = block-record G b (r % G .perBlock) h (mod-lt r (S .some-record))
+
+  pub place-past : (b r : ℕ) → G .area ≤ b → areaRecords G ≤ placeIn G b r
+  unfolding placeIn
+  place-past b r h = block-past G b (r % G .perBlock) h
 
   -- records of two blocks, and two records of one slot, are two places
   pub place-block : (b r c q : ℕ) → placeIn G b r ≡ placeIn G c q → b ≡ c
@@ -254,6 +259,11 @@ module _ (fcb row : Bytes) (j b r cr : ℕ) where
     slot-written =
         getD-set-other (set (set fcb (16 + j) b) 15 (writtenCount fcb row r)) 32 (16 + j) cr 0 (λ z. omega arith)
         ∙ getD-set-other (set fcb (16 + j) b) 15 (16 + j) (writtenCount fcb row r) 0 (λ z. omega arith) ∙ getD-set-same fcb (16 + j) b 0 (omega arith)
+
+    -- a write to a block that the FCB has leaves its slots as they were
+    pub slot-written-kept : b ≡ slotOf fcb j → (k : ℕ) → k < slotCount → slotOf (writtenFcb fcb row j b r cr) k ≡ slotOf fcb k
+    slot-written-kept e k h =
+        split (eq-or-ne k j) (λ q. rw q (slot-written ∙ e)) (λ n. slot-written-other k h n)
 
     pub rc-written : rcOf (writtenFcb fcb row j b r cr) ≡ writtenCount fcb row r
     unfolding writtenFcb
