@@ -19,7 +19,7 @@ use Rattle.invariant.specs.CloseGood.{good-closed}
 use Rattle.effects.specs.View.{viewOf, Names}
 use Rattle.effects.specs.Effect.{Effect, Keeps, RecsStay}
 use Rattle.effects.specs.Steps.{NamesUsed, one-effect, keeps-by, held-named}
-use Rattle.effects.specs.Naming.{named-used}
+use Rattle.fields.specs.Naming.{named-used}
 use Rattle.effects.specs.Cur.{Cur, cur-facts, cur-uses, cur-named}
 use Rattle.effects.specs.Where.{Frame, in-entry, entry-or-same}
 use Rattle.effects.specs.Book.{settledBy}

@@ -26,7 +26,7 @@ use Rattle.table.specs.Present.{Current, current-elim, current-intro}
 use Rattle.model.specs.Target.{extentRecords, placeIn}
 use Rattle.effects.specs.View.{View, viewOf, Names, Mine, listed, pending}
 use Rattle.effects.specs.Effect.{Foreign, Effect, Keeps}
-use Rattle.effects.specs.Naming.{file-named, file-used, file-found}
+use Rattle.fields.specs.Naming.{file-named, file-used, file-found}
 
 -- f is current for the user, and e is its entry
 pub record Cur (G : Geometry) (s : View) (user : ℕ) (f : Bytes) (e : ℕ) : Type 0 where

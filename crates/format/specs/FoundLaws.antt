@@ -17,12 +17,6 @@ at-not-nothing e q = let z : _≡_ {A = ℕ} 0 1 = cc in omega arith
 pub at-once : (k e : ℕ) → At k ≡ At e → k ≡ e
 at-once k e q = cc
 
-pub at-nothing : {A : Type 0} (k : ℕ) → At k ≡ Nothing → A
-at-nothing k q = absurd (at-not-nothing k q)
-
-pub at-same : (k m : ℕ) → At k ≡ At m → k ≡ m
-at-same k m q = at-once k m q
-
 -- by cases, with the answer in hand
 pub found-cases : {A : Type 0} (f : Found) → ((k : ℕ) → f ≡ At k → A) → (f ≡ Nothing → A) → A
 found-cases (At k) a b = a k refl
