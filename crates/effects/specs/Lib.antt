@@ -8,3 +8,4 @@ pub mod Tracks
 pub mod Change
 pub mod Closed
 pub mod Put
+pub mod Entered
