@@ -1,5 +1,5 @@
 -- What carries consistency and right notes from one directory to another, entry by entry and block by block.
-use mathlib.Core.Path.{_≡_, ap, sym, _∙_, subst}
+use mathlib.Core.Path.{_≡_, refl, ap, sym, _∙_, subst}
 use mathlib.Core.Bool.{Bool, true, false}
 use Prim.Native.Nat.{ℕ, _≤_, _<_}
 use native.Mathlib.Omega.{arith}
@@ -7,11 +7,14 @@ use Rattle.lists.specs.Cases.{split, bool-cases, not-both}
 use Rattle.format.specs.Diskette.{Bytes, Geometry, Sound}
 use Rattle.format.specs.Entries.{Rows, slotOf, used, empty}
 use Rattle.format.specs.Notes.{isListed}
-use Rattle.names.specs.Laws.{like-trans}
+use Rattle.names.specs.Laws.{like-refl, like-trans}
 use Rattle.consistency.specs.Facts.{Fine, Stands, SameFile, Consistent}
 use Rattle.consistency.specs.Listed.{listed-somewhere, somewhere-listed}
 use Rattle.consistency.specs.Reflect.{same-sym}
 use Rattle.notes.specs.Right.{Spare, NoteOk, ok-area, ok-recorded, ok-free, ok-pending}
+
+pub same-refl : (r : Bytes) → SameFile r r
+same-refl r = record { user = refl; name = like-refl r 1; extent = refl }
 
 pub same-trans : (r t s : Bytes) → SameFile r t → SameFile t s → SameFile r s
 same-trans r t s p q = record { user = p .user ∙ q .user; name = like-trans s 1 t 1 r 1 (q .name) (p .name); extent = p .extent ∙ q .extent }

@@ -20,6 +20,13 @@ use Rattle.notes.specs.Right.{Spare, NoteOk, ok-area, ok-recorded, ok-free, ok-
 use Rattle.invariant.specs.Inv.{Inv}
 use Rattle.invariant.specs.Carry.{same-trans, past-real, unlisted-never, never-unlisted, stands-row, change-dir, listed-on}
 
+-- a block that is noted pending is listed nowhere
+pub pending-spare : (G : Geometry) (d : Rows) (b e j n : ℕ) → NoteOk G d b n → n ≡ pendingFor e j → Spare G d b
+pending-spare G d b e j n (ok-area q a) p = absurd (pending-not-area e j (sym p ∙ q))
+pending-spare G d b e j n (ok-recorded q a t) p = absurd (pending-not-recorded e j (sym p ∙ q))
+pending-spare G d b e j n (ok-free q s) p = s
+pending-spare G d b e j n (ok-pending f k q l i u s) p = s
+
 -- slot j of entry e is 0, and block b is noted pending for it
 pub record Held (G : Geometry) (d : Rows) (m : ℕ → ℕ) (e j b : ℕ) : Type 0 where
   pub was : slotOf (d e) j ≡ 0
@@ -38,15 +45,8 @@ module _ {G : Geometry} (S : Sound G) (d d′ : Rows) (m m′ : ℕ → ℕ) (v 
     -- the blocks that the entry takes are recorded, the other notes stay
     (settled : (b j : ℕ) → j < slotCount → Held G d m e j b → slotOf (d′ e) j ≡ b → (b ≡ 0 → ⊥) → m′ b ≡ recordedNote)
     (left : (b : ℕ) → b < G .blocks → ((j : ℕ) → j < slotCount → Held G d m e j b → slotOf (d′ e) j ≡ b → ⊥) → m′ b ≡ m b) where
-  -- a block that is held is listed nowhere
   held-spare : (b j : ℕ) → Held G d m e j b → Spare G d b
-  held-spare b j h = go (v .map b (h .low))
-    where
-      go : NoteOk G d b (m b) → Spare G d b
-      go (ok-area q a) = absurd (pending-not-area e j (sym (h .noted) ∙ q))
-      go (ok-recorded q a t) = absurd (pending-not-recorded e j (sym (h .noted) ∙ q))
-      go (ok-free q s) = s
-      go (ok-pending f k q l i u s) = s
+  held-spare b j h = pending-spare G d b e j (m b) (v .map b (h .low)) (h .noted)
 
   held-once : (b j k : ℕ) → j < slotCount → k < slotCount → Held G d m e j b → Held G d m e k b → j ≡ k
   held-once b j k l i h g = pending-once e j e k l i (sym (h .noted) ∙ g .noted) .1

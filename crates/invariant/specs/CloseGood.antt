@@ -6,21 +6,22 @@ use Prim.Native.Nat.{ℕ, _≤_, _<_}
 use native.Mathlib.Omega.{arith}
 use lib.ListN.{length, List·getD-eq-default}
 use borrow.Author.Tests.{eqb-true}
-use Rattle.lists.specs.Cases.{split, lt-or-le}
+use Rattle.lists.specs.Cases.{split, eq-or-ne, lt-or-le}
 use Rattle.lists.specs.Tests.{and-left, and-right, or-cases}
 use Rattle.lists.specs.Below.{all-at}
 use Rattle.format.specs.Diskette.{Bytes, Geometry, Sound}
 use Rattle.format.specs.Entries.{entryAt, slotCount, slotOf, slotsOf, userOf, extentOf, used}
-use Rattle.format.specs.Notes.{noteAt, pendingFor}
+use Rattle.format.specs.Notes.{noteAt, freeNote, pendingFor}
 use Rattle.format.specs.Fcb.{slotFits, slotsFit, fcbRight}
 use Rattle.format.specs.SlotLaws.{getD-slotsOf}
 use Rattle.model.specs.Closing.{closedRow, closedImage, closedMap}
-use Rattle.consistency.specs.Facts.{Numbers}
+use Rattle.consistency.specs.Facts.{Numbers, SameFile}
 use Rattle.consistency.specs.Reflect.{low-used, numbers-elim}
 use Rattle.notes.specs.Numbers.{pending-not-free}
 use Rattle.rows.specs.Entries.{length-entryAt, length-withEntry, entry-stored, entry-left}
 use Rattle.fields.specs.Closing.{length-closedRow, right-closed, numbers-closed, slot-closed-new, slot-closed-cases, file-closed, length-closedMap, note-closed-taken, note-closed-left}
 use Rattle.table.specs.Present.{Current, file-below, file-user}
+use Rattle.invariant.specs.Carry.{same-refl}
 use Rattle.invariant.specs.Close.{Held, ClosedTo, close-inv}
 use Rattle.invariant.specs.Good.{Good}
 
@@ -80,21 +81,43 @@ module _ {G : Geometry} (S : Sound G) (img map : Bytes) (g : Good G img map) (us
             (λ p. inr (subst (HeldIn j) (sym (p .2)) (brought j (slotOf fcb j) l (p .0) refl (p .1))));
       }
 
+  -- ---- the rows and notes afterwards
+  whole : length (closedRow (entryAt G img e) fcb) ≡ 32
+  whole = length-closedRow (entryAt G img e) fcb long
+
+  pub closed-here : entryAt G (closedImage G img e fcb) e ≡ closedRow (entryAt G img e) fcb
+  unfolding closedImage
+  closed-here = entry-stored S img (g .image-long) e current-below (closedRow (entryAt G img e) fcb) whole
+
+  pub closed-there : (k : ℕ) → k < G .entries → (k ≡ e → ⊥) → entryAt G (closedImage G img e fcb) k ≡ entryAt G img k
+  unfolding closedImage
+  closed-there k l n = entry-left S img (g .image-long) e current-below (closedRow (entryAt G img e) fcb) whole k l (λ z. n (sym z))
+
+  pub closed-file : (k : ℕ) → k < G .entries → SameFile (entryAt G (closedImage G img e fcb) k) (entryAt G img k)
+  closed-file k l =
+      split (eq-or-ne k e)
+      (λ q. subst (λ (x : ℕ). SameFile (entryAt G (closedImage G img e fcb) x) (entryAt G img x)) (sym q)
+      (subst (λ (r : Bytes). SameFile r (entryAt G img e)) (sym closed-here) (file-closed (entryAt G img e) fcb long)))
+      (λ n. subst (λ (r : Bytes). SameFile r (entryAt G img k)) (sym (closed-there k l n)) (same-refl (entryAt G img k)))
+
+  -- a free block is not taken
+  pub closed-free : (b : ℕ) → b < G .blocks → noteAt map b ≡ freeNote → noteAt (closedMap (entryAt G img e) fcb map) b ≡ freeNote
+  unfolding HeldIn
+  closed-free b h f =
+      note-closed-left (entryAt G img e) fcb map b (subst (λ (x : ℕ). b < x) (sym (g .map-long)) h)
+      (λ t. pending-not-free e (t .slot) (sym (brought (t .slot) b (t .below) (t .was) (t .is) (t .some) .noted) ∙ f)) ∙ f
+
   pub good-closed : Good G (closedImage G img e fcb) (closedMap (entryAt G img e) fcb map)
   unfolding closedImage HeldIn
   good-closed =
-      let row : Bytes = closedRow (entryAt G img e) fcb in
-      let whole : length row ≡ 32 = length-closedRow (entryAt G img e) fcb long in
-      let here : entryAt G (closedImage G img e fcb) e ≡ row = entry-stored S img (g .image-long) e current-below row whole in
-      let slot : (j : ℕ) → slotOf (entryAt G (closedImage G img e fcb) e) j ≡ slotOf row j = λ j. ap (λ (r : Bytes). slotOf r j) here in
+      let slot : (j : ℕ) → slotOf (entryAt G (closedImage G img e fcb) e) j ≡ slotOf (closedRow (entryAt G img e) fcb) j = λ j. ap (λ (r : Bytes). slotOf r j) closed-here in
       let new = slot-closed-new (entryAt G img e) fcb long in
       record {
-        image-long = length-withEntry S img (g .image-long) e current-below row whole ∙ g .image-long;
+        image-long = length-withEntry S img (g .image-long) e current-below (closedRow (entryAt G img e) fcb) whole ∙ g .image-long;
         map-long = length-closedMap (entryAt G img e) fcb map ∙ g .map-long;
         inv = close-inv S (entryAt G img) (entryAt G (closedImage G img e fcb)) (λ (b : ℕ). noteAt map b)
             (λ (b : ℕ). noteAt (closedMap (entryAt G img e) fcb map) b) (g .inv) e current-below current-used
-            (λ k l n. entry-left S img (g .image-long) e current-below row whole k l (λ z. n (sym z)))
-            (subst (ClosedTo G (entryAt G img) (λ (b : ℕ). noteAt map b) e) (sym here) closed-to)
+            closed-there (subst (ClosedTo G (entryAt G img) (λ (b : ℕ). noteAt map b) e) (sym closed-here) closed-to)
             (λ b j l h q n. note-closed-taken (entryAt G img e) fcb map b (subst (λ (x : ℕ). b < x) (sym (g .map-long)) (h .low))
             (record { slot = j; below = l; was = h .was; is = sym (new j l (h .was)) ∙ sym (slot j) ∙ q; some = n }))
             (λ b h none. note-closed-left (entryAt G img e) fcb map b (subst (λ (x : ℕ). b < x) (sym (g .map-long)) h)

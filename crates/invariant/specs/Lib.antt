@@ -6,3 +6,5 @@ pub mod Change
 pub mod Good
 pub mod Updates
 pub mod CloseGood
+pub mod RecordCalls
+pub mod Calls
