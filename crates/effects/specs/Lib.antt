@@ -9,3 +9,4 @@ pub mod Change
 pub mod Closed
 pub mod Put
 pub mod Entered
+pub mod Came

@@ -1,0 +1,245 @@
+-- A record call comes to the target's extent: it stays, moves to an entry, or makes one. Wherever it came to, the change so far is by
+-- the name of the FCB, and the FCB is current there.
+use mathlib.Core.Path.{_≡_, refl, ap, sym, _∙_, subst}
+use mathlib.Core.Logic.{_⊎_, inl, inr}
+use mathlib.Core.Bool.{true, false}
+use Prim.Native.Nat.{ℕ, _+_, _*_, _≤_, _<_}
+use native.Mathlib.Omega.{arith}
+use lib.ListN.{length, getD}
+use Rattle.lists.specs.Cases.{split, eq-or-ne, not-both}
+use Rattle.format.specs.Diskette.{Bytes, Geometry, Sound, imageBytes}
+use Rattle.format.specs.Entries.{entryAt, withEntry, entryBytes, slotCount, slotOf, userOf, rcOf, extentOf, used, empty, named, isFile, findEmpty}
+use Rattle.format.specs.Notes.{noteAt}
+use Rattle.format.specs.Fcb.{fcbBytes, crOf}
+use Rattle.format.specs.declared.Found.the-variants.{At, Nothing}
+use Rattle.names.specs.Laws.{like-at, like-intro, like-trans}
+use Rattle.consistency.specs.Facts.{Fine}
+use Rattle.consistency.specs.Reflect.{used-full}
+use Rattle.rows.specs.Entries.{length-entryAt, entry-stored, entry-left, record-kept}
+use Rattle.rows.specs.Find.{empty-says}
+use Rattle.model.specs.declared.Session.{Session}
+use Rattle.model.specs.Lent.{Lent, rowsOf}
+use Rattle.model.specs.Closing.{closedImage, closedMap}
+use Rattle.model.specs.Entering.{entered, nextRow}
+use Rattle.model.specs.Target.{extents, targetExtent, presentEntry, stays, targetEntry, moved, nextMade, made}
+use Rattle.fields.specs.Agree.{SameName}
+use Rattle.fields.specs.Fine.{fine-next}
+use Rattle.fields.specs.Making.{length-nextRow, user-next, name-next, extent-next}
+use Rattle.fields.specs.Entering.{length-entered, first-entered, name-entered, extent-entered}
+use Rattle.fields.specs.Naming.{named-intro, named-like, file-named, file-user, file-extent, file-like, file-used}
+use Rattle.fields.specs.Target.{stays-extent, moves-extent}
+use Rattle.table.specs.Facts.{Fits}
+use Rattle.table.specs.Present.{file-is, file-below}
+use Rattle.invariant.specs.Good.{Good}
+use Rattle.invariant.specs.RecordCalls.{good-next}
+use Rattle.effects.specs.View.{View, viewOf}
+use Rattle.effects.specs.Effect.{NamesStay, RecsStay, notes-stay}
+use Rattle.effects.specs.Steps.{made-effect, made-stay}
+use Rattle.effects.specs.Cur.{Cur, current-cur, cur-uses}
+use Rattle.effects.specs.Where.{in-new, entry-or-same}
+use Rattle.effects.specs.Book.{Book, settledBy}
+use Rattle.effects.specs.Tracks.{same-tracks}
+use Rattle.effects.specs.Change.{Change, asItWas, no-change, then-change}
+use Rattle.effects.specs.Closed.{byName, closed-there, closed-change}
+use Rattle.effects.specs.Entered.{ranges-of, entered-cur}
+
+-- the call, given l, has come to `there` and entry t, with the book changed by B; it may write the records that W allows
+pub record CameTo (G : Geometry) (n user : ℕ) (l there : Lent) (t : ℕ) (W : ℕ → Type 0) (B : Book → Book) : Type 0 where
+  pub change : Change G (byName user (l .fcb)) W B (l .image) (l .map) (there .image) (there .map)
+  pub cur : Cur G (viewOf G (there .image) (there .map)) user (there .fcb) t
+  pub mine : byName user (l .fcb) (entryAt G (there .image) t) ≡ true
+  pub extent : extentOf (there .fcb) ≡ targetExtent n (l .fcb)
+  pub long : length (there .fcb) ≡ fcbBytes
+  pub first : getD (there .fcb) 0 0 ≡ getD (l .fcb) 0 0
+  pub name : SameName (there .fcb) 1 (l .fcb) 1
+  pub buffer : there .buffer ≡ l .buffer
+
+module _ {G : Geometry} (S : Sound G) (n : ℕ) (l : Lent) (s : Session) (g : Good G (l .image) (l .map)) (f : Fits G l s) (e : ℕ)
+    (at : presentEntry G (s .user) l ≡ At e) (W : ℕ → Type 0) where
+  pub present-cur : Cur G (viewOf G (l .image) (l .map)) (s .user) (l .fcb) e
+  unfolding presentEntry
+  present-cur = current-cur G (l .image) (l .map) (s .user) (l .fcb) e (f .map-long) at
+
+  pub present-named : byName (s .user) (l .fcb) (rowsOf G l e) ≡ true
+  present-named = file-named (s .user) (l .fcb) 1 (extentOf (l .fcb)) (rowsOf G l e) (present-cur .file)
+
+  -- ---- it stays
+  pub stay-came : stays n (l .fcb) ≡ true → CameTo G n (s .user) l l e W asItWas
+  stay-came t = record {
+    change = no-change G (byName (s .user) (l .fcb)) W (l .image) (l .map) g;
+    cur = present-cur;
+    mine = present-named;
+    extent = sym (stays-extent n (l .fcb) t);
+    long = f .fcb-long;
+    first = refl;
+    name = λ i h. refl;
+    buffer = refl;
+  }
+
+  -- ---- it moves to an entry of the file
+  closed-by : Change G (byName (s .user) (l .fcb)) W (settledBy (rowsOf G l e) (l .fcb)) (l .image) (l .map)
+      (closedImage G (l .image) e (l .fcb)) (closedMap (rowsOf G l e) (l .fcb) (l .map))
+  closed-by = closed-change S (l .image) (l .map) g (s .user) (f .user-low) (l .fcb) e present-cur W
+
+  -- an FCB that entered row t of the file, wherever that row came from
+  entered-name : (row : Bytes) → named false (s .user) (l .fcb) 1 row ≡ true → SameName (entered (l .fcb) row) 1 (l .fcb) 1
+  entered-name row nm i h =
+      name-entered (l .fcb) row (let q : length (l .fcb) ≡ 36 = f .fcb-long in omega arith) i h
+      ∙ sym (like-at (l .fcb) 1 row 1 (named-like false (s .user) (l .fcb) 1 row nm) i h)
+
+  module _ (go : stays n (l .fcb) ≡ false) (t : ℕ) (target : targetEntry G n (s .user) l ≡ At t) where
+    pub target-file : isFile (s .user) (l .fcb) 1 (targetExtent n (l .fcb)) (rowsOf G l t) ≡ true
+    unfolding targetEntry
+    target-file = file-is G (rowsOf G l) (s .user) (l .fcb) 1 (targetExtent n (l .fcb)) t target
+
+    pub target-below : t < G .entries
+    unfolding targetEntry
+    target-below = file-below G (rowsOf G l) (s .user) (l .fcb) 1 (targetExtent n (l .fcb)) t target
+
+    pub target-used : used (rowsOf G l t) ≡ true
+    target-used = file-used (s .user) (l .fcb) 1 (targetExtent n (l .fcb)) (rowsOf G l t) target-file (f .user-low)
+
+    -- it is another entry than the present one
+    other : t ≡ e → ⊥
+    other q =
+        moves-extent n (l .fcb) go
+        (sym (file-extent (s .user) (l .fcb) 1 (targetExtent n (l .fcb)) (rowsOf G l t) target-file)
+        ∙ ap (λ (x : ℕ). extentOf (rowsOf G l x)) q ∙ file-extent (s .user) (l .fcb) 1 (extentOf (l .fcb)) (rowsOf G l e) (present-cur .file))
+
+    pub target-stays : entryAt G (closedImage G (l .image) e (l .fcb)) t ≡ rowsOf G l t
+    target-stays = closed-there S (l .image) (l .map) g (s .user) (f .user-low) (l .fcb) e present-cur t target-below other
+
+    pub move-came : CameTo G n (s .user) l (moved G n l e t) t W (settledBy (rowsOf G l e) (l .fcb))
+    unfolding moved
+    move-came =
+        let hf : 32 ≤ length (l .fcb) = (let q : length (l .fcb) ≡ 36 = f .fcb-long in omega arith) in
+        let row : Bytes = rowsOf G l t in
+        let nm = file-named (s .user) (l .fcb) 1 (targetExtent n (l .fcb)) row target-file in
+        record {
+          change = closed-by;
+          cur = entered-cur G (viewOf G (closedImage G (l .image) e (l .fcb)) (closedMap (rowsOf G l e) (l .fcb) (l .map))) (s .user) (l .fcb) row t target-below target-stays
+              (file-user (s .user) (l .fcb) 1 (targetExtent n (l .fcb)) row target-file) (f .fcb-long) (g .inv .dir .fine t target-below target-used)
+              (ranges-of (l .fcb) (present-cur .right) .cr);
+          mine = ap (byName (s .user) (l .fcb)) target-stays ∙ nm;
+          extent = extent-entered (l .fcb) row hf ∙ file-extent (s .user) (l .fcb) 1 (targetExtent n (l .fcb)) row target-file;
+          long = length-entered (l .fcb) row hf ∙ f .fcb-long;
+          first = first-entered (l .fcb) row hf;
+          name = entered-name row nm;
+          buffer = refl;
+        }
+
+  -- ---- it makes an entry for the target's extent
+  module _ (go : stays n (l .fcb) ≡ false) (t : ℕ) (room : findEmpty G (rowsOf G l) ≡ At t) (none : targetEntry G n (s .user) l ≡ Nothing)
+      (low : targetExtent n (l .fcb) < extents) where
+    room-below : t < G .entries
+    room-below = empty-says G (rowsOf G l) t room .below
+
+    elsewhere : t ≡ e → ⊥
+    elsewhere q =
+        not-both (empty (rowsOf G l t)) (empty-says G (rowsOf G l) t room .holds)
+        (ap (λ (x : ℕ). empty (rowsOf G l x)) q ∙ used-full (rowsOf G l e) (cur-uses G (viewOf G (l .image) (l .map)) (s .user) (f .user-low) (l .fcb) e present-cur))
+
+    long : length (rowsOf G l e) ≡ entryBytes
+    long = length-entryAt S (l .image) (g .image-long) e (present-cur .low)
+
+    whole : length (nextMade G n l e) ≡ entryBytes
+    unfolding nextMade
+    whole = length-nextRow (rowsOf G l e) (targetExtent n (l .fcb)) long
+
+    -- the new row is of the user's file
+    next-user : userOf (nextMade G n l e) ≡ s .user
+    unfolding nextMade
+    next-user = user-next (rowsOf G l e) (targetExtent n (l .fcb)) long ∙ file-user (s .user) (l .fcb) 1 (extentOf (l .fcb)) (rowsOf G l e) (present-cur .file)
+
+    next-extent : extentOf (nextMade G n l e) ≡ targetExtent n (l .fcb)
+    unfolding nextMade
+    next-extent = extent-next (rowsOf G l e) (targetExtent n (l .fcb)) long
+
+    next-named : byName (s .user) (l .fcb) (nextMade G n l e) ≡ true
+    unfolding nextMade
+    next-named =
+        named-intro false (s .user) (l .fcb) 1 (nextMade G n l e) next-user
+        (like-trans (l .fcb) 1 (rowsOf G l e) 1 (nextMade G n l e) 1 (file-like (s .user) (l .fcb) 1 (extentOf (l .fcb)) (rowsOf G l e) (present-cur .file))
+        (like-intro (rowsOf G l e) 1 (nextMade G n l e) 1 (λ i h. sym (name-next (rowsOf G l e) (targetExtent n (l .fcb)) long i h))))
+
+    next-fine : Fine G (nextMade G n l e)
+    unfolding nextMade
+    next-fine =
+        fine-next G (rowsOf G l e) (targetExtent n (l .fcb)) long
+        (g .inv .dir .fine e (present-cur .low) (cur-uses G (viewOf G (l .image) (l .map)) (s .user) (f .user-low) (l .fcb) e present-cur)) low
+
+    -- after the close
+    mid : Bytes
+    mid = closedImage G (l .image) e (l .fcb)
+
+    mid-map : Bytes
+    mid-map = closedMap (rowsOf G l e) (l .fcb) (l .map)
+
+    void : empty (entryAt G mid t) ≡ true
+    unfolding mid
+    void =
+        ap empty (closed-there S (l .image) (l .map) g (s .user) (f .user-low) (l .fcb) e present-cur t room-below elsewhere)
+        ∙ empty-says G (rowsOf G l) t room .holds
+
+    new : Bytes
+    new = withEntry G mid t (nextMade G n l e)
+
+    mid-long : length mid ≡ imageBytes G
+    unfolding mid
+    mid-long = closed-by .good .image-long
+
+    next-here : entryAt G new t ≡ nextMade G n l e
+    unfolding new
+    next-here = entry-stored S mid mid-long t room-below (nextMade G n l e) whole
+
+    there : (k : ℕ) → k < G .entries → (k ≡ t → ⊥) → entryAt G new k ≡ entryAt G mid k
+    unfolding new
+    there k h q = entry-left S mid mid-long t room-below (nextMade G n l e) whole k h (λ z. q (sym z))
+
+    recs : RecsStay G (viewOf G mid mid-map) (viewOf G new mid-map)
+    unfolding new
+    recs d p b = record-kept S mid mid-long t room-below (nextMade G n l e) whole d p b
+
+    here-named : byName (s .user) (l .fcb) (entryAt G new t) ≡ true
+    here-named = ap (byName (s .user) (l .fcb)) next-here ∙ next-named
+
+    new-good : Good G new mid-map
+    unfolding new mid mid-map made
+    new-good = good-next S n l s g f e at t room none low
+
+    made-by : Change G (byName (s .user) (l .fcb)) W asItWas mid mid-map new mid-map
+    unfolding new mid mid-map
+    made-by = record {
+      effect = made-effect G (viewOf G mid mid-map) (viewOf G new mid-map) (byName (s .user) (l .fcb)) (closed-by .good .inv) recs t there void here-named;
+      keeps = notes-stay G (viewOf G mid mid-map) (viewOf G new mid-map) (byName (s .user) (l .fcb)) (λ b h. refl);
+      frame = λ i. split (entry-or-same S mid mid-long t room-below (nextMade G n l e) whole i) (λ q. inl q) (λ p. inr (in-new t p void here-named));
+      good = new-good;
+      book = λ u tr. tr;
+    }
+
+    new-stay : NamesStay G (viewOf G mid mid-map) (viewOf G new mid-map) (byName (s .user) (l .fcb))
+    unfolding mid mid-map
+    new-stay = made-stay G (viewOf G mid mid-map) (viewOf G new mid-map) (byName (s .user) (l .fcb)) (closed-by .good .inv) recs t there void here-named
+
+    closed-then-made : Change G (byName (s .user) (l .fcb)) W (settledBy (rowsOf G l e) (l .fcb)) (l .image) (l .map) new mid-map
+    unfolding mid mid-map
+    closed-then-made =
+        then-change G (byName (s .user) (l .fcb)) W (settledBy (rowsOf G l e) (l .fcb)) asItWas (l .image) (l .map) mid mid-map new mid-map
+        (g .inv .dir) closed-by made-by new-stay
+
+    pub make-came : CameTo G n (s .user) l (made G n l e t) t W (settledBy (rowsOf G l e) (l .fcb))
+    unfolding made new mid mid-map
+    make-came =
+        let hf : 32 ≤ length (l .fcb) = (let q : length (l .fcb) ≡ 36 = f .fcb-long in omega arith) in
+        let row : Bytes = nextMade G n l e in
+        record {
+          change = closed-then-made;
+          cur = entered-cur G (viewOf G new mid-map) (s .user) (l .fcb) row t room-below next-here next-user (f .fcb-long) next-fine
+              (ranges-of (l .fcb) (present-cur .right) .cr);
+          mine = here-named;
+          extent = extent-entered (l .fcb) row hf ∙ next-extent;
+          long = length-entered (l .fcb) row hf ∙ f .fcb-long;
+          first = first-entered (l .fcb) row hf;
+          name = entered-name row next-named;
+          buffer = refl;
+        }
