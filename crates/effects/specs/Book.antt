@@ -46,14 +46,11 @@ enteredFor b e j u c = cond (eqb c b) (pendingFor e j) (u c)
 unfoldable pub acceptedAnswer : ℕ → Answer → Bool
 acceptedAnswer n a = eqb (a .h) 0 and cond (oneOf n (20 ∷ 21 ∷ 33 ∷ 34 ∷ [])) (eqb (a .a) 0) (not (eqb (a .a) 255))
 
--- ---- call by call: the call was given l and s, and left o
-module _ (G : Geometry) (n : ℕ) (l : Lent) (s : Session) (o : Outcome) where
-  -- the entry that the directory has for the FCB given, and for the FCB handed back
+-- ---- call by call: call n of the user was given l
+module _ (G : Geometry) (n user : ℕ) (l : Lent) where
+  -- the entry that the directory has for the FCB
   unfoldable pub entryBefore : ℕ
-  entryBefore = numberOf (G .entries) (findFile G (rowsOf G l) (s .user) (l .fcb) 1 (extentOf (l .fcb)))
-
-  unfoldable pub entryAfter : ℕ
-  entryAfter = numberOf (G .entries) (findFile G (rowsOf G (o .lent)) (s .user) (o .lent .fcb) 1 (extentOf (o .lent .fcb)))
+  entryBefore = numberOf (G .entries) (findFile G (rowsOf G l) user (l .fcb) 1 (extentOf (l .fcb)))
 
   unfoldable pub closedBook : Book → Book
   closedBook u = settledBy (rowsOf G l entryBefore) (l .fcb) u
@@ -62,23 +59,30 @@ module _ (G : Geometry) (n : ℕ) (l : Lent) (s : Session) (o : Outcome) where
   unfoldable pub movedBook : Book → Book
   movedBook u = cond (stays n (l .fcb)) u (closedBook u)
 
-  -- a write that found 0 in its slot took the block that the FCB handed back has there
-  unfoldable pub writtenBook : Book → Book
-  writtenBook u =
-      cond (eqb (blockThere G n (s .user) l) 0)
-      (enteredFor (slotOf (o .lent .fcb) (targetSlot G n (l .fcb))) entryAfter (targetSlot G n (l .fcb)) (movedBook u)) (movedBook u)
-
   unfoldable pub deletedBook : Book → Book
-  deletedBook u = droppedFor (λ (e : ℕ). named true (s .user) (l .fcb) 1 (rowsOf G l e)) u
+  deletedBook u = droppedFor (λ (e : ℕ). named true user (l .fcb) 1 (rowsOf G l e)) u
 
-  unfoldable pub bookBy : Book → Book
-  bookBy u =
-      cond (oneOf n (13 ∷ 98 ∷ [])) nothingHeld
-      (cond (oneOf n (16 ∷ [])) (closedBook u)
-      (cond (oneOf n (19 ∷ [])) (deletedBook u)
-      (cond (oneOf n (20 ∷ 33 ∷ [])) (movedBook u)
-      (cond (oneOf n (21 ∷ 34 ∷ [])) (writtenBook u) u))))
+  -- and it left these buffers
+  module _ (left : Lent) where
+    -- the entry that the directory has for the FCB handed back
+    unfoldable pub entryAfter : ℕ
+    entryAfter = numberOf (G .entries) (findFile G (rowsOf G left) user (left .fcb) 1 (extentOf (left .fcb)))
 
-  -- the book after the call
-  unfoldable pub bookStep : Book → Book
-  bookStep u = cond (acceptedAnswer n (o .answer)) (bookBy u) u
+    -- a write that found 0 in its slot took the block that the FCB handed back has there
+    unfoldable pub writtenBook : Book → Book
+    writtenBook u =
+        cond (eqb (blockThere G n user l) 0)
+        (enteredFor (slotOf (left .fcb) (targetSlot G n (l .fcb))) entryAfter (targetSlot G n (l .fcb)) (movedBook u)) (movedBook u)
+
+    -- the book after an accepted call
+    unfoldable pub bookBy : Book → Book
+    bookBy u =
+        cond (oneOf n (13 ∷ 98 ∷ [])) nothingHeld
+        (cond (oneOf n (16 ∷ [])) (closedBook u)
+        (cond (oneOf n (19 ∷ [])) (deletedBook u)
+        (cond (oneOf n (20 ∷ 33 ∷ [])) (movedBook u)
+        (cond (oneOf n (21 ∷ 34 ∷ [])) (writtenBook u) u))))
+
+-- the book after any call: a refused one leaves it
+unfoldable pub bookStep : Geometry → ℕ → Lent → Session → Outcome → Book → Book
+bookStep G n l s o u = cond (acceptedAnswer n (o .answer)) (bookBy G n (s .user) l (o .lent) u) u

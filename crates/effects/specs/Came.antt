@@ -9,7 +9,8 @@ use lib.ListN.{length, getD}
 use Rattle.lists.specs.Cases.{split, eq-or-ne, not-both}
 use Rattle.format.specs.Diskette.{Bytes, Geometry, Sound, imageBytes}
 use Rattle.format.specs.Entries.{entryAt, withEntry, entryBytes, slotCount, slotOf, userOf, rcOf, extentOf, used, empty, named, isFile, findEmpty}
-use Rattle.format.specs.Notes.{noteAt}
+use Rattle.format.specs.Notes.{freeNote, noteAt}
+use Rattle.format.specs.Found.{numberOf}
 use Rattle.format.specs.Fcb.{fcbBytes, crOf}
 use Rattle.format.specs.declared.Found.the-variants.{At, Nothing}
 use Rattle.names.specs.Laws.{like-at, like-intro, like-trans}
@@ -21,26 +22,26 @@ use Rattle.model.specs.declared.Session.{Session}
 use Rattle.model.specs.Lent.{Lent, rowsOf}
 use Rattle.model.specs.Closing.{closedImage, closedMap}
 use Rattle.model.specs.Entering.{entered, nextRow}
-use Rattle.model.specs.Target.{extents, targetExtent, presentEntry, stays, targetEntry, moved, nextMade, made}
+use Rattle.model.specs.Target.{extents, targetExtent, targetSlot, presentEntry, stays, targetEntry, blockThere, moved, nextMade, made}
 use Rattle.fields.specs.Agree.{SameName}
 use Rattle.fields.specs.Fine.{fine-next}
-use Rattle.fields.specs.Making.{length-nextRow, user-next, name-next, extent-next}
-use Rattle.fields.specs.Entering.{length-entered, first-entered, name-entered, extent-entered}
+use Rattle.fields.specs.Making.{length-nextRow, slot-next, user-next, name-next, extent-next}
+use Rattle.fields.specs.Entering.{length-entered, slot-entered, first-entered, name-entered, extent-entered}
 use Rattle.fields.specs.Naming.{named-intro, named-like, file-named, file-user, file-extent, file-like, file-used}
-use Rattle.fields.specs.Target.{stays-extent, moves-extent}
+use Rattle.fields.specs.Target.{stays-extent, moves-extent, targetSlot-below}
 use Rattle.table.specs.Facts.{Fits}
-use Rattle.table.specs.Present.{file-is, file-below}
+use Rattle.table.specs.Present.{current-elim, file-is, file-below}
 use Rattle.invariant.specs.Good.{Good}
 use Rattle.invariant.specs.RecordCalls.{good-next}
-use Rattle.effects.specs.View.{View, viewOf}
+use Rattle.effects.specs.View.{View, viewOf, Mine, listed}
 use Rattle.effects.specs.Effect.{NamesStay, RecsStay, notes-stay}
 use Rattle.effects.specs.Steps.{made-effect, made-stay}
-use Rattle.effects.specs.Cur.{Cur, current-cur, cur-uses}
-use Rattle.effects.specs.Where.{in-new, entry-or-same}
-use Rattle.effects.specs.Book.{Book, settledBy}
+use Rattle.effects.specs.Cur.{Cur, current-cur, cur-uses, cur-mine}
+use Rattle.effects.specs.Where.{in-new, entry-or-same, Theirs, was-theirs}
+use Rattle.effects.specs.Book.{Book, settledBy, entryBefore, closedBook, movedBook}
 use Rattle.effects.specs.Tracks.{same-tracks}
 use Rattle.effects.specs.Change.{Change, asItWas, no-change, then-change}
-use Rattle.effects.specs.Closed.{byName, closed-there, closed-change}
+use Rattle.effects.specs.Closed.{byName, closed-there, closed-free, closed-change}
 use Rattle.effects.specs.Entered.{ranges-of, entered-cur}
 
 -- the call, given l, has come to `there` and entry t, with the book changed by B; it may write the records that W allows
@@ -53,6 +54,12 @@ pub record CameTo (G : Geometry) (n user : ℕ) (l there : Lent) (t : ℕ) (W : 
   pub first : getD (there .fcb) 0 0 ≡ getD (l .fcb) 0 0
   pub name : SameName (there .fcb) 1 (l .fcb) 1
   pub buffer : there .buffer ≡ l .buffer
+  -- the block in the target's slot, whose it was, and that free blocks are free still
+  pub slot : slotOf (there .fcb) (targetSlot G n (l .fcb)) ≡ blockThere G n user l
+  pub theirs : (blockThere G n user l ≡ 0 → ⊥) → Theirs G (l .image) (l .map) (byName user (l .fcb)) (blockThere G n user l)
+  pub free : (b : ℕ) → b < G .blocks → noteAt (l .map) b ≡ freeNote → noteAt (there .map) b ≡ freeNote
+  -- the book's change, as the calls tell it
+  pub book : (u : Book) → movedBook G n user l u ≡ B u
 
 module _ {G : Geometry} (S : Sound G) (n : ℕ) (l : Lent) (s : Session) (g : Good G (l .image) (l .map)) (f : Fits G l s) (e : ℕ)
     (at : presentEntry G (s .user) l ≡ At e) (W : ℕ → Type 0) where
@@ -63,7 +70,22 @@ module _ {G : Geometry} (S : Sound G) (n : ℕ) (l : Lent) (s : Session) (g : Go
   pub present-named : byName (s .user) (l .fcb) (rowsOf G l e) ≡ true
   present-named = file-named (s .user) (l .fcb) 1 (extentOf (l .fcb)) (rowsOf G l e) (present-cur .file)
 
+  before : entryBefore G n (s .user) l ≡ e
+  unfolding entryBefore presentEntry
+  before = ap (numberOf (G .entries)) (current-elim G (rowsOf G l) (l .map) (s .user) (l .fcb) e at .entry)
+
+  slot-below : targetSlot G n (l .fcb) < slotCount
+  slot-below = targetSlot-below S n (l .fcb) (ranges-of (l .fcb) (present-cur .right) .cr)
+
   -- ---- it stays
+  stay-slot : stays n (l .fcb) ≡ true → slotOf (l .fcb) (targetSlot G n (l .fcb)) ≡ blockThere G n (s .user) l
+  unfolding blockThere
+  stay-slot t = rw t
+
+  stay-book : stays n (l .fcb) ≡ true → (u : Book) → movedBook G n (s .user) l u ≡ u
+  unfolding movedBook
+  stay-book t u = rw t
+
   pub stay-came : stays n (l .fcb) ≡ true → CameTo G n (s .user) l l e W asItWas
   stay-came t = record {
     change = no-change G (byName (s .user) (l .fcb)) W (l .image) (l .map) g;
@@ -74,12 +96,24 @@ module _ {G : Geometry} (S : Sound G) (n : ℕ) (l : Lent) (s : Session) (g : Go
     first = refl;
     name = λ i h. refl;
     buffer = refl;
+    slot = stay-slot t;
+    theirs = λ z. rw (← stay-slot t) (was-theirs e
+        (cur-mine G (viewOf G (l .image) (l .map)) (s .user) (f .user-low) (l .fcb) e present-cur (targetSlot G n (l .fcb)) slot-below (λ y. z (sym (stay-slot t) ∙ y))) present-named);
+    free = λ b h z. z;
+    book = stay-book t;
   }
 
   -- ---- it moves to an entry of the file
   closed-by : Change G (byName (s .user) (l .fcb)) W (settledBy (rowsOf G l e) (l .fcb)) (l .image) (l .map)
       (closedImage G (l .image) e (l .fcb)) (closedMap (rowsOf G l e) (l .fcb) (l .map))
   closed-by = closed-change S (l .image) (l .map) g (s .user) (f .user-low) (l .fcb) e present-cur W
+
+  still-free : (b : ℕ) → b < G .blocks → noteAt (l .map) b ≡ freeNote → noteAt (closedMap (rowsOf G l e) (l .fcb) (l .map)) b ≡ freeNote
+  still-free = closed-free S (l .image) (l .map) g (s .user) (f .user-low) (l .fcb) e present-cur
+
+  move-book : stays n (l .fcb) ≡ false → (u : Book) → movedBook G n (s .user) l u ≡ settledBy (rowsOf G l e) (l .fcb) u
+  unfolding movedBook closedBook
+  move-book go u = rw (go, before)
 
   -- an FCB that entered row t of the file, wherever that row came from
   entered-name : (row : Bytes) → named false (s .user) (l .fcb) 1 row ≡ true → SameName (entered (l .fcb) row) 1 (l .fcb) 1
@@ -109,6 +143,15 @@ module _ {G : Geometry} (S : Sound G) (n : ℕ) (l : Lent) (s : Session) (g : Go
     pub target-stays : entryAt G (closedImage G (l .image) e (l .fcb)) t ≡ rowsOf G l t
     target-stays = closed-there S (l .image) (l .map) g (s .user) (f .user-low) (l .fcb) e present-cur t target-below other
 
+    move-slot : slotOf (rowsOf G l t) (targetSlot G n (l .fcb)) ≡ blockThere G n (s .user) l
+    unfolding blockThere
+    move-slot = rw (go, target)
+
+    move-theirs : (blockThere G n (s .user) l ≡ 0 → ⊥) → Theirs G (l .image) (l .map) (byName (s .user) (l .fcb)) (blockThere G n (s .user) l)
+    move-theirs z =
+        was-theirs t (listed (targetSlot G n (l .fcb)) record { entry = target-below; place = slot-below; uses = target-used; is = move-slot; real = z })
+        (file-named (s .user) (l .fcb) 1 (targetExtent n (l .fcb)) (rowsOf G l t) target-file)
+
     pub move-came : CameTo G n (s .user) l (moved G n l e t) t W (settledBy (rowsOf G l e) (l .fcb))
     unfolding moved
     move-came =
@@ -126,6 +169,10 @@ module _ {G : Geometry} (S : Sound G) (n : ℕ) (l : Lent) (s : Session) (g : Go
           first = first-entered (l .fcb) row hf;
           name = entered-name row nm;
           buffer = refl;
+          slot = slot-entered (l .fcb) row hf (targetSlot G n (l .fcb)) slot-below ∙ move-slot;
+          theirs = move-theirs;
+          free = still-free;
+          book = move-book go;
         }
 
   -- ---- it makes an entry for the target's extent
@@ -227,6 +274,14 @@ module _ {G : Geometry} (S : Sound G) (n : ℕ) (l : Lent) (s : Session) (g : Go
         then-change G (byName (s .user) (l .fcb)) W (settledBy (rowsOf G l e) (l .fcb)) asItWas (l .image) (l .map) mid mid-map new mid-map
         (g .inv .dir) closed-by made-by new-stay
 
+    make-slot : blockThere G n (s .user) l ≡ 0
+    unfolding blockThere
+    make-slot = rw (go, none)
+
+    next-slot : slotOf (nextMade G n l e) (targetSlot G n (l .fcb)) ≡ 0
+    unfolding nextMade
+    next-slot = slot-next (rowsOf G l e) (targetExtent n (l .fcb)) long (targetSlot G n (l .fcb))
+
     pub make-came : CameTo G n (s .user) l (made G n l e t) t W (settledBy (rowsOf G l e) (l .fcb))
     unfolding made new mid mid-map
     make-came =
@@ -242,4 +297,8 @@ module _ {G : Geometry} (S : Sound G) (n : ℕ) (l : Lent) (s : Session) (g : Go
           first = first-entered (l .fcb) row hf;
           name = entered-name row next-named;
           buffer = refl;
+          slot = slot-entered (l .fcb) row hf (targetSlot G n (l .fcb)) slot-below ∙ next-slot ∙ sym make-slot;
+          theirs = λ z. absurd (z make-slot);
+          free = still-free;
+          book = move-book go;
         }

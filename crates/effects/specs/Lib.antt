@@ -10,3 +10,4 @@ pub mod Closed
 pub mod Put
 pub mod Entered
 pub mod Came
+pub mod Write
