@@ -1,21 +1,20 @@
 -- What it says that an FCB is current, as facts: its fields are in range, its entry is found, and its slots fit, slot by slot.
 use mathlib.Core.Path.{_≡_, sym, ap, _∙_}
-use mathlib.Core.Bool.{true, false, cond}
+use mathlib.Core.Bool.{Bool, true, false, cond}
 use Prim.Native.Nat.{ℕ, _≤_, _<_}
 use lib.Dec.{eqb}
 use lib.ListN.{getD}
-use borrow.Author.Tests.{leb-true, le-leb, eqb-true, eq-eqb}
+use borrow.Author.Tests.{leb-true, le-leb, eqb-true, eq-eqb, ne-eqb}
 use Rattle.lists.specs.Cases.{split, bool-cases}
-use Rattle.lists.specs.Tests.{_and_, _or_, and-left, and-right, and-both, or-left, or-right, or-cases}
-use Rattle.lists.specs.Below.{allBelow, all-at, all-intro}
+use Rattle.lists.specs.Tests.{_and_, _or_, and-left, and-right, and-both, and-then, or-then, or-left, or-right, or-cases}
+use Rattle.lists.specs.Below.{all-at, all-intro}
 use Rattle.format.specs.Diskette.{Bytes, Geometry}
 use Rattle.format.specs.Names.{nameRight}
-use Rattle.format.specs.Entries.{Rows, slotCount, slotsOf, slotOf, extentOf, isFile, findFile}
+use Rattle.format.specs.Entries.{Rows, slotCount, slotsOf, slotOf, extentOf, findFile}
 use Rattle.format.specs.Notes.{pendingFor, noteAt}
-use Rattle.format.specs.Fcb.{crOf, fcbRight, slotFits, slotsFit, fitting, current}
+use Rattle.format.specs.Fcb.{crOf, fcbRight, slotFits, slotsFit, current}
 use Rattle.format.specs.SlotLaws.{getD-slotsOf}
 use Rattle.format.specs.FoundLaws.{FirstAt, at-not-nothing, at-once, found-cases}
-use Rattle.format.specs.declared.Found.{Found}
 use Rattle.format.specs.declared.Found.the-variants.{At, Nothing}
 use Rattle.rows.specs.Find.{fileTest, file-says}
 use Rattle.consistency.specs.Facts.{Numbers}
@@ -68,6 +67,13 @@ module _ (map : Bytes) (e : ℕ) (r fcb : Bytes) where
   unfolding slotsFit
   slots-are f = all-intro (slotFits map e (slotsOf r) (slotsOf fcb)) slotCount (λ j h. slot-is j h (f j h))
 
+-- slots that differ, where the entry's is 0: the note of the FCB's block decides
+pub slot-by-note : (map es fs : Bytes) (e j b n p : ℕ) → (getD fs j 0 ≡ getD es j 0 → ⊥) → getD es j 0 ≡ 0
+    → b ≡ getD fs j 0 → n ≡ noteAt map b → p ≡ pendingFor e j → eqb n p ≡ slotFits map e es fs j
+unfolding slotFits
+slot-by-note map es fs e j b n p x z hb hn hp =
+    rw (hn, hp, hb) (sym (or-then _ _ (ne-eqb _ _ x) ∙ and-then _ _ (eq-eqb _ _ z)))
+
 -- ---- the FCB is current, and e is its entry
 pub record Current (G : Geometry) (d : Rows) (map : Bytes) (user : ℕ) (fcb : Bytes) (e : ℕ) : Type 0 where
   pub right : fcbRight fcb ≡ true
@@ -88,6 +94,11 @@ module _ (G : Geometry) (d : Rows) (map : Bytes) (user : ℕ) (fcb : Bytes) wher
       → current G d map user fcb ≡ cond (slotsFit map e (slotsOf (d e)) (slotsOf fcb)) (At e) Nothing
   unfolding current
   current-fitting e t q = rw (t, q)
+
+  -- the same, from the slots taken out and the test of them
+  pub current-by : (e : ℕ) (es fs : Bytes) (f : Bool) → fcbRight fcb ≡ true → findFile G d user fcb 1 (extentOf fcb) ≡ At e
+      → es ≡ slotsOf (d e) → fs ≡ slotsOf fcb → f ≡ slotsFit map e es fs → cond f (At e) Nothing ≡ current G d map user fcb
+  current-by e es fs f t q he hf h = rw (h, he, hf) (sym (current-fitting e t q))
 
   pub current-is : (e : ℕ) → Current G d map user fcb e → current G d map user fcb ≡ At e
   current-is e c = current-fitting e (c .right) (c .found) ∙ rw (c .fits)

@@ -1,1 +1,78 @@
-// laws
+// When an FCB is current: its fields are in range, it has an entry, and each of its slots is the entry's or pending for it.
+ghost use mathlib.Core.Path.{_≡_};
+ghost use Prim.Native.Nat.{_≤_, _<_};
+ghost use lib.ListN.{length};
+ghost use Rattle.format.specs.Diskette.{eightInch, imageBytes};
+ghost use Rattle.format.specs.Entries.{entryAt, slotCount};
+ghost use Rattle.format.specs.Fcb.{fcbBytes, randomOf, fcbRight, slotFits, slotsFit, current};
+use format::Found;
+
+// The random record number of an FCB, as its three bytes give it: in range or not.
+pub fn random_of(fcb: &[u8]) -> usize
+    requires { ⌜ length (now fcb) ≡ fcbBytes ⌝ }
+    ensures { λ r. ⌜ (r ≡ randomOf (now (fcb .entry))) × (r < 16777216) ⌝ }
+{
+    lists::wide(fcb[33]) + 256 * lists::wide(fcb[34]) + 65536 * lists::wide(fcb[35])
+}
+
+// Whether an FCB's name, numbers and cr are in range.
+pub fn fcb_right(fcb: &[u8]) -> bool
+    requires { ⌜ length (now fcb) ≡ fcbBytes ⌝ }
+    ensures { λ r. ⌜ r ≡ fcbRight (now (fcb .entry)) ⌝ }
+{
+    if !names::name_right(false, fcb, 1) {
+        return false;
+    }
+    if !rows::numbers_right(fcb) {
+        return false;
+    }
+    fcb[32] <= 128
+}
+
+// Whether slot j of an FCB is entry e's, or holds a block that is pending for it where the entry has none.
+pub fn slot_fits(map: &[u16], e: usize, es: [u8; 16], fs: [u8; 16], j: usize) -> bool
+    requires { ⌜ (e < eightInch .entries) × (j < slotCount) ⌝ }
+    ensures { λ r. ⌜ r ≡ slotFits (now (map .entry)) e es fs j ⌝ }
+{
+    if fs[j] == es[j] {
+        return true;
+    }
+    if es[j] != 0 {
+        return false;
+    }
+    notes::note_at(map, lists::wide(fs[j])) == notes::pending_note(e, j)
+}
+
+// Whether every slot of an FCB fits entry e.
+pub fn slots_fit(map: &[u16], e: usize, es: [u8; 16], fs: [u8; 16]) -> bool
+    requires { ⌜ e < eightInch .entries ⌝ }
+    ensures { λ r. ⌜ r ≡ slotsFit (now (map .entry)) e es fs ⌝ }
+{
+    let mut j = 0;
+    while j < format::SLOTS {
+        if !slot_fits(map, e, es, fs, j) {
+            return false;
+        }
+        j += 1;
+    }
+    true
+}
+
+// The entry of a current FCB.
+pub fn current_entry(image: &[u8], map: &[u16], user: u8, fcb: &[u8]) -> Found
+    requires { ⌜ (length (now image) ≡ imageBytes eightInch) × (length (now fcb) ≡ fcbBytes) ⌝ }
+    ensures { λ r. ⌜ r ≡ current eightInch (entryAt eightInch (now (image .entry))) (now (map .entry)) user (now (fcb .entry)) ⌝ }
+{
+    if !fcb_right(fcb) {
+        return Found::Nothing;
+    }
+    let Found::At(e) = rows::find_file(image, user, fcb, 1, rows::extent(fcb)) else {
+        return Found::Nothing;
+    };
+    let es = rows::slots(rows::row(image, e));
+    let fs = rows::slots(fcb);
+    if !slots_fit(map, e, es, fs) {
+        return Found::Nothing;
+    }
+    Found::At(e)
+}

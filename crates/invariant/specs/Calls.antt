@@ -1,37 +1,27 @@
--- Every call keeps image and map good, and a good image and map are never refused with 255, 1.
-use mathlib.Core.Path.{_≡_, refl, ap, sym, _∙_, subst}
-use mathlib.Core.Bool.{true, false, not, cond}
-use Prim.Native.Nat.{ℕ, _≤_, _<_}
-use native.Mathlib.Omega.{arith}
+-- What each accepted call does keeps image and map good.
+use mathlib.Core.Path.{_≡_, sym}
+use mathlib.Core.Bool.{true, false}
+use Prim.Native.Nat.{ℕ}
 use lib.Dec.{eqb}
-use Rattle.lists.specs.Cases.{split, bool-cases, not-both}
+use Rattle.lists.specs.Cases.{split, bool-cases}
 use Rattle.format.specs.Diskette.{Bytes, Geometry, Sound}
-use Rattle.format.specs.Entries.{entryAt, exOf, slotOf, findEmpty}
+use Rattle.format.specs.Entries.{exOf}
 use Rattle.format.specs.Consistent.{consistent}
-use Rattle.format.specs.Found.{numberOf}
-use Rattle.format.specs.declared.Found.the-variants.{At}
-use Rattle.model.specs.declared.Asked.{Asked}
 use Rattle.model.specs.declared.Session.{Session}
-use Rattle.model.specs.declared.Code.{Code}
-use Rattle.model.specs.declared.Code.the-variants.{BadDisk}
-use Rattle.model.specs.declared.Verdict.{Verdict}
-use Rattle.model.specs.declared.Verdict.the-variants.{Passed, Refused}
 use Rattle.model.specs.Lent.{Lent, Outcome, rowsOf}
 use Rattle.model.specs.Entering.{madeRow}
-use Rattle.model.specs.Target.{presentEntry}
-use Rattle.model.specs.Table.{diskRight, askedEntry, verdict}
+use Rattle.model.specs.Table.{askedEntry}
 use Rattle.model.specs.Calls.{loggedIn, freed, userSet, openedAt, opened, closedAt, closed, foundAt, searched, deletes, deleted, createdAt, created, renamed, sized, positioned, space}
-use Rattle.model.specs.Step.{effect, carriedOut, step}
 use Rattle.rows.specs.Find.{no-file-says, empty-says}
 use Rattle.fields.specs.Fine.{fine-made}
 use Rattle.fields.specs.Making.{length-madeRow, user-made, name-made, slot-made, extent-made}
 use Rattle.fields.specs.Naming.{named-intro, file-intro}
 use Rattle.names.specs.Laws.{like-intro}
 use Rattle.table.specs.Own.{Call, call13, call15, call16, call17, call18, call19, call20, call21, call22, call23, call32, call33, call34, call35, call36, call46, call98}
-use Rattle.table.specs.Facts.{Fits, Closes, Makes, Renames, Own, AcceptedCall}
+use Rattle.table.specs.Facts.{Fits, Closes, Makes, Renames, Own}
 use Rattle.table.specs.Accept.{accepted}
-use Rattle.table.specs.Carried.{carriedBy, effect-is}
-use Rattle.invariant.specs.Good.{Good, good-of, good-consistent, good-right}
+use Rattle.table.specs.Carried.{carriedBy}
+use Rattle.invariant.specs.Good.{Good, good-consistent}
 use Rattle.invariant.specs.Updates.{good-fresh, good-freed, good-made, good-erased, good-renamed}
 use Rattle.invariant.specs.RecordCalls.{good-present, good-read, good-write}
 
@@ -77,7 +67,7 @@ module _ {G : Geometry} (S : Sound G) (l : Lent) (s : Session) (f : Fits G l s) 
     unfolding userSet
     user-good argument = split (bool-cases (eqb argument 255)) (λ t. rw t g) (λ t. rw t g)
 
-    carried-good : (argument : ℕ) {n : ℕ} (c : Call n) → Own G l s argument c → GoodOutcome G (carriedBy G argument l s c)
+    pub carried-good : (argument : ℕ) {n : ℕ} (c : Call n) → Own G l s argument c → GoodOutcome G (carriedBy G argument l s c)
     unfolding opened openedAt searched foundAt sized positioned space freed
     carried-good argument call13 o = logged-in-good (good-consistent G (l .image) (l .map) g)
     carried-good argument call15 o = g

@@ -8,3 +8,4 @@ pub mod Updates
 pub mod CloseGood
 pub mod RecordCalls
 pub mod Calls
+pub mod Step

@@ -1,16 +1,14 @@
 -- The record calls keep image and map good: a move closes the present extent and may make an entry; a write may take a block.
-use mathlib.Core.Path.{_≡_, refl, ap, sym, _∙_, subst}
+use mathlib.Core.Path.{_≡_, ap, sym, _∙_, subst}
 use mathlib.Core.Bool.{true, false}
 use Prim.Native.Nat.{ℕ, _≤_, _<_}
 use native.Mathlib.Omega.{arith}
 use lib.ListN.{length}
 use Rattle.lists.specs.Cases.{split, eq-or-ne, not-both}
-use Rattle.lists.specs.Tests.{and-right}
-use borrow.Author.Tests.{leb-true, eq-eqb}
+use borrow.Author.Tests.{eq-eqb}
 use Rattle.format.specs.Diskette.{Bytes, Geometry, Sound, recordBytes}
-use Rattle.format.specs.Entries.{entryAt, slotCount, slotOf, userOf, extentOf, used, empty, named, isFile, findEmpty}
+use Rattle.format.specs.Entries.{entryAt, slotCount, slotOf, extentOf, used, empty, isFile, findEmpty}
 use Rattle.format.specs.Notes.{noteAt, freeNote, pendingFor, findFree}
-use Rattle.format.specs.Fcb.{fcbRight, crOf}
 use Rattle.format.specs.declared.Found.the-variants.{At, Nothing}
 use Rattle.model.specs.declared.Session.{Session}
 use Rattle.model.specs.Lent.{Lent, rowsOf}
@@ -24,30 +22,31 @@ use Rattle.consistency.specs.Facts.{Fine}
 use Rattle.consistency.specs.Reflect.{used-full}
 use Rattle.notes.specs.Free.{free-is, free-spare}
 use Rattle.rows.specs.Entries.{length-entryAt, entry-stored}
-use Rattle.rows.specs.Find.{no-file-says, empty-says}
+use Rattle.rows.specs.Find.{file-says, no-file-says, empty-says}
 use Rattle.fields.specs.Agree.{isFile-cong, used-cong}
+use Rattle.fields.specs.Images.{row-closedImage-other}
 use Rattle.fields.specs.Fine.{fine-next}
 use Rattle.fields.specs.Making.{length-nextRow, user-next, name-next, slot-next, extent-next}
 use Rattle.fields.specs.Entering.{slot-entered}
 use Rattle.fields.specs.Naming.{named-intro, file-intro, file-user, file-like, file-used}
 use Rattle.fields.specs.Target.{map-written-kept, targetSlot-below}
-use Rattle.table.specs.Present.{Current, current-elim, file-is, file-below}
+use Rattle.current.specs.Current.{SlotOk, slot-same, slot-pending, Current, fcb-says, current-says, current-file, current-slot}
 use Rattle.table.specs.Facts.{Fits, Reads, Writes}
 use Rattle.table.specs.Plans.{Block, there, free, There, Planned, stay, move, make, planned-read, planned-write}
 use Rattle.invariant.specs.Good.{Good}
 use Rattle.invariant.specs.Close.{pending-spare}
 use Rattle.invariant.specs.Updates.{good-taken, good-record, good-made}
-use Rattle.invariant.specs.CloseGood.{slots-fit, pending-block, current-below, current-used, closed-there, closed-file, closed-free, good-closed}
+use Rattle.invariant.specs.CloseGood.{pending-block, current-below, current-used, closed-file, closed-free, good-closed}
 
--- ---- the block of a write: past the directory, and free where the FCB has none in its slot
-pub record Ready (G : Geometry) (map fcb : Bytes) (j b : ℕ) : Type 0 where
+-- block b serves a write for slot j: it is past the directory, and free where the FCB has none in its slot
+pub record BlockFor (G : Geometry) (map fcb : Bytes) (j b : ℕ) : Type 0 where
   pub past : G .area ≤ b
   pub below : b < G .blocks
   pub unless : slotOf fcb j ≡ 0 → noteAt map b ≡ freeNote
 
 -- a record of a used entry's block is written, with the FCB come to that entry
 pub good-written : {G : Geometry} (S : Sound G) (l : Lent) → Good G (l .image) (l .map) → length (l .buffer) ≡ recordBytes
-    → (t j b r cr : ℕ) → t < G .entries → j < slotCount → used (entryAt G (l .image) t) ≡ true → Ready G (l .map) (l .fcb) j b
+    → (t j b r cr : ℕ) → t < G .entries → j < slotCount → used (entryAt G (l .image) t) ≡ true → BlockFor G (l .map) (l .fcb) j b
     → Good G (haveWritten G t j b r cr l .image) (haveWritten G t j b r cr l .map)
 unfolding haveWritten writtenMap
 good-written {G} S l g full t j b r cr ht hj u k =
@@ -58,22 +57,22 @@ good-written {G} S l g full t j b r cr ht hj u k =
 
 -- ---- the block that is there, by the plan
 module _ (G : Geometry) (n user : ℕ) (l : Lent) where
-  stay-block : stays n (l .fcb) ≡ true → blockThere G n user l ≡ slotOf (l .fcb) (targetSlot G n (l .fcb))
+  pub stay-block : stays n (l .fcb) ≡ true → blockThere G n user l ≡ slotOf (l .fcb) (targetSlot G n (l .fcb))
   unfolding blockThere
   stay-block t = rw t
 
-  move-block : (t : ℕ) → stays n (l .fcb) ≡ false → targetEntry G n user l ≡ At t → blockThere G n user l ≡ slotOf (rowsOf G l t) (targetSlot G n (l .fcb))
+  pub move-block : (t : ℕ) → stays n (l .fcb) ≡ false → targetEntry G n user l ≡ At t → blockThere G n user l ≡ slotOf (rowsOf G l t) (targetSlot G n (l .fcb))
   unfolding blockThere
   move-block t f q = rw (f, q)
 
-  make-block : stays n (l .fcb) ≡ false → targetEntry G n user l ≡ Nothing → blockThere G n user l ≡ 0
+  pub make-block : stays n (l .fcb) ≡ false → targetEntry G n user l ≡ Nothing → blockThere G n user l ≡ 0
   unfolding blockThere
   make-block f q = rw (f, q)
 
 -- a block in a slot of a used entry is past the directory
-row-ready : (G : Geometry) (r : Bytes) → Fine G r → (map fcb : Bytes) (j b : ℕ) → j < slotCount → slotOf r j ≡ b → (b ≡ 0 → ⊥) → (slotOf fcb j ≡ 0 → ⊥)
-    → Ready G map fcb j b
-row-ready G r fine map fcb j b h q real n = record {
+row-serves : (G : Geometry) (r : Bytes) → Fine G r → (map fcb : Bytes) (j b : ℕ) → j < slotCount → slotOf r j ≡ b → (b ≡ 0 → ⊥) → (slotOf fcb j ≡ 0 → ⊥)
+    → BlockFor G map fcb j b
+row-serves G r fine map fcb j b h q real n = record {
   past = subst (λ (x : ℕ). G .area ≤ x) q (fine .low j h (λ z. real (sym q ∙ z)));
   below = subst (λ (x : ℕ). x < G .blocks) q (fine .high j h (λ z. real (sym q ∙ z)));
   unless = λ z. absurd (n z);
@@ -84,7 +83,7 @@ module _ {G : Geometry} (S : Sound G) (n : ℕ) (l : Lent) (s : Session) (g : Go
   -- ---- the FCB's own entry
   pub present-current : Current G (rowsOf G l) (l .map) (s .user) (l .fcb) e
   unfolding presentEntry
-  present-current = current-elim G (rowsOf G l) (l .map) (s .user) (l .fcb) e at
+  present-current = current-says G (rowsOf G l) (l .map) (s .user) (l .fcb) e at
 
   pub present-below : e < G .entries
   present-below = current-below S (l .image) (l .map) g (s .user) (f .user-low) (l .fcb) e present-current
@@ -93,8 +92,7 @@ module _ {G : Geometry} (S : Sound G) (n : ℕ) (l : Lent) (s : Session) (g : Go
   present-used = current-used S (l .image) (l .map) g (s .user) (f .user-low) (l .fcb) e present-current
 
   pub slot-below : targetSlot G n (l .fcb) < slotCount
-  unfolding fcbRight
-  slot-below = targetSlot-below S n (l .fcb) (leb-true _ _ (and-right _ _ (and-right _ _ (present-current .fcb-right))))
+  slot-below = targetSlot-below S n (l .fcb) (fcb-says (l .fcb) (present-current .right) .cr)
 
   -- ---- a close, and a move
   pub good-present : Good G (closedImage G (l .image) e (l .fcb)) (closedMap (rowsOf G l e) (l .fcb) (l .map))
@@ -105,9 +103,9 @@ module _ {G : Geometry} (S : Sound G) (n : ℕ) (l : Lent) (s : Session) (g : Go
   good-moved t = good-present
 
   -- ---- the block of a write
-  -- a free block is ready for any slot, as long as its note stays
-  free-ready : (map fcb : Bytes) (j b : ℕ) → findFree G (l .map) ≡ At b → noteAt map b ≡ freeNote → Ready G map fcb j b
-  free-ready map fcb j b q z =
+  -- a free block serves for any slot, as long as its note stays
+  free-serves : (map fcb : Bytes) (j b : ℕ) → findFree G (l .map) ≡ At b → noteAt map b ≡ freeNote → BlockFor G map fcb j b
+  free-serves map fcb j b q z =
       let h = free-is G (l .map) b q in
       record { past = free-spare G (rowsOf G l) b (noteAt (l .map) b) (g .inv .map b (h .below)) (h .free) .past; below = h .below; unless = λ y. z }
 
@@ -117,38 +115,41 @@ module _ {G : Geometry} (S : Sound G) (n : ℕ) (l : Lent) (s : Session) (g : Go
       let h = free-is G (l .map) b q in closed-free S (l .image) (l .map) g (s .user) (f .user-low) (l .fcb) e present-current b (h .below) (h .free)
 
   -- a block in the FCB's slot is the entry's, or pending for it
-  own-ready : (j b : ℕ) → j < slotCount → slotOf (l .fcb) j ≡ b → (b ≡ 0 → ⊥) → Ready G (l .map) (l .fcb) j b
-  own-ready j b h q real =
-      split (slots-fit (l .map) e (rowsOf G l e) (l .fcb) (present-current .slots) j h)
-      (λ p. row-ready G (rowsOf G l e) (g .inv .dir .fine e present-below present-used) (l .map) (l .fcb) j b h (sym p ∙ q) real (λ z. real (sym q ∙ z)))
-      (λ p. let noted : noteAt (l .map) b ≡ pendingFor e j = ap (λ (x : ℕ). noteAt (l .map) x) (sym q) ∙ p .1 in
-      let below : b < G .blocks = subst (λ (x : ℕ). b < x) (g .map-long) (pending-block (l .map) b e j noted) in
-      record {
-        past = pending-spare G (rowsOf G l) b e j (noteAt (l .map) b) (g .inv .map b below) noted .past;
-        below = below;
-        unless = λ z. absurd (real (sym q ∙ z));
-      })
+  own-serves : (j b : ℕ) → j < slotCount → slotOf (l .fcb) j ≡ b → (b ≡ 0 → ⊥) → BlockFor G (l .map) (l .fcb) j b
+  own-serves j b h q real = go (current-slot G (rowsOf G l) (l .map) (s .user) (l .fcb) e present-current j h)
+    where
+      go : SlotOk (l .map) e (rowsOf G l e) (l .fcb) j → BlockFor G (l .map) (l .fcb) j b
+      go (slot-same p) =
+          row-serves G (rowsOf G l e) (g .inv .dir .fine e present-below present-used) (l .map) (l .fcb) j b h (sym p ∙ q) real (λ z. real (sym q ∙ z))
+      go (slot-pending y p) =
+          let noted : noteAt (l .map) b ≡ pendingFor e j = ap (λ (x : ℕ). noteAt (l .map) x) (sym q) ∙ p in
+          let below : b < G .blocks = subst (λ (x : ℕ). b < x) (g .map-long) (pending-block (l .map) b e j noted) in
+          record {
+            past = pending-spare G (rowsOf G l) b e j (noteAt (l .map) b) (g .inv .map b below) noted .past;
+            below = below;
+            unless = λ z. absurd (real (sym q ∙ z));
+          }
 
   -- ---- a write in the present extent, and in another one
   pub good-stay : (b : ℕ) → stays n (l .fcb) ≡ true → Block G n (s .user) l b → Good G (writtenAt G s l n e b l .lent .image) (writtenAt G s l n e b l .lent .map)
   unfolding writtenAt
   good-stay b t k =
-      good-written S l g (f .buffer-long) e (targetSlot G n (l .fcb)) b (targetRecord n (l .fcb)) (crAfter n (l .fcb)) present-below slot-below present-used (ready k)
+      good-written S l g (f .buffer-long) e (targetSlot G n (l .fcb)) b (targetRecord n (l .fcb)) (crAfter n (l .fcb)) present-below slot-below present-used (serves k)
     where
-      ready : Block G n (s .user) l b → Ready G (l .map) (l .fcb) (targetSlot G n (l .fcb)) b
-      ready (there q real) = own-ready (targetSlot G n (l .fcb)) b slot-below (sym (stay-block G n (s .user) l t) ∙ q) real
-      ready (free z q) = free-ready (l .map) (l .fcb) (targetSlot G n (l .fcb)) b q (free-is G (l .map) b q .free)
+      serves : Block G n (s .user) l b → BlockFor G (l .map) (l .fcb) (targetSlot G n (l .fcb)) b
+      serves (there q real) = own-serves (targetSlot G n (l .fcb)) b slot-below (sym (stay-block G n (s .user) l t) ∙ q) real
+      serves (free z q) = free-serves (l .map) (l .fcb) (targetSlot G n (l .fcb)) b q (free-is G (l .map) b q .free)
 
   module _ (t : ℕ) (target : targetEntry G n (s .user) l ≡ At t) where
-    target-file : isFile (s .user) (l .fcb) 1 (targetExtent n (l .fcb)) (rowsOf G l t) ≡ true
+    pub target-file : isFile (s .user) (l .fcb) 1 (targetExtent n (l .fcb)) (rowsOf G l t) ≡ true
     unfolding targetEntry
-    target-file = file-is G (rowsOf G l) (s .user) (l .fcb) 1 (targetExtent n (l .fcb)) t target
+    target-file = file-says G (rowsOf G l) (s .user) (l .fcb) 1 (targetExtent n (l .fcb)) t target .holds
 
-    target-below : t < G .entries
+    pub target-below : t < G .entries
     unfolding targetEntry
-    target-below = file-below G (rowsOf G l) (s .user) (l .fcb) 1 (targetExtent n (l .fcb)) t target
+    target-below = file-says G (rowsOf G l) (s .user) (l .fcb) 1 (targetExtent n (l .fcb)) t target .below
 
-    target-used : used (rowsOf G l t) ≡ true
+    pub target-used : used (rowsOf G l t) ≡ true
     target-used = file-used (s .user) (l .fcb) 1 (targetExtent n (l .fcb)) (rowsOf G l t) target-file (f .user-low)
 
     pub good-move : (b : ℕ) → stays n (l .fcb) ≡ false → Block G n (s .user) l b
@@ -157,18 +158,18 @@ module _ {G : Geometry} (S : Sound G) (n : ℕ) (l : Lent) (s : Session) (g : Go
     good-move b go k =
         good-written S (moved G n l e t) (good-moved t) (f .buffer-long) t (targetSlot G n (l .fcb)) b (targetRecord n (l .fcb)) (crAfter n (l .fcb)) target-below slot-below
         (used-cong (entryAt G (closedImage G (l .image) e (l .fcb)) t) (rowsOf G l t)
-        (closed-file S (l .image) (l .map) g (s .user) (f .user-low) (l .fcb) e present-current t target-below .user) ∙ target-used) (ready k)
+        (closed-file S (l .image) (l .map) g (s .user) (f .user-low) (l .fcb) e present-current t target-below .user) ∙ target-used) (serves k)
       where
         same : slotOf (entered (l .fcb) (rowsOf G l t)) (targetSlot G n (l .fcb)) ≡ slotOf (rowsOf G l t) (targetSlot G n (l .fcb))
         same = slot-entered (l .fcb) (rowsOf G l t) (let q : length (l .fcb) ≡ 36 = f .fcb-long in omega arith) (targetSlot G n (l .fcb)) slot-below
 
-        ready : Block G n (s .user) l b
-            → Ready G (closedMap (rowsOf G l e) (l .fcb) (l .map)) (entered (l .fcb) (rowsOf G l t)) (targetSlot G n (l .fcb)) b
-        ready (there q real) =
+        serves : Block G n (s .user) l b
+            → BlockFor G (closedMap (rowsOf G l e) (l .fcb) (l .map)) (entered (l .fcb) (rowsOf G l t)) (targetSlot G n (l .fcb)) b
+        serves (there q real) =
             let own : slotOf (rowsOf G l t) (targetSlot G n (l .fcb)) ≡ b = sym (move-block G n (s .user) l t go target) ∙ q in
-            row-ready G (rowsOf G l t) (g .inv .dir .fine t target-below target-used) (closedMap (rowsOf G l e) (l .fcb) (l .map)) (entered (l .fcb) (rowsOf G l t))
+            row-serves G (rowsOf G l t) (g .inv .dir .fine t target-below target-used) (closedMap (rowsOf G l e) (l .fcb) (l .map)) (entered (l .fcb) (rowsOf G l t))
             (targetSlot G n (l .fcb)) b slot-below own real (λ z. real (sym own ∙ sym same ∙ z))
-        ready (free z q) = free-ready (closedMap (rowsOf G l e) (l .fcb) (l .map)) (entered (l .fcb) (rowsOf G l t)) (targetSlot G n (l .fcb)) b q (still-free b q)
+        serves (free z q) = free-serves (closedMap (rowsOf G l e) (l .fcb) (l .map)) (entered (l .fcb) (rowsOf G l t)) (targetSlot G n (l .fcb)) b q (still-free b q)
 
   -- ---- a move that makes an entry for the target's extent
   module _ (t : ℕ) (room : findEmpty G (rowsOf G l) ≡ At t) (none : targetEntry G n (s .user) l ≡ Nothing) (low : targetExtent n (l .fcb) < extents) where
@@ -184,11 +185,11 @@ module _ {G : Geometry} (S : Sound G) (n : ℕ) (l : Lent) (s : Session) (g : Go
     long : length (rowsOf G l e) ≡ 32
     long = length-entryAt S (l .image) (g .image-long) e present-below
 
-    next-file : isFile (s .user) (l .fcb) 1 (targetExtent n (l .fcb)) (nextRow (rowsOf G l e) (targetExtent n (l .fcb))) ≡ true
+    pub next-file : isFile (s .user) (l .fcb) 1 (targetExtent n (l .fcb)) (nextRow (rowsOf G l e) (targetExtent n (l .fcb))) ≡ true
     next-file =
         let ext : ℕ = targetExtent n (l .fcb) in
         let row : Bytes = nextRow (rowsOf G l e) ext in
-        let is = file-is G (rowsOf G l) (s .user) (l .fcb) 1 (extentOf (l .fcb)) e (present-current .entry) in
+        let is = current-file G (rowsOf G l) (l .map) (s .user) (l .fcb) e present-current .holds in
         file-intro (s .user) (l .fcb) 1 ext row
         (named-intro false (s .user) (l .fcb) 1 row (user-next (rowsOf G l e) ext long ∙ file-user (s .user) (l .fcb) 1 (extentOf (l .fcb)) (rowsOf G l e) is)
         (like-trans (l .fcb) 1 (rowsOf G l e) 1 row 1 (file-like (s .user) (l .fcb) 1 (extentOf (l .fcb)) (rowsOf G l e) is)
@@ -200,17 +201,15 @@ module _ {G : Geometry} (S : Sound G) (n : ℕ) (l : Lent) (s : Session) (g : Go
     good-next =
         let ext : ℕ = targetExtent n (l .fcb) in
         let row : Bytes = nextRow (rowsOf G l e) ext in
-        let there : (k : ℕ) → k < G .entries → (k ≡ e → ⊥) → entryAt G (closedImage G (l .image) e (l .fcb)) k ≡ rowsOf G l k =
-        closed-there S (l .image) (l .map) g (s .user) (f .user-low) (l .fcb) e present-current in
         good-made S (closedImage G (l .image) e (l .fcb)) (closedMap (rowsOf G l e) (l .fcb) (l .map)) good-present t room-below
-        (ap empty (there t room-below elsewhere) ∙ empty-says G (rowsOf G l) t room .holds) row (length-nextRow (rowsOf G l e) ext long)
+        (ap empty (row-closedImage-other S (l .image) (g .image-long) e present-below (l .fcb) t room-below (λ q. elsewhere (sym q))) ∙ empty-says G (rowsOf G l) t room .holds) row (length-nextRow (rowsOf G l e) ext long)
         (fine-next G (rowsOf G l e) ext long (g .inv .dir .fine e present-below present-used) low) (λ j h. slot-next (rowsOf G l e) ext long j)
         (s .user) (l .fcb) 1 ext next-file
         (λ k h. isFile-cong (s .user) (l .fcb) 1 ext (entryAt G (closedImage G (l .image) e (l .fcb)) k) (rowsOf G l k)
         (closed-file S (l .image) (l .map) g (s .user) (f .user-low) (l .fcb) e present-current k h) ∙ no-file-says G (rowsOf G l) (s .user) (l .fcb) 1 ext none k h)
 
     -- the entry that was made
-    next-used : used (entryAt G (made G n l e t .image) t) ≡ true
+    pub next-used : used (entryAt G (made G n l e t .image) t) ≡ true
     unfolding made nextMade
     next-used =
         let row : Bytes = nextRow (rowsOf G l e) (targetExtent n (l .fcb)) in
@@ -222,11 +221,11 @@ module _ {G : Geometry} (S : Sound G) (n : ℕ) (l : Lent) (s : Session) (g : Go
         → Good G (writtenAt G s l n t b (made G n l e t) .lent .image) (writtenAt G s l n t b (made G n l e t) .lent .map)
     unfolding writtenAt made
     good-make b go k =
-        good-written S (made G n l e t) good-next (f .buffer-long) t (targetSlot G n (l .fcb)) b (targetRecord n (l .fcb)) (crAfter n (l .fcb)) room-below slot-below next-used (ready k)
+        good-written S (made G n l e t) good-next (f .buffer-long) t (targetSlot G n (l .fcb)) b (targetRecord n (l .fcb)) (crAfter n (l .fcb)) room-below slot-below next-used (serves k)
       where
-        ready : Block G n (s .user) l b → Ready G (made G n l e t .map) (made G n l e t .fcb) (targetSlot G n (l .fcb)) b
-        ready (there q real) = absurd (real (sym q ∙ make-block G n (s .user) l go none))
-        ready (free z q) = free-ready (made G n l e t .map) (made G n l e t .fcb) (targetSlot G n (l .fcb)) b q (still-free b q)
+        serves : Block G n (s .user) l b → BlockFor G (made G n l e t .map) (made G n l e t .fcb) (targetSlot G n (l .fcb)) b
+        serves (there q real) = absurd (real (sym q ∙ make-block G n (s .user) l go none))
+        serves (free z q) = free-serves (made G n l e t .map) (made G n l e t .fcb) (targetSlot G n (l .fcb)) b q (still-free b q)
 
 -- ---- any plan of a record call
 module _ {G : Geometry} (S : Sound G) (n : ℕ) (l : Lent) (s : Session) (g : Good G (l .image) (l .map)) (f : Fits G l s) (low : targetExtent n (l .fcb) < extents) where

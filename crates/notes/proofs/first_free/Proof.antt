@@ -11,7 +11,8 @@ use Rattle.notes.proofs.first_free.Statement.{statement}
 use Rattle.notes.proofs.first_free.Tie as tie
 
 abbrev Inv-loop : tie.InvT-loop
-Inv-loop map first₀ first = (firstIn (isFree map) first (eightInch .blocks) ≡ firstIn (isFree map) 0 (eightInch .blocks)) × (first ≤ eightInch .blocks)
+Inv-loop map first₀ first =
+    (firstIn (isFree map) first (eightInch .blocks) ≡ firstIn (isFree map) 0 (eightInch .blocks)) × (first ≤ eightInch .blocks)
 
 abbrev μ-loop : tie.MeasureT-loop
 μ-loop map first₀ first = eightInch .blocks - first
@@ -50,7 +51,8 @@ loop-again c =
 returns-2 : tie.Need-returns-2 Inv-loop μ-loop
 unfolding findFree
 returns-2 c =
-    let l = c .before in look-end (isFree (l .before .args .map .now)) 0 (eightInch .blocks) (l .loop .first) (l .loop .inv .0) (omega arith)
+    let l = c .before in
+    look-end (isFree (l .before .args .map .now)) 0 (eightInch .blocks) (l .loop .first) (l .loop .inv .0) (omega arith)
 
 pub first-free-spec : {M : Type 1} → statement M
 first-free-spec =

@@ -27,7 +27,8 @@ returns-2 : tie.Need-returns-2
 unfolding unlistedSlot
 returns-2 c =
     rw (ne-eqb _ _ (c .before .before .before .before .before .before .if1 .left)) (c .before .before .set-note .ensures
-    ∙ ap (λ (k : ℕ). withNote (c .before .before .before .before .before .before .before .before .args .map .now) k freeNote) (c .before .before .before .before .before .wide .ensures .0))
+    ∙ ap (λ (k : ℕ). withNote (c .before .before .before .before .before .before .before .before .args .map .now) k freeNote)
+    (c .before .before .before .before .before .wide .ensures .0))
 
 returns-3 : tie.Need-returns-3
 unfolding unlistedSlot

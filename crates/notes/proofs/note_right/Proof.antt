@@ -21,7 +21,8 @@ returns-2 c =
 
 returns-3 : tie.Need-returns-3
 returns-3 c =
-    λ d m u. sym (right-spare eightInch d _ _ (c .before .before .before .if1 .left) (c .before .before .before .before .before .before .pre .2) m _ (c .before .if2 .left)
+    λ d m u. sym (right-spare eightInch d _ _ (c .before .before .before .if1 .left)
+    (c .before .before .before .before .before .before .pre .2) m _ (c .before .if2 .left)
     ∙ or-left _ _ (eq-eqb _ _ (c .if3 .taken)))
 
 held-for-requires : tie.Need-held-for-requires
@@ -30,7 +31,8 @@ held-for-requires c κs = search needs
 returns-4 : tie.Need-returns-4
 returns-4 c =
     λ d m u. c .held-for .ensures ∙ held-marked eightInch d _ _ u
-    ∙ sym (right-spare eightInch d _ _ (c .before .before .before .before .if1 .left) (c .before .before .before .before .before .before .before .pre .2) m _ (c .before .before .if2 .left)
+    ∙ sym (right-spare eightInch d _ _ (c .before .before .before .before .if1 .left)
+    (c .before .before .before .before .before .before .before .pre .2) m _ (c .before .before .if2 .left)
     ∙ or-then _ _ (ne-eqb _ _ (c .before .if3 .left)))
 
 pub note-right-spec : {M : Type 1} → statement M

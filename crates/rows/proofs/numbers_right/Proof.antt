@@ -1,36 +1,29 @@
-use Rattle.format.specs.Consistent.{numbersRight}
-use Rattle.lists.specs.Tests.{and-then, and-fails-left}
-use borrow.Author.Tests.{le-leb, lt-leb}
+-- `rows::numbers_right` meets its contract: the tests stand in the definition's order.
 use mathlib.Core.Path.{sym, _∙_}
 use borrow.Author.Needs.{needs}
+use borrow.Author.Tests.{le-leb, lt-leb}
+use Rattle.lists.specs.Tests.{and-then, and-fails-left}
+use Rattle.format.specs.Consistent.{numbersRight}
 use Rattle.rows.proofs.numbers_right.Statement.{statement}
 use Rattle.rows.proofs.numbers_right.Tie as tie
-use Rattle.rows.proofs.numbers_right.Reads as reads
-use Rattle.rows.proofs.numbers_right.Lts as lts
 
--- src/lib.rt:99:13
 shared-slice-read-if1 : tie.Need-shared-slice-read-if1
 shared-slice-read-if1 c = search needs
 
--- src/lib.rt:100:9
 returns : tie.Need-returns
 unfolding numbersRight
 returns c = sym (and-fails-left _ _ (lt-leb _ _ (c .if1 .taken)))
 
--- src/lib.rt:102:13
 shared-slice-read-if2 : tie.Need-shared-slice-read-if2
 shared-slice-read-if2 c = search needs
 
--- src/lib.rt:103:9
 returns-2 : tie.Need-returns-2
 unfolding numbersRight
 returns-2 c = sym (and-then _ _ (le-leb _ _ (c .before .before .if1 .left)) ∙ and-fails-left _ _ (lt-leb _ _ (c .if2 .taken)))
 
--- src/lib.rt:105:5
 shared-slice-read-result : tie.Need-shared-slice-read-result
 shared-slice-read-result c = search needs
 
--- src/lib.rt:95:1
 returns-3 : tie.Need-returns-3
 unfolding numbersRight
 returns-3 c = sym (and-then _ _ (le-leb _ _ (c .before .before .before .if1 .left)) ∙ and-then _ _ (le-leb _ _ (c .before .if2 .left)))

@@ -1,0 +1,60 @@
+-- `current::slot_fits` meets its contract: the tests stand in the definition's order, and the last one compares the note.
+use mathlib.Core.Path.{sym, _∙_}
+use borrow.Author.Needs.{needs}
+use borrow.Author.Tests.{eq-eqb, ne-eqb}
+use Rattle.lists.specs.Tests.{and-fails-left, or-then, or-left}
+use Rattle.format.specs.Fcb.{slotFits}
+use Rattle.current.specs.Current.{slot-by-note}
+use Rattle.current.proofs.slot_fits.Statement.{statement}
+use Rattle.current.proofs.slot_fits.Tie as tie
+
+array-read-if1 : tie.Need-array-read-if1
+array-read-if1 c = search needs
+
+array-read-if1-2 : tie.Need-array-read-if1-2
+array-read-if1-2 c = search needs
+
+returns : tie.Need-returns
+unfolding slotFits
+returns c = sym (or-left _ _ (eq-eqb _ _ (c .if1 .taken)))
+
+array-read-if2 : tie.Need-array-read-if2
+array-read-if2 c = search needs
+
+returns-2 : tie.Need-returns-2
+unfolding slotFits
+returns-2 c = sym (or-then _ _ (ne-eqb _ _ (c .before .if1 .left)) ∙ and-fails-left _ _ (ne-eqb _ _ (c .if2 .taken)))
+
+array-read-wide : tie.Need-array-read-wide
+array-read-wide c = search needs
+
+wide-requires : tie.Need-wide-requires
+wide-requires c κs = search needs
+
+note-at-requires : tie.Need-note-at-requires
+note-at-requires c κs = search needs
+
+pending-note-requires : tie.Need-pending-note-requires
+pending-note-requires c κs = search needs
+
+returns-3 : tie.Need-returns-3
+returns-3 c = let a = c .before .before .before .before .before .before .args in
+    slot-by-note (a .map .now) (a .t3) (a .t4) (a .e) (a .j) (c .before .before .wide .result) (c .before .note-at .result)
+    (c .pending-note .result)
+    (c .before .before .before .before .if1 .left) (c .before .before .before .if2 .left) (c .before .before .wide .ensures .0)
+    (c .before .note-at .ensures) (c .pending-note .ensures)
+
+pub slot-fits-spec : {M : Type 1} → statement M
+slot-fits-spec =
+    tie.close
+    (tie.spec
+    array-read-if1
+    array-read-if1-2
+    returns
+    array-read-if2
+    returns-2
+    array-read-wide
+    wide-requires
+    note-at-requires
+    pending-note-requires
+    returns-3)
