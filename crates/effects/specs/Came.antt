@@ -30,7 +30,7 @@ use Rattle.fields.specs.Entering.{length-entered, slot-entered, first-entered, 
 use Rattle.fields.specs.Naming.{named-intro, named-like, file-named, file-user, file-extent, file-like, file-used}
 use Rattle.fields.specs.Target.{stays-extent, moves-extent, targetSlot-below}
 use Rattle.table.specs.Facts.{Fits}
-use Rattle.table.specs.Present.{current-elim, file-is, file-below}
+use Rattle.table.specs.Present.{file-is, file-below}
 use Rattle.invariant.specs.Good.{Good}
 use Rattle.invariant.specs.RecordCalls.{good-next}
 use Rattle.effects.specs.View.{View, viewOf, Mine, listed}
@@ -42,7 +42,8 @@ use Rattle.effects.specs.Book.{Book, settledBy, entryBefore, closedBook,
 use Rattle.effects.specs.Tracks.{same-tracks}
 use Rattle.effects.specs.Change.{Change, asItWas, no-change, then-change}
 use Rattle.effects.specs.Closed.{byName, closed-there, closed-free, closed-change}
-use Rattle.effects.specs.Entered.{ranges-of, entered-cur}
+use Rattle.current.specs.Current.{fcb-says, current-says}
+use Rattle.effects.specs.Entered.{entered-cur}
 
 -- the call, given l, has come to `there` and entry t, with the book changed by B; it may write the records that W allows
 pub record CameTo (G : Geometry) (n user : ℕ) (l there : Lent) (t : ℕ) (W : ℕ → Type 0) (B : Book → Book) : Type 0 where
@@ -72,10 +73,10 @@ module _ {G : Geometry} (S : Sound G) (n : ℕ) (l : Lent) (s : Session) (g : Go
 
   before : entryBefore G n (s .user) l ≡ e
   unfolding entryBefore presentEntry
-  before = ap (numberOf (G .entries)) (current-elim G (rowsOf G l) (l .map) (s .user) (l .fcb) e at .entry)
+  before = ap (numberOf (G .entries)) (current-says G (rowsOf G l) (l .map) (s .user) (l .fcb) e at .found)
 
   slot-below : targetSlot G n (l .fcb) < slotCount
-  slot-below = targetSlot-below S n (l .fcb) (ranges-of (l .fcb) (present-cur .right) .cr)
+  slot-below = targetSlot-below S n (l .fcb) (fcb-says (l .fcb) (present-cur .right) .cr)
 
   -- ---- it stays
   stay-slot : stays n (l .fcb) ≡ true → slotOf (l .fcb) (targetSlot G n (l .fcb)) ≡ blockThere G n (s .user) l
@@ -162,7 +163,7 @@ module _ {G : Geometry} (S : Sound G) (n : ℕ) (l : Lent) (s : Session) (g : Go
           change = closed-by;
           cur = entered-cur G (viewOf G (closedImage G (l .image) e (l .fcb)) (closedMap (rowsOf G l e) (l .fcb) (l .map))) (s .user) (l .fcb) row t target-below target-stays
               (file-user (s .user) (l .fcb) 1 (targetExtent n (l .fcb)) row target-file) (f .fcb-long) (g .inv .dir .fine t target-below target-used)
-              (ranges-of (l .fcb) (present-cur .right) .cr);
+              (fcb-says (l .fcb) (present-cur .right) .cr);
           mine = ap (byName (s .user) (l .fcb)) target-stays ∙ nm;
           extent = extent-entered (l .fcb) row hf ∙ file-extent (s .user) (l .fcb) 1 (targetExtent n (l .fcb)) row target-file;
           long = length-entered (l .fcb) row hf ∙ f .fcb-long;
@@ -290,7 +291,7 @@ module _ {G : Geometry} (S : Sound G) (n : ℕ) (l : Lent) (s : Session) (g : Go
         record {
           change = closed-then-made;
           cur = entered-cur G (viewOf G new mid-map) (s .user) (l .fcb) row t room-below next-here next-user (f .fcb-long) next-fine
-              (ranges-of (l .fcb) (present-cur .right) .cr);
+              (fcb-says (l .fcb) (present-cur .right) .cr);
           mine = here-named;
           extent = extent-entered (l .fcb) row hf ∙ next-extent;
           long = length-entered (l .fcb) row hf ∙ f .fcb-long;

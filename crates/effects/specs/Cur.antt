@@ -1,5 +1,5 @@
 -- A current FCB as facts, both ways with the test; and a record that can be read through one.
-use mathlib.Core.Path.{_≡_, ap, sym, _∙_}
+use mathlib.Core.Path.{_≡_, ap, sym, _∙_, subst}
 use mathlib.Core.Logic.{_⊎_, inl, inr}
 use mathlib.Core.Bool.{true, false}
 use Prim.Native.Nat.{ℕ, _%_, _≤_, _<_}
@@ -22,7 +22,8 @@ use Rattle.notes.specs.Numbers.{pending-not-free}
 use Rattle.invariant.specs.Close.{Held}
 use Rattle.rows.specs.Fields.{slot-for-below}
 use Rattle.rows.specs.Find.{file-says}
-use Rattle.table.specs.Present.{Current, current-elim, current-intro}
+use Rattle.current.specs.Current.{Current, current-is, current-says, current-file, current-slot, SlotOk, slot-same, slot-pending, slots-are}
+use Rattle.invariant.specs.CloseGood.{pending-block}
 use Rattle.model.specs.Target.{extentRecords, placeIn}
 use Rattle.effects.specs.View.{View, viewOf, Names, Mine, listed, pending}
 use Rattle.effects.specs.Effect.{Foreign, Effect, Keeps}
@@ -35,54 +36,40 @@ pub record Cur (G : Geometry) (s : View) (user : ℕ) (f : Bytes) (e : ℕ) : Ty
   pub file : isFile user f 1 (extentOf f) (s .rows e) ≡ true
   pub fits : (j : ℕ) → j < slotCount → (slotOf f j ≡ slotOf (s .rows e) j) ⊎ Held G (s .rows) (s .notes) e j (slotOf f j)
 
--- ---- the slots
-module _ (G : Geometry) (d : Rows) (map : Bytes) (user : ℕ) (f : Bytes) where
-  pub fits-held : length map ≡ G .blocks → (e : ℕ) → slotsFit map e (slotsOf (d e)) (slotsOf f) ≡ true
-      → (j : ℕ) → j < slotCount → (slotOf f j ≡ slotOf (d e) j) ⊎ Held G d (noteAt map) e j (slotOf f j)
-  unfolding slotsFit slotFits
-  fits-held wide e t j l =
-      let z : (eqb (slotOf f j) (slotOf (d e) j) or (eqb (slotOf (d e) j) 0 and eqb (noteAt map (slotOf f j)) (pendingFor e j))) ≡ true =
-      rw (getD-slotsOf f j l, getD-slotsOf (d e) j l) at (all-at (slotFits map e (slotsOf (d e)) (slotsOf f)) slotCount t j l) in
-      split (or-cases _ _ z) (λ q. inl (eqb-true _ _ q))
-      (λ q. let n : noteAt map (slotOf f j) ≡ pendingFor e j = eqb-true _ _ (and-right _ _ q) in
-      inr (record {
-        was = eqb-true _ _ (and-left _ _ q);
-        low = split (lt-or-le (slotOf f j) (G .blocks)) (λ h. h)
-            (λ h. absurd (pending-not-free e j (sym n ∙ List·getD-eq-default map 0 (omega arith))));
-        noted = n;
-      }))
-
-  pub held-fits : (e : ℕ) → ((j : ℕ) → j < slotCount → (slotOf f j ≡ slotOf (d e) j) ⊎ Held G d (noteAt map) e j (slotOf f j))
-      → slotsFit map e (slotsOf (d e)) (slotsOf f) ≡ true
-  unfolding slotsFit slotFits
-  held-fits e h =
-      all-intro (slotFits map e (slotsOf (d e)) (slotsOf f)) slotCount
-      (λ j l. rw (getD-slotsOf f j l, getD-slotsOf (d e) j l)
-      (split (h j l) (λ q. or-left _ _ (eq-eqb _ _ q)) (λ g. or-right _ _ (and-both _ _ (eq-eqb _ _ (g .was)) (eq-eqb _ _ (g .noted))))))
-
 -- ---- the test and the facts, both ways
 module _ (G : Geometry) (img map : Bytes) (user : ℕ) (f : Bytes) (e : ℕ) where
+  -- slot by slot
+  held-of : length map ≡ G .blocks → (j : ℕ) → SlotOk map e (entryAt G img e) f j
+      → (slotOf f j ≡ slotOf (entryAt G img e) j) ⊎ Held G (entryAt G img) (noteAt map) e j (slotOf f j)
+  held-of wide j (slot-same q) = inl q
+  held-of wide j (slot-pending z n) =
+      inr record { was = z; low = subst (λ (x : ℕ). slotOf f j < x) wide (pending-block map (slotOf f j) e j n); noted = n }
+
+  of-held : (j : ℕ) → (slotOf f j ≡ slotOf (entryAt G img e) j) ⊎ Held G (entryAt G img) (noteAt map) e j (slotOf f j) → SlotOk map e (entryAt G img e) f j
+  of-held j (inl q) = slot-same q
+  of-held j (inr h) = slot-pending (h .was) (h .noted)
+
   pub current-cur : length map ≡ G .blocks → current G (entryAt G img) map user f ≡ At e → Cur G (viewOf G img map) user f e
   current-cur wide q =
-      let c = current-elim G (entryAt G img) map user f e q in
-      let p = file-says G (entryAt G img) user f 1 (extentOf f) e (c .entry) in
+      let c = current-says G (entryAt G img) map user f e q in
+      let p = current-file G (entryAt G img) map user f e c in
       record {
-        right = c .fcb-right;
+        right = c .right;
         low = p .below;
         file = p .holds;
-        fits = fits-held G (entryAt G img) map user f wide e (c .slots);
+        fits = λ j l. held-of wide j (current-slot G (entryAt G img) map user f e c j l);
       }
 
   module _ (c : Consistent G (entryAt G img)) (hu : user ≤ 15) (k : Cur G (viewOf G img map) user f e) where
     pub cur-facts : Current G (entryAt G img) map user f e
     cur-facts = record {
-      fcb-right = k .right;
-      entry = file-found G (entryAt G img) c user hu f 1 (extentOf f) e (k .low) (k .file);
-      slots = held-fits G (entryAt G img) map user f e (k .fits);
+      right = k .right;
+      found = file-found G (entryAt G img) c user hu f 1 (extentOf f) e (k .low) (k .file);
+      fits = slots-are map e (entryAt G img e) f (λ j l. of-held j (k .fits j l));
     }
 
     pub cur-current : current G (entryAt G img) map user f ≡ At e
-    cur-current = current-intro G (entryAt G img) map user f e cur-facts
+    cur-current = current-is G (entryAt G img) map user f e cur-facts
 
 -- ---- what a current FCB has
 module _ (G : Geometry) (s : View) (user : ℕ) (hu : user ≤ 15) (f : Bytes) (e : ℕ) (c : Cur G s user f e) where

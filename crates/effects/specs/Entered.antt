@@ -16,6 +16,7 @@ use Rattle.format.specs.Fcb.{fcbBytes, fcbRight, crOf}
 use Rattle.names.specs.Laws.{like-intro, right-cong}
 use Rattle.consistency.specs.Facts.{Numbers, Fine}
 use Rattle.consistency.specs.Reflect.{numbers-elim, numbers-intro}
+use Rattle.current.specs.Current.{FcbOk, fcb-says, fcb-is}
 use Rattle.rows.specs.Entries.{length-entryAt}
 use Rattle.model.specs.Closing.{closedRow, closedImage, closedMap, closedFcb}
 use Rattle.model.specs.Entering.{copied, entered, madeRow}
@@ -33,28 +34,11 @@ use Rattle.effects.specs.Cur.{Cur, cur-uses}
 use Rattle.effects.specs.Closed.{closed-here}
 
 -- ---- the fields of an FCB
-pub record Ranges (f : Bytes) : Type 0 where
-  pub name : nameRight false f 1 ≡ true
-  pub numbers : Numbers f
-  pub cr : crOf f ≤ 128
-
-pub ranges-of : (f : Bytes) → fcbRight f ≡ true → Ranges f
-unfolding fcbRight
-ranges-of f h = record {
-  name = and-left _ _ h;
-  numbers = numbers-elim f (and-left _ _ (and-right _ _ h));
-  cr = leb-true _ _ (and-right _ _ (and-right _ _ h));
-}
-
-pub ranges-right : (f : Bytes) → Ranges f → fcbRight f ≡ true
-unfolding fcbRight
-ranges-right f r = and-both _ _ (r .name) (and-both _ _ (numbers-intro f (r .numbers)) (le-leb _ _ (r .cr)))
-
 -- with the name, ex and s2 of a right FCB, and rc and cr in range
 pub right-like : (f g : Bytes) → SameName g 1 f 1 → Agree g f 12 15 → rcOf g ≤ 128 → crOf g ≤ 128 → fcbRight f ≡ true → fcbRight g ≡ true
 right-like f g name same rc cr h =
-    let r = ranges-of f h in
-    ranges-right g record {
+    let r = fcb-says f h in
+    fcb-is g record {
       name = right-cong false g 1 f 1 name ∙ r .name;
       numbers = record {
         ex = rw (same 12 (omega arith) (omega arith)) (r .numbers .ex);
@@ -92,7 +76,7 @@ copied-cur G s user fcb row t low is mine hf hr fine cr =
     let hr′ : 32 ≤ length row = omega arith in
     let at = row-copied fcb row hf′ hr′ in
     took-cur G s user (copied fcb row) row t low is mine
-    (ranges-right (copied fcb row) record {
+    (fcb-is (copied fcb row) record {
       name = right-cong false (copied fcb row) 1 row 1 (name-copied fcb row hf′ hr′) ∙ fine .name;
       numbers = record {
         ex = rw (at 12 (omega arith) (omega arith)) (fine .numbers .ex);
@@ -119,7 +103,7 @@ pub set-cur : (G : Geometry) (s : View) (user : ℕ) (f : Bytes) (cr e : ℕ) �
 set-cur G s user f cr e hf h c =
     like-cur G s user f (set f 32 cr) e
     (right-like f (set f 32 cr) (name-read f cr) (λ i a b. head-read f cr i (omega arith) (omega arith))
-    (rw (head-read f cr 15 (omega arith) (omega arith)) (ranges-of f (c .right) .numbers .rc)) (rw (cr-read f cr hf) h) (c .right))
+    (rw (head-read f cr 15 (omega arith) (omega arith)) (fcb-says f (c .right) .numbers .rc)) (rw (cr-read f cr hf) h) (c .right))
     (name-read f cr) (extent-read f cr) (slot-read f cr) c
 
 -- a right FCB stays so when a record is written through it
@@ -128,7 +112,7 @@ pub right-written : (G : Geometry) (f row : Bytes) (j b r cr : ℕ) → length f
 unfolding countIn
 right-written G f row j b r cr hf hj rc hr hc h =
     right-like f (writtenFcb f row j b r cr) (name-written f row j b r cr) (λ i p q. head-written f row j b r cr i (omega arith) q)
-    (rw (rc-written f row j b r cr hf hj) (count-written-high f row r 128 (ranges-of f h .numbers .rc) rc hr))
+    (rw (rc-written f row j b r cr hf hj) (count-written-high f row r 128 (fcb-says f h .numbers .rc) rc hr))
     (rw (cr-written f row j b r cr hf hj) hc) h
 
 -- one that was closed: its entry has all its blocks now

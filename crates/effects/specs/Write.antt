@@ -35,7 +35,8 @@ use Rattle.effects.specs.Book.{Book, enteredFor, movedBook, entryAfter, 
 use Rattle.effects.specs.Change.{Change, then-change, as-change}
 use Rattle.effects.specs.Closed.{byName}
 use Rattle.effects.specs.Put.{BlockFor, putBook, put-change, put-stay, put-cur, put-holds}
-use Rattle.effects.specs.Entered.{ranges-of, right-written, set-cur}
+use Rattle.current.specs.Current.{fcb-says}
+use Rattle.effects.specs.Entered.{right-written, set-cur}
 use Rattle.effects.specs.Came.{CameTo, present-cur, stay-came, move-came, make-came}
 
 -- ---- what is told of a record call that left these buffers
@@ -204,7 +205,7 @@ module _ {G : Geometry} (S : Sound G) (n : ℕ) (l : Lent) (s : Session) (g : Go
 -- ---- every plan
 module _ {G : Geometry} (S : Sound G) (n : ℕ) (l : Lent) (s : Session) (g : Good G (l .image) (l .map)) (f : Fits G l s) where
   current-cr : (e : ℕ) → presentEntry G (s .user) l ≡ At e → crOf (l .fcb) ≤ 128
-  current-cr e at = ranges-of (l .fcb) (present-cur S n l s g f e at NoRecord .right) .cr
+  current-cr e at = fcb-says (l .fcb) (present-cur S n l s g f e at NoRecord .right) .cr
 
   module _ (low : targetExtent n (l .fcb) < extents) where
     write-plan : (p : Plan) → Planned G n (s .user) l (Block G n (s .user) l) p → WriteOk G n (s .user) l (writing G s l n p .lent)
