@@ -1,48 +1,44 @@
 -- A record call comes to the target's extent: it stays, moves to an entry, or makes one. Wherever it came to, the change so far is by
 -- the name of the FCB, and the FCB is current there.
-use mathlib.Core.Path.{_≡_, refl, ap, sym, _∙_, subst}
-use mathlib.Core.Logic.{_⊎_, inl, inr}
+use mathlib.Core.Path.{_≡_, refl, ap, sym, _∙_}
 use mathlib.Core.Bool.{true, false}
-use Prim.Native.Nat.{ℕ, _+_, _*_, _≤_, _<_}
+use Prim.Native.Nat.{ℕ, _≤_, _<_}
 use native.Mathlib.Omega.{arith}
 use lib.ListN.{length, getD}
-use Rattle.lists.specs.Cases.{split, eq-or-ne, not-both}
-use Rattle.format.specs.Diskette.{Bytes, Geometry, Sound, imageBytes}
-use Rattle.format.specs.Entries.{entryAt, withEntry, entryBytes, slotCount, slotOf, userOf, rcOf, extentOf, used, empty, named, isFile, findEmpty}
+use Rattle.lists.specs.Cases.{not-both}
+use Rattle.format.specs.Diskette.{Bytes, Geometry, Sound}
+use Rattle.format.specs.Entries.{entryAt, withEntry, entryBytes, slotCount, slotOf, userOf, extentOf, used, empty, named, isFile, findEmpty}
 use Rattle.format.specs.Notes.{freeNote, noteAt}
 use Rattle.format.specs.Found.{numberOf}
-use Rattle.format.specs.Fcb.{fcbBytes, crOf}
+use Rattle.format.specs.Fcb.{fcbBytes}
 use Rattle.format.specs.declared.Found.the-variants.{At, Nothing}
-use Rattle.names.specs.Laws.{like-at, like-intro, like-trans}
+use Rattle.names.specs.Laws.{like-at}
 use Rattle.consistency.specs.Facts.{Fine}
 use Rattle.consistency.specs.Reflect.{used-full}
-use Rattle.rows.specs.Entries.{length-entryAt, entry-stored, entry-left, record-kept}
+use Rattle.rows.specs.Entries.{length-entryAt}
 use Rattle.rows.specs.Find.{empty-says}
 use Rattle.model.specs.declared.Session.{Session}
 use Rattle.model.specs.Lent.{Lent, rowsOf}
 use Rattle.model.specs.Closing.{closedImage, closedMap}
-use Rattle.model.specs.Entering.{entered, nextRow}
+use Rattle.model.specs.Entering.{entered}
 use Rattle.model.specs.Target.{extents, targetExtent, targetSlot, presentEntry, stays, targetEntry, blockThere, moved, nextMade, made}
 use Rattle.fields.specs.Agree.{SameName}
 use Rattle.fields.specs.Fine.{fine-next}
-use Rattle.fields.specs.Making.{length-nextRow, slot-next, user-next, name-next, extent-next}
+use Rattle.fields.specs.Making.{length-nextRow, slot-next, user-next, extent-next}
 use Rattle.fields.specs.Entering.{length-entered, slot-entered, first-entered, name-entered, extent-entered}
-use Rattle.fields.specs.Naming.{named-intro, named-like, file-named, file-user, file-extent, file-like, file-used}
-use Rattle.fields.specs.Target.{stays-extent, moves-extent, targetSlot-below}
+use Rattle.fields.specs.Naming.{named-like, file-named, file-user, file-extent}
+use Rattle.fields.specs.Target.{stays-extent, moves-extent}
 use Rattle.table.specs.Facts.{Fits}
-use Rattle.table.specs.Present.{file-is, file-below}
 use Rattle.invariant.specs.Good.{Good}
-use Rattle.invariant.specs.RecordCalls.{good-next}
-use Rattle.effects.specs.View.{View, viewOf, Mine, listed}
-use Rattle.effects.specs.Effect.{NamesStay, RecsStay, notes-stay}
-use Rattle.effects.specs.Steps.{made-effect, made-stay}
+use Rattle.invariant.specs.RecordCalls.{stay-block, move-block, make-block, slot-below, target-file, target-below, target-used, next-file, good-next}
+use Rattle.effects.specs.View.{viewOf, listed}
 use Rattle.effects.specs.Cur.{Cur, current-cur, cur-uses, cur-mine}
-use Rattle.effects.specs.Where.{in-new, entry-or-same, Theirs, was-theirs}
+use Rattle.effects.specs.Where.{Theirs, was-theirs}
 use Rattle.effects.specs.Book.{Book, settledBy, entryBefore, closedBook, movedBook}
-use Rattle.effects.specs.Tracks.{same-tracks}
 use Rattle.effects.specs.Change.{Change, asItWas, no-change, then-change}
 use Rattle.effects.specs.Closed.{byName, closed-there, closed-free, closed-change}
 use Rattle.current.specs.Current.{fcb-says, current-says}
+use Rattle.effects.specs.Picked.{made-here, made-change, made-names-stay}
 use Rattle.effects.specs.Entered.{entered-cur}
 
 -- the call, given l, has come to `there` and entry t, with the book changed by B; it may write the records that W allows
@@ -75,13 +71,12 @@ module _ {G : Geometry} (S : Sound G) (n : ℕ) (l : Lent) (s : Session) (g : Go
   unfolding entryBefore presentEntry
   before = ap (numberOf (G .entries)) (current-says G (rowsOf G l) (l .map) (s .user) (l .fcb) e at .found)
 
-  slot-below : targetSlot G n (l .fcb) < slotCount
-  slot-below = targetSlot-below S n (l .fcb) (fcb-says (l .fcb) (present-cur .right) .cr)
+  place : targetSlot G n (l .fcb) < slotCount
+  place = slot-below S n l s g f e at
 
   -- ---- it stays
   stay-slot : stays n (l .fcb) ≡ true → slotOf (l .fcb) (targetSlot G n (l .fcb)) ≡ blockThere G n (s .user) l
-  unfolding blockThere
-  stay-slot t = rw t
+  stay-slot t = sym (stay-block G n (s .user) l t)
 
   stay-book : stays n (l .fcb) ≡ true → (u : Book) → movedBook G n (s .user) l u ≡ u
   unfolding movedBook
@@ -99,7 +94,7 @@ module _ {G : Geometry} (S : Sound G) (n : ℕ) (l : Lent) (s : Session) (g : Go
     buffer = refl;
     slot = stay-slot t;
     theirs = λ z. rw (← stay-slot t) (was-theirs e
-        (cur-mine G (viewOf G (l .image) (l .map)) (s .user) (f .user-low) (l .fcb) e present-cur (targetSlot G n (l .fcb)) slot-below (λ y. z (sym (stay-slot t) ∙ y))) present-named);
+        (cur-mine G (viewOf G (l .image) (l .map)) (s .user) (f .user-low) (l .fcb) e present-cur (targetSlot G n (l .fcb)) place (λ y. z (sym (stay-slot t) ∙ y))) present-named);
     free = λ b h z. z;
     book = stay-book t;
   }
@@ -123,54 +118,51 @@ module _ {G : Geometry} (S : Sound G) (n : ℕ) (l : Lent) (s : Session) (g : Go
       ∙ sym (like-at (l .fcb) 1 row 1 (named-like false (s .user) (l .fcb) 1 row nm) i h)
 
   module _ (go : stays n (l .fcb) ≡ false) (t : ℕ) (target : targetEntry G n (s .user) l ≡ At t) where
-    pub target-file : isFile (s .user) (l .fcb) 1 (targetExtent n (l .fcb)) (rowsOf G l t) ≡ true
-    unfolding targetEntry
-    target-file = file-is G (rowsOf G l) (s .user) (l .fcb) 1 (targetExtent n (l .fcb)) t target
+    file : isFile (s .user) (l .fcb) 1 (targetExtent n (l .fcb)) (rowsOf G l t) ≡ true
+    file = target-file S n l s g f e at t target
 
-    pub target-below : t < G .entries
-    unfolding targetEntry
-    target-below = file-below G (rowsOf G l) (s .user) (l .fcb) 1 (targetExtent n (l .fcb)) t target
+    below : t < G .entries
+    below = target-below S n l s g f e at t target
 
-    pub target-used : used (rowsOf G l t) ≡ true
-    target-used = file-used (s .user) (l .fcb) 1 (targetExtent n (l .fcb)) (rowsOf G l t) target-file (f .user-low)
+    uses : used (rowsOf G l t) ≡ true
+    uses = target-used S n l s g f e at t target
 
     -- it is another entry than the present one
     other : t ≡ e → ⊥
     other q =
         moves-extent n (l .fcb) go
-        (sym (file-extent (s .user) (l .fcb) 1 (targetExtent n (l .fcb)) (rowsOf G l t) target-file)
+        (sym (file-extent (s .user) (l .fcb) 1 (targetExtent n (l .fcb)) (rowsOf G l t) file)
         ∙ ap (λ (x : ℕ). extentOf (rowsOf G l x)) q ∙ file-extent (s .user) (l .fcb) 1 (extentOf (l .fcb)) (rowsOf G l e) (present-cur .file))
 
-    pub target-stays : entryAt G (closedImage G (l .image) e (l .fcb)) t ≡ rowsOf G l t
-    target-stays = closed-there S (l .image) (l .map) g (s .user) (f .user-low) (l .fcb) e present-cur t target-below other
+    target-stays : entryAt G (closedImage G (l .image) e (l .fcb)) t ≡ rowsOf G l t
+    target-stays = closed-there S (l .image) (l .map) g (s .user) (f .user-low) (l .fcb) e present-cur t below other
 
     move-slot : slotOf (rowsOf G l t) (targetSlot G n (l .fcb)) ≡ blockThere G n (s .user) l
-    unfolding blockThere
-    move-slot = rw (go, target)
+    move-slot = sym (move-block G n (s .user) l t go target)
 
     move-theirs : (blockThere G n (s .user) l ≡ 0 → ⊥) → Theirs G (l .image) (l .map) (byName (s .user) (l .fcb)) (blockThere G n (s .user) l)
     move-theirs z =
-        was-theirs t (listed (targetSlot G n (l .fcb)) record { entry = target-below; place = slot-below; uses = target-used; is = move-slot; real = z })
-        (file-named (s .user) (l .fcb) 1 (targetExtent n (l .fcb)) (rowsOf G l t) target-file)
+        was-theirs t (listed (targetSlot G n (l .fcb)) record { entry = below; place = place; uses = uses; is = move-slot; real = z })
+        (file-named (s .user) (l .fcb) 1 (targetExtent n (l .fcb)) (rowsOf G l t) file)
 
     pub move-came : CameTo G n (s .user) l (moved G n l e t) t W (settledBy (rowsOf G l e) (l .fcb))
     unfolding moved
     move-came =
         let hf : 32 ≤ length (l .fcb) = (let q : length (l .fcb) ≡ 36 = f .fcb-long in omega arith) in
         let row : Bytes = rowsOf G l t in
-        let nm = file-named (s .user) (l .fcb) 1 (targetExtent n (l .fcb)) row target-file in
+        let nm = file-named (s .user) (l .fcb) 1 (targetExtent n (l .fcb)) row file in
         record {
           change = closed-by;
-          cur = entered-cur G (viewOf G (closedImage G (l .image) e (l .fcb)) (closedMap (rowsOf G l e) (l .fcb) (l .map))) (s .user) (l .fcb) row t target-below target-stays
-              (file-user (s .user) (l .fcb) 1 (targetExtent n (l .fcb)) row target-file) (f .fcb-long) (g .inv .dir .fine t target-below target-used)
+          cur = entered-cur G (viewOf G (closedImage G (l .image) e (l .fcb)) (closedMap (rowsOf G l e) (l .fcb) (l .map))) (s .user) (l .fcb) row t below target-stays
+              (file-user (s .user) (l .fcb) 1 (targetExtent n (l .fcb)) row file) (f .fcb-long) (g .inv .dir .fine t below uses)
               (fcb-says (l .fcb) (present-cur .right) .cr);
           mine = ap (byName (s .user) (l .fcb)) target-stays ∙ nm;
-          extent = extent-entered (l .fcb) row hf ∙ file-extent (s .user) (l .fcb) 1 (targetExtent n (l .fcb)) row target-file;
+          extent = extent-entered (l .fcb) row hf ∙ file-extent (s .user) (l .fcb) 1 (targetExtent n (l .fcb)) row file;
           long = length-entered (l .fcb) row hf ∙ f .fcb-long;
           first = first-entered (l .fcb) row hf;
           name = entered-name row nm;
           buffer = refl;
-          slot = slot-entered (l .fcb) row hf (targetSlot G n (l .fcb)) slot-below ∙ move-slot;
+          slot = slot-entered (l .fcb) row hf (targetSlot G n (l .fcb)) place ∙ move-slot;
           theirs = move-theirs;
           free = still-free;
           book = move-book go;
@@ -205,10 +197,7 @@ module _ {G : Geometry} (S : Sound G) (n : ℕ) (l : Lent) (s : Session) (g : Go
 
     next-named : byName (s .user) (l .fcb) (nextMade G n l e) ≡ true
     unfolding nextMade
-    next-named =
-        named-intro false (s .user) (l .fcb) 1 (nextMade G n l e) next-user
-        (like-trans (l .fcb) 1 (rowsOf G l e) 1 (nextMade G n l e) 1 (file-like (s .user) (l .fcb) 1 (extentOf (l .fcb)) (rowsOf G l e) (present-cur .file))
-        (like-intro (rowsOf G l e) 1 (nextMade G n l e) 1 (λ i h. sym (name-next (rowsOf G l e) (targetExtent n (l .fcb)) long i h))))
+    next-named = file-named (s .user) (l .fcb) 1 (targetExtent n (l .fcb)) (nextMade G n l e) (next-file S n l s g f e at t room none low)
 
     next-fine : Fine G (nextMade G n l e)
     unfolding nextMade
@@ -232,52 +221,27 @@ module _ {G : Geometry} (S : Sound G) (n : ℕ) (l : Lent) (s : Session) (g : Go
     new : Bytes
     new = withEntry G mid t (nextMade G n l e)
 
-    mid-long : length mid ≡ imageBytes G
-    unfolding mid
-    mid-long = closed-by .good .image-long
-
-    next-here : entryAt G new t ≡ nextMade G n l e
-    unfolding new
-    next-here = entry-stored S mid mid-long t room-below (nextMade G n l e) whole
-
-    there : (k : ℕ) → k < G .entries → (k ≡ t → ⊥) → entryAt G new k ≡ entryAt G mid k
-    unfolding new
-    there k h q = entry-left S mid mid-long t room-below (nextMade G n l e) whole k h (λ z. q (sym z))
-
-    recs : RecsStay G (viewOf G mid mid-map) (viewOf G new mid-map)
-    unfolding new
-    recs d p b = record-kept S mid mid-long t room-below (nextMade G n l e) whole d p b
-
-    here-named : byName (s .user) (l .fcb) (entryAt G new t) ≡ true
-    here-named = ap (byName (s .user) (l .fcb)) next-here ∙ next-named
+    mid-good : Good G mid mid-map
+    unfolding mid mid-map
+    mid-good = closed-by .good
 
     new-good : Good G new mid-map
     unfolding new mid mid-map made
     new-good = good-next S n l s g f e at t room none low
 
-    made-by : Change G (byName (s .user) (l .fcb)) W asItWas mid mid-map new mid-map
-    unfolding new mid mid-map
-    made-by = record {
-      effect = made-effect G (viewOf G mid mid-map) (viewOf G new mid-map) (byName (s .user) (l .fcb)) (closed-by .good .inv) recs t there void here-named;
-      keeps = notes-stay G (viewOf G mid mid-map) (viewOf G new mid-map) (byName (s .user) (l .fcb)) (λ b h. refl);
-      frame = λ i. split (entry-or-same S mid mid-long t room-below (nextMade G n l e) whole i) (λ q. inl q) (λ p. inr (in-new t p void here-named));
-      good = new-good;
-      book = λ u tr. tr;
-    }
-
-    new-stay : NamesStay G (viewOf G mid mid-map) (viewOf G new mid-map) (byName (s .user) (l .fcb))
-    unfolding mid mid-map
-    new-stay = made-stay G (viewOf G mid mid-map) (viewOf G new mid-map) (byName (s .user) (l .fcb)) (closed-by .good .inv) recs t there void here-named
+    next-here : entryAt G new t ≡ nextMade G n l e
+    unfolding new
+    next-here = made-here S (byName (s .user) (l .fcb)) mid mid-map mid-good t room-below void (nextMade G n l e) whole next-named
 
     closed-then-made : Change G (byName (s .user) (l .fcb)) W (settledBy (rowsOf G l e) (l .fcb)) (l .image) (l .map) new mid-map
-    unfolding mid mid-map
+    unfolding mid mid-map new
     closed-then-made =
-        then-change G (byName (s .user) (l .fcb)) W (settledBy (rowsOf G l e) (l .fcb)) asItWas (l .image) (l .map) mid mid-map new mid-map
-        (g .inv .dir) closed-by made-by new-stay
+        then-change G (byName (s .user) (l .fcb)) W (settledBy (rowsOf G l e) (l .fcb)) asItWas (l .image) (l .map) mid mid-map new mid-map (g .inv .dir) closed-by
+        (made-change S (byName (s .user) (l .fcb)) mid mid-map mid-good t room-below void (nextMade G n l e) whole next-named new-good W)
+        (made-names-stay S (byName (s .user) (l .fcb)) mid mid-map mid-good t room-below void (nextMade G n l e) whole next-named)
 
     make-slot : blockThere G n (s .user) l ≡ 0
-    unfolding blockThere
-    make-slot = rw (go, none)
+    make-slot = make-block G n (s .user) l go none
 
     next-slot : slotOf (nextMade G n l e) (targetSlot G n (l .fcb)) ≡ 0
     unfolding nextMade
@@ -292,13 +256,13 @@ module _ {G : Geometry} (S : Sound G) (n : ℕ) (l : Lent) (s : Session) (g : Go
           change = closed-then-made;
           cur = entered-cur G (viewOf G new mid-map) (s .user) (l .fcb) row t room-below next-here next-user (f .fcb-long) next-fine
               (fcb-says (l .fcb) (present-cur .right) .cr);
-          mine = here-named;
+          mine = ap (byName (s .user) (l .fcb)) next-here ∙ next-named;
           extent = extent-entered (l .fcb) row hf ∙ next-extent;
           long = length-entered (l .fcb) row hf ∙ f .fcb-long;
           first = first-entered (l .fcb) row hf;
           name = entered-name row next-named;
           buffer = refl;
-          slot = slot-entered (l .fcb) row hf (targetSlot G n (l .fcb)) slot-below ∙ next-slot ∙ sym make-slot;
+          slot = slot-entered (l .fcb) row hf (targetSlot G n (l .fcb)) place ∙ next-slot ∙ sym make-slot;
           theirs = λ z. absurd (z make-slot);
           free = still-free;
           book = move-book go;

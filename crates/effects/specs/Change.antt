@@ -1,10 +1,9 @@
 -- One change of an image and a map by a call that names N: what it may do, byte by byte too, that it leaves both good, and what the book
 -- becomes. Changes follow one another.
 use mathlib.Core.Path.{_≡_, refl, ap, sym, _∙_}
-use mathlib.Core.Logic.{_⊎_, inl, inr}
+use mathlib.Core.Logic.{inl, inr}
 use mathlib.Core.Bool.{true, false}
 use Prim.Native.Nat.{ℕ, _<_}
-use lib.ListN.{getD}
 use Rattle.lists.specs.Cases.{split, bool-cases, not-both}
 use Rattle.format.specs.Diskette.{Bytes, Geometry}
 use Rattle.format.specs.Entries.{entryAt, empty, used}
@@ -12,8 +11,8 @@ use Rattle.format.specs.Notes.{noteAt}
 use Rattle.consistency.specs.Facts.{Consistent}
 use Rattle.consistency.specs.Reflect.{used-full}
 use Rattle.invariant.specs.Good.{Good}
-use Rattle.effects.specs.View.{View, viewOf, Names}
-use Rattle.effects.specs.Effect.{Foreign, Effect, Keeps, NamesStay, nothing-done, nothing-kept, then-effect, then-keeps, more-effect, more-keeps}
+use Rattle.effects.specs.View.{viewOf, Names}
+use Rattle.effects.specs.Effect.{Effect, Keeps, NamesStay, nothing-done, nothing-kept, then-effect, then-keeps, more-effect, more-keeps}
 use Rattle.effects.specs.Where.{Where, in-entry, in-new, in-record, Frame, frame-more}
 use Rattle.effects.specs.Book.{Book}
 use Rattle.effects.specs.Tracks.{Tracks}

@@ -1,27 +1,26 @@
 -- A close, on bytes: one change, by the name of its FCB.
-use mathlib.Core.Path.{_≡_, refl, ap, sym, _∙_}
+use mathlib.Core.Path.{_≡_, ap, sym, _∙_}
 use mathlib.Core.Logic.{_⊎_, inl, inr}
-use mathlib.Core.Bool.{true, false}
-use Prim.Native.Nat.{ℕ, _+_, _*_, _≤_, _<_}
+use mathlib.Core.Bool.{false}
+use Prim.Native.Nat.{ℕ, _≤_, _<_}
 use native.Mathlib.Omega.{arith}
 use lib.ListN.{length}
 use Rattle.lists.specs.Cases.{split}
 use Rattle.format.specs.Diskette.{Bytes, Geometry, Sound}
-use Rattle.format.specs.Entries.{entryAt, slotCount, slotOf, entryBytes, used, named}
+use Rattle.format.specs.Entries.{entryAt, entryBytes, named}
 use Rattle.format.specs.Notes.{freeNote, noteAt, pendingFor}
 use Rattle.notes.specs.Numbers.{pending-not-free}
 use Rattle.rows.specs.Entries.{length-entryAt, entry-stored, entry-left, record-kept}
 use Rattle.model.specs.Closing.{closedRow, closedImage, closedMap}
 use Rattle.fields.specs.Closing.{Takes, length-closedRow, note-closed-cases}
-use Rattle.invariant.specs.Close.{Held}
 use Rattle.invariant.specs.Good.{Good}
 use Rattle.invariant.specs.CloseGood.{good-closed}
 use Rattle.effects.specs.View.{viewOf, Names}
-use Rattle.effects.specs.Effect.{Effect, Keeps, RecsStay}
+use Rattle.effects.specs.Effect.{RecsStay}
 use Rattle.effects.specs.Steps.{NamesUsed, one-effect, keeps-by, held-named}
 use Rattle.fields.specs.Naming.{named-used}
-use Rattle.effects.specs.Cur.{Cur, cur-facts, cur-uses, cur-named}
-use Rattle.effects.specs.Where.{Frame, in-entry, entry-or-same}
+use Rattle.effects.specs.Cur.{Cur, cur-facts, cur-named}
+use Rattle.effects.specs.Where.{in-entry, entry-or-same}
 use Rattle.effects.specs.Book.{settledBy}
 use Rattle.effects.specs.Tracks.{closed-tracks}
 use Rattle.effects.specs.Change.{Change}

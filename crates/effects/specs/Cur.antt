@@ -4,24 +4,17 @@ use mathlib.Core.Logic.{_⊎_, inl, inr}
 use mathlib.Core.Bool.{true, false}
 use Prim.Native.Nat.{ℕ, _%_, _≤_, _<_}
 use native.Mathlib.Nat.{mod-lt}
-use native.Mathlib.Omega.{arith}
-use lib.Dec.{eqb}
-use lib.ListN.{length, List·getD-eq-default}
-use borrow.Author.Tests.{eqb-true, eq-eqb}
-use Rattle.lists.specs.Cases.{split, lt-or-le}
-use Rattle.lists.specs.Tests.{_and_, _or_, and-left, and-right, and-both, or-left, or-right, or-cases}
-use Rattle.lists.specs.Below.{all-at, all-intro}
+use lib.ListN.{length}
+use Rattle.lists.specs.Cases.{split}
+use Rattle.lists.specs.Tests.{_and_}
 use Rattle.format.specs.Diskette.{Bytes, Geometry, Sound}
-use Rattle.format.specs.Entries.{Rows, entryAt, slotCount, slotOf, slotsOf, slotFor, rcOf, used, extentOf, named, isFile}
-use Rattle.format.specs.SlotLaws.{getD-slotsOf}
-use Rattle.format.specs.Notes.{noteAt, pendingFor}
-use Rattle.format.specs.Fcb.{fcbRight, slotFits, slotsFit, current}
+use Rattle.format.specs.Entries.{entryAt, slotCount, slotOf, slotFor, rcOf, used, extentOf, named, isFile}
+use Rattle.format.specs.Notes.{noteAt}
+use Rattle.format.specs.Fcb.{fcbRight, current}
 use Rattle.format.specs.declared.Found.the-variants.{At}
 use Rattle.consistency.specs.Facts.{Consistent}
-use Rattle.notes.specs.Numbers.{pending-not-free}
 use Rattle.invariant.specs.Close.{Held}
 use Rattle.rows.specs.Fields.{slot-for-below}
-use Rattle.rows.specs.Find.{file-says}
 use Rattle.current.specs.Current.{Current, current-is, current-says, current-file, current-slot, SlotOk, slot-same, slot-pending, slots-are}
 use Rattle.invariant.specs.CloseGood.{pending-block}
 use Rattle.model.specs.Target.{extentRecords, placeIn}

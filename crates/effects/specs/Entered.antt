@@ -1,36 +1,31 @@
 -- FCBs that are current: one that has the row of its entry, and one that is like a current one.
 use mathlib.Core.Path.{_≡_, ap, sym, _∙_, subst}
-use mathlib.Core.Logic.{_⊎_, inl, inr}
+use mathlib.Core.Logic.{inl, inr}
 use mathlib.Core.Bool.{true, false}
-use Prim.Native.Nat.{ℕ, _+_, _*_, _≤_, _<_}
+use Prim.Native.Nat.{ℕ, _≤_, _<_}
 use native.Mathlib.Omega.{arith}
 use lib.ListN.{length, set}
-use borrow.Author.Tests.{leb-true, le-leb}
 use Rattle.lists.specs.Cases.{split, eq-or-ne}
-use Rattle.lists.specs.Tests.{and-left, and-right, and-both}
 use Rattle.format.specs.Diskette.{Bytes, Geometry, Sound}
-use Rattle.format.specs.Names.{nameRight}
-use Rattle.format.specs.Entries.{entryAt, entryBytes, slotCount, slotOf, userOf, exOf, rcOf, extentOf, countIn, isFile}
-use Rattle.format.specs.Notes.{noteAt}
+use Rattle.format.specs.Entries.{entryAt, entryBytes, slotCount, slotOf, userOf, rcOf, extentOf, countIn, isFile}
 use Rattle.format.specs.Fcb.{fcbBytes, fcbRight, crOf}
 use Rattle.names.specs.Laws.{like-intro, right-cong}
-use Rattle.consistency.specs.Facts.{Numbers, Fine}
-use Rattle.consistency.specs.Reflect.{numbers-elim, numbers-intro}
-use Rattle.current.specs.Current.{FcbOk, fcb-says, fcb-is}
+use Rattle.consistency.specs.Facts.{Fine}
+use Rattle.consistency.specs.Reflect.{numbers-intro}
+use Rattle.current.specs.Current.{fcb-says, fcb-is}
 use Rattle.rows.specs.Entries.{length-entryAt}
 use Rattle.model.specs.Closing.{closedRow, closedImage, closedMap, closedFcb}
-use Rattle.model.specs.Entering.{copied, entered, madeRow}
+use Rattle.model.specs.Entering.{copied, entered}
 use Rattle.model.specs.Target.{extentRecords, writtenFcb}
 use Rattle.fields.specs.Agree.{Agree, SameName, isFile-asked, isFile-cong}
 use Rattle.fields.specs.Naming.{named-intro, file-intro}
 use Rattle.fields.specs.Closing.{slot-closed-old, slot-closed-new, file-closed, name-closedFcb, slot-closedFcb, extent-closedFcb, fcbRight-closedFcb}
-use Rattle.fields.specs.Entering.{name-entered, slot-entered, extent-entered, cr-entered, fcbRight-entered, name-copied, slot-copied, extent-copied, row-copied, rest-copied}
-use Rattle.fields.specs.Making.{length-madeRow, user-made, name-made, ex-made, s2-made, rc-made}
+use Rattle.fields.specs.Entering.{name-entered, slot-entered, extent-entered, fcbRight-entered, name-copied, slot-copied, extent-copied, row-copied, rest-copied}
 use Rattle.fields.specs.Target.{name-read, slot-read, extent-read, head-read, cr-read, name-written, head-written, rc-written, cr-written, count-written-high}
 use Rattle.invariant.specs.Close.{Held}
 use Rattle.invariant.specs.Good.{Good}
 use Rattle.effects.specs.View.{View, viewOf}
-use Rattle.effects.specs.Cur.{Cur, cur-uses}
+use Rattle.effects.specs.Cur.{Cur}
 use Rattle.effects.specs.Closed.{closed-here}
 
 -- ---- the fields of an FCB

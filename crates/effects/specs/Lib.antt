@@ -8,6 +8,7 @@ pub mod Tracks
 pub mod Change
 pub mod Closed
 pub mod Put
+pub mod Picked
 pub mod Entered
 pub mod Came
 pub mod Write

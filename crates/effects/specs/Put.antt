@@ -1,8 +1,8 @@
 -- A record written through a current FCB, on bytes: one change, by any naming that has the FCB's entry; and what the FCB reads then.
-use mathlib.Core.Path.{_≡_, refl, ap, sym, _∙_, subst}
+use mathlib.Core.Path.{_≡_, ap, sym, _∙_, subst}
 use mathlib.Core.Logic.{_⊎_, inl, inr}
-use mathlib.Core.Bool.{Bool, true, false, cond}
-use Prim.Native.Nat.{ℕ, _+_, _*_, _%_, _≤_, _<_}
+use mathlib.Core.Bool.{true, cond}
+use Prim.Native.Nat.{ℕ, _*_, _%_, _≤_, _<_}
 use native.Mathlib.Nat.{mod-lt}
 use native.Mathlib.Omega.{arith}
 use lib.Dec.{eqb}
@@ -10,7 +10,7 @@ use lib.ListN.{length}
 use borrow.Author.Tests.{eq-eqb, ne-eqb}
 use Rattle.lists.specs.Cases.{split, eq-or-ne}
 use Rattle.format.specs.Diskette.{Bytes, Geometry, Sound, recordBytes, recordAt, withRecord}
-use Rattle.format.specs.Entries.{entryAt, slotCount, slotOf, slotFor, rcOf, extentOf, countIn, used, isFile}
+use Rattle.format.specs.Entries.{entryAt, slotCount, slotOf, slotFor, extentOf, isFile}
 use Rattle.format.specs.Notes.{freeNote, noteAt, pendingFor}
 use Rattle.format.specs.Fcb.{fcbBytes, fcbRight}
 use Rattle.notes.specs.Numbers.{pending-not-free}
@@ -19,15 +19,15 @@ use Rattle.rows.specs.Entries.{block-past, entry-kept}
 use Rattle.rows.specs.Fields.{slot-for-below}
 use Rattle.model.specs.Target.{extentRecords, placeIn, writtenMap, writtenFcb}
 use Rattle.fields.specs.Agree.{isFile-asked}
-use Rattle.fields.specs.Target.{place-below, length-writtenFcb, name-written, extent-written, slot-written, slot-written-other, rc-written, count-written-target, map-written-kept, note-written, note-written-other}
+use Rattle.fields.specs.Target.{place-below, name-written, extent-written, slot-written, slot-written-other, rc-written, count-written-target, map-written-kept, note-written, note-written-other}
 use Rattle.invariant.specs.Close.{Held}
 use Rattle.invariant.specs.Good.{Good}
 use Rattle.invariant.specs.Updates.{good-record, good-taken}
 use Rattle.effects.specs.View.{viewOf, Names, Mine, mine-one, mine-low, mine-not-free, free-spare}
-use Rattle.effects.specs.Effect.{Foreign, Effect, Keeps, NamesStay, not-entry, notes-stay}
-use Rattle.effects.specs.Steps.{RowsStay, rows-names-stay, put-effect, take-keeps}
+use Rattle.effects.specs.Effect.{Foreign, NamesStay, not-entry, notes-stay}
+use Rattle.effects.specs.Steps.{rows-names-stay, put-effect, take-keeps}
 use Rattle.effects.specs.Cur.{Cur, cur-uses, cur-mine, cur-zero, Holds, recSlot}
-use Rattle.effects.specs.Where.{Frame, in-record, record-or-same}
+use Rattle.effects.specs.Where.{in-record, record-or-same}
 use Rattle.effects.specs.Book.{Book, enteredFor}
 use Rattle.effects.specs.Tracks.{Tracks, same-tracks, taken-tracks}
 use Rattle.effects.specs.Change.{Change}

@@ -1,25 +1,20 @@
 -- 20, 21, 33 and 34, for every plan: one change by the name of the FCB; the FCB handed back is current, and a record that was written
 -- can be read through it.
 use mathlib.Core.Path.{_≡_, refl, ap, sym, _∙_, subst}
-use mathlib.Core.Bool.{true, false, cond}
+use mathlib.Core.Bool.{true}
 use Prim.Native.Nat.{ℕ, _≤_, _<_}
 use native.Mathlib.Omega.{arith}
-use lib.Dec.{eqb}
-use lib.ListN.{length, getD, set, length-set}
-use lib.Seq.{getD-set-other}
-use Rattle.lists.specs.Cases.{split, eq-or-ne}
-use Rattle.format.specs.Diskette.{Bytes, Geometry, Sound, recordBytes, withRecord}
-use Rattle.format.specs.Entries.{entryAt, slotCount, slotOf, slotFor, rcOf, extentOf}
-use Rattle.format.specs.Notes.{freeNote, noteAt, findFree}
+use lib.ListN.{length, getD, length-set}
+use Rattle.format.specs.Diskette.{Geometry, Sound, recordBytes, withRecord}
+use Rattle.format.specs.Entries.{entryAt, slotCount, slotOf, slotFor, extentOf}
 use Rattle.format.specs.Fcb.{fcbBytes, fcbRight, crOf}
 use Rattle.format.specs.Found.{numberOf}
 use Rattle.format.specs.declared.Found.the-variants.{At}
 use Rattle.notes.specs.Free.{free-is}
 use Rattle.model.specs.declared.Session.{Session}
 use Rattle.model.specs.declared.Plan.{Plan}
-use Rattle.model.specs.declared.Plan.the-variants.{Stay, Move, Make}
-use Rattle.model.specs.Lent.{Lent, rowsOf, Outcome}
-use Rattle.model.specs.Target.{extents, extentRecords, targetExtent, targetRecord, targetSlot, crAfter, presentEntry, stays, targetEntry, blockThere, plan, moved, made, placeIn, haveRead, haveWritten, writtenFcb, writtenMap}
+use Rattle.model.specs.Lent.{Lent}
+use Rattle.model.specs.Target.{extents, extentRecords, targetExtent, targetRecord, targetSlot, crAfter, presentEntry, plan, moved, made, placeIn, haveRead, haveWritten, writtenFcb, writtenMap}
 use Rattle.model.specs.Calls.{readAt, reading, read, writtenAt, writing, written}
 use Rattle.fields.specs.Agree.{SameName}
 use Rattle.fields.specs.Naming.{file-found}
@@ -31,10 +26,10 @@ use Rattle.invariant.specs.Good.{Good}
 use Rattle.effects.specs.View.{viewOf, mine-high}
 use Rattle.effects.specs.Cur.{Cur, cur-uses, cur-mine, Holds}
 use Rattle.effects.specs.Where.{NoRecord, Theirs, was-free, OneRecord}
-use Rattle.effects.specs.Book.{Book, enteredFor, movedBook, entryAfter, writtenBook}
+use Rattle.effects.specs.Book.{Book, movedBook, entryAfter, writtenBook}
 use Rattle.effects.specs.Change.{Change, then-change, as-change}
 use Rattle.effects.specs.Closed.{byName}
-use Rattle.effects.specs.Put.{BlockFor, putBook, put-change, put-stay, put-cur, put-holds}
+use Rattle.effects.specs.Put.{BlockFor, putBook, put-change, put-stay, put-holds}
 use Rattle.current.specs.Current.{fcb-says}
 use Rattle.effects.specs.Entered.{right-written, set-cur}
 use Rattle.effects.specs.Came.{CameTo, present-cur, stay-came, move-came, make-came}
