@@ -67,9 +67,9 @@ module _ {G : Geometry} (S : Sound G) (n : ℕ) (l : Lent) (s : Session) (g : Go
   pub present-named : byName (s .user) (l .fcb) (rowsOf G l e) ≡ true
   present-named = file-named (s .user) (l .fcb) 1 (extentOf (l .fcb)) (rowsOf G l e) (present-cur .file)
 
-  before : entryBefore G n (s .user) l ≡ e
+  pub present-before : entryBefore G n (s .user) l ≡ e
   unfolding entryBefore presentEntry
-  before = ap (numberOf (G .entries)) (current-says G (rowsOf G l) (l .map) (s .user) (l .fcb) e at .found)
+  present-before = ap (numberOf (G .entries)) (current-says G (rowsOf G l) (l .map) (s .user) (l .fcb) e at .found)
 
   place : targetSlot G n (l .fcb) < slotCount
   place = slot-below S n l s g f e at
@@ -109,7 +109,7 @@ module _ {G : Geometry} (S : Sound G) (n : ℕ) (l : Lent) (s : Session) (g : Go
 
   move-book : stays n (l .fcb) ≡ false → (u : Book) → movedBook G n (s .user) l u ≡ settledBy (rowsOf G l e) (l .fcb) u
   unfolding movedBook closedBook
-  move-book go u = rw (go, before)
+  move-book go u = rw (go, present-before)
 
   -- an FCB that entered row t of the file, wherever that row came from
   entered-name : (row : Bytes) → named false (s .user) (l .fcb) 1 row ≡ true → SameName (entered (l .fcb) row) 1 (l .fcb) 1

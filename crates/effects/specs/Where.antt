@@ -89,3 +89,12 @@ module _ {G : Geometry} (S : Sound G) (img : Bytes) (long : length img ≡ image
       split (lt-or-le i (offsetOf G d)) (λ l. inl (record-byte-left S img long d hd bytes lb i (inl l)))
       (λ l. split (lt-or-le i (offsetOf G d + recordBytes)) (λ h. inr record { from = l; upto = h })
       (λ h. inl (record-byte-left S img long d hd bytes lb i (inr h))))
+
+-- what was theirs is so by a naming that has more
+pub theirs-more : (G : Geometry) (img map : Bytes) (M N : Names) → ((r : Bytes) → M r ≡ true → N r ≡ true) → (b : ℕ) → Theirs G img map M b → Theirs G img map N b
+theirs-more G img map M N more b (was-free z) = was-free z
+theirs-more G img map M N more b (was-theirs e m n) = was-theirs e m (more (entryAt G img e) n)
+
+pub one-more : (G : Geometry) (img map : Bytes) (M N : Names) → ((r : Bytes) → M r ≡ true → N r ≡ true) → (b rec d : ℕ)
+    → OneRecord G img map M b rec d → OneRecord G img map N b rec d
+one-more G img map M N more b rec d o = record { is = o .is; below = o .below; theirs = theirs-more G img map M N more b (o .theirs) }
