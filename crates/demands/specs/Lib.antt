@@ -1,2 +1,4 @@
 pub mod Accepted
 pub mod StepOk
+pub mod Runs
+pub mod NothingLost
