@@ -2,3 +2,5 @@ pub mod Accepted
 pub mod StepOk
 pub mod Runs
 pub mod NothingLost
+pub mod Reading
+pub mod ReadBack
