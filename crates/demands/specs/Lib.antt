@@ -4,3 +4,4 @@ pub mod Runs
 pub mod NothingLost
 pub mod Reading
 pub mod ReadBack
+pub mod StillCurrent
