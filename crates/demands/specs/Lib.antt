@@ -5,3 +5,4 @@ pub mod NothingLost
 pub mod Reading
 pub mod ReadBack
 pub mod StillCurrent
+pub mod Erased
