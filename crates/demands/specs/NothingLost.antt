@@ -33,6 +33,13 @@ pub record Told (G : Geometry) (d : Disk) (u : Book) : Type 0 where
   pub range : InRange G (d .session)
   pub tracks : Tracks G u (noteAt (d .map))
 
+-- what an accepted log-in does
+pub logged-in : (G : Geometry) (d : Disk) (q : Request) → q .asked .number ≡ 13 → accepts G d q ≡ true → outcomeOf G d q ≡ loggedIn G (d .session) (lentTo d q)
+unfolding outcomeOf
+logged-in G d q n a =
+    accepted-carried G (q .asked) (lentTo d q) (d .session) a .is
+    ∙ ap (λ (k : ℕ). effect G k (q .asked .argument) (lentTo d q) (d .session)) n ∙ effect-is G (q .asked .argument) (lentTo d q) (d .session) call13
+
 module _ {G : Geometry} (S : Sound G) where
   pub told-after : (d : Disk) (q : Request) (u : Book) → Told G d u → Told G (after G d q) (bookAfter G d q u)
   unfolding after bookAfter outcomeOf
@@ -57,12 +64,8 @@ module _ {G : Geometry} (S : Sound G) where
       record {
         good = step-accepted S (q .asked) l (d .session) c;
         range = step-range G (q .asked) l (d .session) record { user = fits .user-low; place = fits .place-low };
-        tracks = subst (λ (o : Outcome). Tracks G nothingHeld (noteAt (o .lent .map))) (sym (is c)) (logged-in-tracks G l (d .session));
+        tracks = subst (λ (o : Outcome). Tracks G nothingHeld (noteAt (o .lent .map))) (sym (logged-in G d q n a)) (logged-in-tracks G l (d .session));
       }
-    where
-      is : CarriedOut G (q .asked) (lentTo d q) (d .session) → step G (q .asked) (lentTo d q) (d .session) ≡ loggedIn G (d .session) (lentTo d q)
-      is c =
-          c .is ∙ ap (λ (k : ℕ). effect G k (q .asked .argument) (lentTo d q) (d .session)) n ∙ effect-is G (q .asked .argument) (lentTo d q) (d .session) call13
 
 -- ---- what is never lost
 -- a block in the book: its note is pending for its place, in a used entry, and no entry lists it

@@ -74,19 +74,20 @@ module _ {G : Geometry} (S : Sound G) (argument : ℕ) (l : Lent) (s : Session) 
       }
 
   -- 22
-  created-current : crOf (l .fcb) ≤ 128 → Makes G l s → CurrentIn G (s .user) (created G s l .lent)
-  unfolding created createdAt
-  created-current cr m =
+  pub created-cur : crOf (l .fcb) ≤ 128 → (m : Makes G l s)
+      → Cur G (viewOf G (createdAt G s l (m .entry .place) .lent .image) (l .map)) (s .user) (createdAt G s l (m .entry .place) .lent .fcb) (m .entry .place)
+  unfolding createdAt
+  created-cur cr m =
       let t : ℕ = m .entry .place in
       let row : Bytes = madeRow (s .user) (l .fcb) in
       let found = empty-says G (rowsOf G l) t (m .entry .is) in
-      rw (m .entry .is)
-      record {
-        entry = t;
-        cur = copied-cur G _ (s .user) (l .fcb) row t (found .below)
-            (entry-stored S (l .image) (g .image-long) t (found .below) row (length-madeRow (s .user) (l .fcb))) (user-made (s .user) (l .fcb)) (f .fcb-long)
-            (length-madeRow (s .user) (l .fcb)) (fine-made G (s .user) (l .fcb) (f .user-low) (m .name) (m .ex)) cr;
-      }
+      copied-cur G (viewOf G (createdAt G s l t .lent .image) (l .map)) (s .user) (l .fcb) row t (found .below)
+      (entry-stored S (l .image) (g .image-long) t (found .below) row (length-madeRow (s .user) (l .fcb))) (user-made (s .user) (l .fcb)) (f .fcb-long)
+      (length-madeRow (s .user) (l .fcb)) (fine-made G (s .user) (l .fcb) (f .user-low) (m .name) (m .ex)) cr
+
+  created-current : crOf (l .fcb) ≤ 128 → Makes G l s → CurrentIn G (s .user) (created G s l .lent)
+  unfolding created createdAt
+  created-current cr m = rw (m .entry .is) record { entry = m .entry .place; cur = created-cur cr m }
 
   current-in : {n : ℕ} (c : Call n) → oneOf n (15 ∷ 16 ∷ 20 ∷ 21 ∷ 22 ∷ 33 ∷ 34 ∷ []) ≡ true → (oneOf n (15 ∷ 22 ∷ []) ≡ true → crOf (l .fcb) ≤ 128)
       → Own G l s argument c → CurrentIn G (s .user) (carriedBy G argument l s c .lent)
