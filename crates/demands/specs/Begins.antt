@@ -2,22 +2,21 @@
 -- log-in, a make and a write on an erased disk, one after the other.
 use mathlib.Core.Path.{_≡_, refl, ap, sym, _∙_, subst}
 use mathlib.Core.Bool.{true, false}
-use mathlib.Core.List.{[], _∷_}
-use Prim.Native.Nat.{ℕ, _+_, _*_, _≤_, _<_}
+use Prim.Native.Nat.{ℕ, _≤_, _<_}
 use native.Mathlib.Omega.{arith}
 use lib.ListN.{length, getD}
-use borrow.Author.Tests.{eq-eqb, ne-eqb, le-ltb}
-use Rattle.lists.specs.Cases.{split, bool-cases, clash, not-both}
+use borrow.Author.Tests.{eq-eqb, le-ltb}
+use Rattle.lists.specs.Cases.{split, bool-cases, not-both}
 use Rattle.lists.specs.Tests.{_or_, and-left, and-right}
 use Rattle.format.specs.Diskette.{Bytes, Geometry, Sound, imageBytes, recordBytes}
 use Rattle.format.specs.Names.{nameRight}
-use Rattle.format.specs.Entries.{entryAt, entryBytes, exOf, extentOf, readOnly, empty, used, isFile, findEmpty}
+use Rattle.format.specs.Entries.{entryAt, exOf, extentOf, readOnly, empty, used, isFile, findEmpty}
 use Rattle.format.specs.Notes.{freeNote, noteAt, freshNote, freshMap, isListed, findFree}
 use Rattle.format.specs.Fcb.{fcbBytes, crOf, fcbRight}
 use Rattle.format.specs.FoundLaws.{FoundAt, found-cases, at-not-nothing}
 use Rattle.format.specs.Found.{numberOf}
 use Rattle.format.specs.declared.Found.{Found}
-use Rattle.format.specs.declared.Found.the-variants.{At, Nothing}
+use Rattle.format.specs.declared.Found.the-variants.{At}
 use Rattle.consistency.specs.Listed.{listed-somewhere}
 use Rattle.consistency.specs.Reflect.{used-full}
 use Rattle.notes.specs.Free.{none-free}
@@ -27,21 +26,21 @@ use Rattle.rows.specs.Find.{empty-says, none-empty-says, no-file-is}
 use Rattle.model.specs.declared.Asked.{Asked}
 use Rattle.model.specs.declared.Session.{Session}
 use Rattle.model.specs.Lent.{Lent, rowsOf, Outcome}
-use Rattle.model.specs.Entering.{madeRow, copied}
-use Rattle.model.specs.Target.{extents, targetExtent, presentEntry, stays, targetEntry, blockThere, readOnlyThere}
+use Rattle.model.specs.Entering.{madeRow}
+use Rattle.model.specs.Target.{targetExtent, presentEntry, stays, targetEntry, readOnlyThere}
 use Rattle.model.specs.Table.{usesFcb, oneOf, askedEntry, verdict}
 use Rattle.model.specs.Calls.{loggedIn, createdAt, created}
-use Rattle.model.specs.Step.{effect, step}
+use Rattle.model.specs.Step.{effect}
 use Rattle.fields.specs.Making.{length-madeRow, readOnly-made}
 use Rattle.fields.specs.Entering.{length-copied, first-copied, rest-copied}
 use Rattle.fields.specs.Naming.{file-used}
 use Rattle.fields.specs.Target.{extent-within}
 use Rattle.table.specs.Own.{Call, call13, call15, call16, call17, call18, call19, call20, call21, call22, call23, call32, call33, call34, call35, call36, call46, call98}
-use Rattle.table.specs.Facts.{Fits, Writes, Makes, Own, Ready}
+use Rattle.table.specs.Facts.{Fits, Writes, Makes, Own}
 use Rattle.table.specs.Accept.{passes}
 use Rattle.table.specs.Present.{target-present, numbers-extent}
 use Rattle.table.specs.Carried.{effect-is}
-use Rattle.table.specs.Total.{InRange, CarriedOut, total-accepted, step-range}
+use Rattle.table.specs.Total.{InRange, CarriedOut, total-accepted}
 use Rattle.invariant.specs.Good.{Good, good-consistent, good-right}
 use Rattle.invariant.specs.Step.{step-accepted}
 use Rattle.effects.specs.View.{viewOf}
@@ -49,7 +48,7 @@ use Rattle.effects.specs.Cur.{Cur, cur-current}
 use Rattle.demands.specs.Accepted.{carried-says, accepted-carried}
 use Rattle.demands.specs.StepOk.{ready-good}
 use Rattle.demands.specs.StillCurrent.{created-cur}
-use Rattle.demands.specs.NothingLost.{Told, told-login, logged-in}
+use Rattle.demands.specs.NothingLost.{told-login, logged-in}
 use Rattle.demands.specs.Erased.{erased, erased-empty, erased-accepted}
 use Rattle.demands.specs.Runs.{Request, Disk, lentTo, outcomeOf, left, accepts, after}
 

@@ -7,3 +7,4 @@ pub mod ReadBack
 pub mod StillCurrent
 pub mod Erased
 pub mod Begins
+pub mod Eight

@@ -1,16 +1,13 @@
 -- Demand 2, exact, and read back. After an accepted 21 or 34, with or without a move, and any calls that do not name that file, call 33
 -- through the FCB that the write handed back, with r0 to r2 alone set to that record, gives the bytes that were written.
 use mathlib.Core.Path.{_≡_, refl, ap, sym, _∙_, subst}
-use mathlib.Core.Logic.{_⊎_, inl, inr}
-use mathlib.Core.Bool.{Bool, true, false, cond}
+use mathlib.Core.Bool.{true, false}
 use mathlib.Core.List.{List, [], _∷_}
-use Prim.Native.Nat.{ℕ, _+_, _*_, _%_, _≤_, _<_}
+use Prim.Native.Nat.{ℕ, _+_, _%_, _≤_, _<_}
 use native.Mathlib.Omega.{arith}
-use lib.Dec.{eqb}
-use lib.ListN.{length, getD, set, length-set}
+use lib.ListN.{length, getD, set}
 use lib.Seq.{getD-set-same, getD-set-other}
-use borrow.Author.Tests.{eqb-true, ne-eqb}
-use Rattle.lists.specs.Cases.{split, bool-cases, eq-or-ne, clash, not-both}
+use Rattle.lists.specs.Cases.{split, eq-or-ne, clash, not-both}
 use Rattle.lists.specs.Tests.{_or_}
 use Rattle.format.specs.Diskette.{Bytes, Geometry, Sound, recordBytes}
 use Rattle.format.specs.Entries.{userOf, extentOf, named}
@@ -18,7 +15,7 @@ use Rattle.format.specs.Fcb.{fcbBytes}
 use Rattle.names.specs.Laws.{like-at}
 use Rattle.model.specs.declared.Asked.{Asked}
 use Rattle.model.specs.declared.Session.{Session}
-use Rattle.model.specs.Lent.{Lent, Outcome, ended, withUser}
+use Rattle.model.specs.Lent.{Lent, Outcome}
 use Rattle.model.specs.Naming.{names}
 use Rattle.model.specs.Target.{extents, targetExtent, targetRecord}
 use Rattle.model.specs.Table.{oneOf, usesFcb}
@@ -28,7 +25,7 @@ use Rattle.fields.specs.Naming.{named-user, named-like}
 use Rattle.table.specs.Own.{Call, call13, call15, call16, call17, call18, call19, call20, call21, call22, call23, call32, call33, call34, call35, call36, call46, call98}
 use Rattle.table.specs.Facts.{Own, Ready}
 use Rattle.table.specs.Carried.{Leaves, carriedBy, effect-is}
-use Rattle.table.specs.Total.{CarriedOut, InRange, total, step-range}
+use Rattle.table.specs.Total.{InRange, total, step-range}
 use Rattle.invariant.specs.Good.{Good}
 use Rattle.invariant.specs.Step.{step-good}
 use Rattle.effects.specs.View.{viewOf, Names}

@@ -1,21 +1,19 @@
 -- What every call does to what it does not name, to the bytes of the image, and to the book: one record, for all seventeen calls and for
 -- calls that are refused.
 use mathlib.Core.Path.{_≡_, refl, ap, sym, _∙_, subst}
-use mathlib.Core.Logic.{_⊎_, inl, inr}
-use mathlib.Core.Bool.{Bool, true, false, cond}
-use mathlib.Core.List.{List, [], _∷_}
-use Prim.Native.Nat.{ℕ, _≤_, _<_}
-use native.Mathlib.Omega.{arith}
+use mathlib.Core.Logic.{inl}
+use mathlib.Core.Bool.{true, false}
+use mathlib.Core.List.{[], _∷_}
+use Prim.Native.Nat.{ℕ}
 use lib.Dec.{eqb}
 use lib.ListN.{length}
-use borrow.Author.Tests.{eq-eqb, ne-eqb}
+use borrow.Author.Tests.{eq-eqb}
 use Rattle.lists.specs.Cases.{split, bool-cases, not-both, clash}
-use Rattle.lists.specs.Tests.{_and_, _or_, and-both, or-left, or-right}
+use Rattle.lists.specs.Tests.{_and_, _or_, and-both, or-left}
 use Rattle.format.specs.Diskette.{Bytes, Geometry, Sound}
-use Rattle.format.specs.Entries.{entryAt, withEntry, entryBytes, slotOf, extentOf, named, findEmpty}
-use Rattle.format.specs.Notes.{noteAt, freshNote, freshMap, freedMap}
+use Rattle.format.specs.Entries.{slotOf, named, findEmpty}
+use Rattle.format.specs.Notes.{noteAt, freshMap, freedMap}
 use Rattle.format.specs.Fcb.{fcbBytes}
-use Rattle.format.specs.Found.{numberOf}
 use Rattle.format.specs.declared.Found.the-variants.{At}
 use Rattle.names.specs.Laws.{like-intro}
 use Rattle.notes.specs.Right.{fresh-at, freed-at}
@@ -25,22 +23,22 @@ use Rattle.model.specs.declared.Session.{Session}
 use Rattle.model.specs.Lent.{Lent, rowsOf, Outcome}
 use Rattle.model.specs.Naming.{names}
 use Rattle.model.specs.Entering.{madeRow}
-use Rattle.model.specs.Target.{targetRecord, targetSlot, presentEntry}
+use Rattle.model.specs.Target.{targetRecord, targetSlot}
 use Rattle.model.specs.Table.{oneOf, usesFcb}
 use Rattle.model.specs.Calls.{loggedIn, freed, userSet, openedAt, opened, closedAt, closed, foundAt, searched, deletes, deleted, createdAt, created, renamed, sized, positioned, space, read, written}
 use Rattle.model.specs.Step.{effect, step}
 use Rattle.fields.specs.Making.{length-madeRow, user-made, name-made}
 use Rattle.fields.specs.Naming.{named-used, named-intro}
 use Rattle.table.specs.Own.{Call, call13, call15, call16, call17, call18, call19, call20, call21, call22, call23, call32, call33, call34, call35, call36, call46, call98}
-use Rattle.table.specs.Facts.{Fits, Closes, Makes, Renames, Own, Ready, AcceptedCall}
+use Rattle.table.specs.Facts.{Fits, Closes, Makes, Renames, Own, Ready}
 use Rattle.table.specs.Carried.{carriedBy, effect-is}
-use Rattle.table.specs.Total.{RefusedBy, CarriedOut, total}
+use Rattle.table.specs.Total.{CarriedOut, total}
 use Rattle.invariant.specs.Good.{Good, good-of}
 use Rattle.invariant.specs.Calls.{GoodOutcome, carried-good}
-use Rattle.effects.specs.View.{viewOf, Names}
+use Rattle.effects.specs.View.{viewOf}
 use Rattle.effects.specs.Effect.{Effect, Keeps, nothing-done, nothing-kept}
 use Rattle.effects.specs.Where.{Frame, NoRecord, OneRecord, one-more}
-use Rattle.effects.specs.Book.{Book, nothingHeld, settledBy, acceptedAnswer, entryBefore, closedBook, movedBook, deletedBook, writtenBook, bookBy, bookStep}
+use Rattle.effects.specs.Book.{Book, nothingHeld, settledBy, acceptedAnswer, closedBook, movedBook, deletedBook, writtenBook, bookBy, bookStep}
 use Rattle.effects.specs.Tracks.{Tracks, fresh-tracks, freed-tracks}
 use Rattle.effects.specs.Change.{Change, asItWas, no-change, as-change}
 use Rattle.effects.specs.Closed.{byName, closed-change}

@@ -1,19 +1,16 @@
 -- For those who build above the calls: the FCB handed back by an accepted 16, 20, 21, 33 or 34 is current under the session handed back,
 -- and so is that of an accepted 15 or 22 whose cr is at most 128.
 use mathlib.Core.Path.{_≡_, refl, ap, sym, _∙_, subst}
-use mathlib.Core.Bool.{Bool, true, false}
+use mathlib.Core.Bool.{true, false}
 use mathlib.Core.List.{[], _∷_}
-use Prim.Native.Nat.{ℕ, _≤_, _<_}
-use native.Mathlib.Omega.{arith}
-use lib.ListN.{length}
+use Prim.Native.Nat.{ℕ, _≤_}
 use Rattle.lists.specs.Cases.{not-both, clash}
 use Rattle.lists.specs.Tests.{_or_}
 use Rattle.format.specs.Diskette.{Bytes, Geometry, Sound}
-use Rattle.format.specs.Entries.{entryAt, exOf, findEmpty}
+use Rattle.format.specs.Entries.{entryAt, exOf}
 use Rattle.format.specs.Fcb.{crOf, current}
 use Rattle.format.specs.FoundLaws.{FoundAt}
 use Rattle.format.specs.declared.Found.the-variants.{At}
-use Rattle.names.specs.Laws.{like-intro}
 use Rattle.rows.specs.Entries.{entry-stored}
 use Rattle.rows.specs.Find.{file-says, empty-says}
 use Rattle.model.specs.declared.Session.{Session}
@@ -21,13 +18,12 @@ use Rattle.model.specs.Lent.{Lent, rowsOf, Outcome}
 use Rattle.model.specs.Entering.{madeRow}
 use Rattle.model.specs.Target.{presentEntry}
 use Rattle.model.specs.Table.{oneOf, askedEntry}
-use Rattle.model.specs.Calls.{openedAt, opened, closedAt, closed, createdAt, created, read, written}
-use Rattle.model.specs.Step.{step}
+use Rattle.model.specs.Calls.{openedAt, opened, closedAt, closed, createdAt, created}
 use Rattle.fields.specs.Fine.{fine-made}
 use Rattle.fields.specs.Making.{length-madeRow, user-made}
 use Rattle.fields.specs.Naming.{file-user, file-used}
 use Rattle.table.specs.Own.{Call, call13, call15, call16, call17, call18, call19, call20, call21, call22, call23, call32, call33, call34, call35, call36, call46, call98}
-use Rattle.table.specs.Facts.{Fits, Opens, Closes, Makes, Own, Ready}
+use Rattle.table.specs.Facts.{Fits, Opens, Closes, Makes, Own}
 use Rattle.table.specs.Carried.{carriedBy, effect-is}
 use Rattle.invariant.specs.Good.{Good}
 use Rattle.invariant.specs.Step.{step-accepted}
