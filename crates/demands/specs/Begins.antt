@@ -254,8 +254,10 @@ module _ {G : Geometry} (S : Sound G) (some : 0 < G .entries) (size : ℕ) (is :
       let first = erased-accepted S size is d login image map range (a .number) (a .fcb) (a .buffer) in
       let t = told-login S d login (a .number) first in
       let o = logged-in G d login (a .number) first in
-      let second = made-on (after G d login) (ap (λ (x : Outcome). x .lent .image) o ∙ image) (t .good) (t .range) make b drive name ex in
-      (first, second,
-      make-then-write S (after G d login) make (b .number) second cr (G .area) (S .area-below)
-      (ap (λ (x : Outcome). noteAt (x .lent .map) (G .area)) o ∙ ap (λ (i : Bytes). noteAt (freshMap G (entryAt G i)) (G .area)) image ∙ first-free)
-      write (c .number) same (c .buffer))
+      let second = made-on (after G d login) (ap (λ (x : Outcome). x .lent .image) o ∙ image) (t .good) (t .range) make b drive name ex in (
+        first,
+        second,
+        make-then-write S (after G d login) make (b .number) second cr (G .area) (S .area-below)
+            (ap (λ (x : Outcome). noteAt (x .lent .map) (G .area)) o ∙ ap (λ (i : Bytes). noteAt (freshMap G (entryAt G i)) (G .area)) image ∙ first-free)
+            write (c .number) same (c .buffer),
+      )
