@@ -19,10 +19,11 @@ pub fn clear_interface(row: [u8; 32]) -> [u8; 32]
     ensures { λ r. ⌜ r ≡ interfaceCleared row ⌝ }
 {
     let mut r = row;
-    r[5] = row[5] % 128;
-    r[6] = row[6] % 128;
-    r[7] = row[7] % 128;
-    r[8] = row[8] % 128;
+    let mut i = 5;
+    while i < 9 {
+        r[i] = r[i] % 128;
+        i += 1;
+    }
     r
 }
 

@@ -1,20 +1,20 @@
 -- Example e: an erased disk, on which every entry begins with E5H. It is consistent, nothing is listed on it, and after a log-in all
 -- blocks past the directory are free.
-use mathlib.Core.Path.{_≡_, refl, sym, ap, subst, _∙_}
+use mathlib.Core.Path.{_≡_, refl, sym, subst, _∙_}
 use mathlib.Core.Bool.{true, false}
-use mathlib.Core.List.{List, [], _∷_}
+use mathlib.Core.List.{[], _∷_}
 use Prim.Native.Nat.{ℕ, _+_, _-_, _*_, _≤_, _<_}
 use native.Mathlib.Omega.{arith}
 use lib.ListN.{length, getD, replicate, getD-replicate, length-replicate}
-use borrow.Author.Tests.{lt-leb, eq-eqb, ne-eqb, lt-ltb, le-ltb}
+use borrow.Author.Tests.{lt-leb, eq-eqb, lt-ltb, le-ltb}
 use Rattle.lists.specs.Cases.{split, bool-cases, lt-or-le, not-both, clash}
 use Rattle.lists.specs.Tests.{_or_}
 use Rattle.lists.specs.Splice.{part, splice, getD-part, part-splice-same}
 use Rattle.lists.specs.Count.{count-from}
 use Rattle.format.specs.Diskette.{Bytes, Geometry, Sound, imageBytes, recordBytes, eightInch}
 use Rattle.format.specs.Entries.{Rows, entryBytes, entryPlace, entryAt, userOf, empty, used}
-use Rattle.format.specs.Consistent.{consistentRows, consistent}
-use Rattle.format.specs.Notes.{freeNote, areaNote, isListed, freshNote, freshMap, isFree, freeCount}
+use Rattle.format.specs.Consistent.{consistent}
+use Rattle.format.specs.Notes.{isListed, freshNote, freshMap, isFree, freeCount}
 use Rattle.format.specs.Fcb.{fcbBytes}
 use Rattle.disk.specs.Eight.{eight-sound}
 use Rattle.rows.specs.Entries.{entry-fits}
@@ -25,14 +25,13 @@ use Rattle.notes.specs.Right.{length-fresh, fresh-at, fresh-right}
 use Rattle.model.specs.declared.Asked.{Asked}
 use Rattle.model.specs.declared.Session.{Session}
 use Rattle.model.specs.Codes.{aOf, hOf}
-use Rattle.model.specs.declared.Code.the-variants.{Accepted}
-use Rattle.model.specs.Lent.{Lent, lend, rowsOf, Outcome, ended}
+use Rattle.model.specs.Lent.{lend, Outcome, ended}
 use Rattle.model.specs.Entering.{threeBytes}
 use Rattle.model.specs.Table.{oneOf, usesFcb}
 use Rattle.model.specs.Calls.{done, loggedIn, space}
 use Rattle.model.specs.Step.{step}
 use Rattle.table.specs.Own.{call13, call46}
-use Rattle.table.specs.Facts.{Fits, Ready}
+use Rattle.table.specs.Facts.{Ready}
 use Rattle.table.specs.Total.{ask, step-carried}
 
 pub record Erased (G : Geometry) (img : Bytes) : Type 0 where
@@ -49,11 +48,11 @@ all-erased {G} S size is = record {
 }
 
 module _ (G : Geometry) (img : Bytes) (erased : Erased G img) where
-  erased-empty : (e : ℕ) → e < G .entries → empty (entryAt G img e) ≡ true
+  pub erased-empty : (e : ℕ) → e < G .entries → empty (entryAt G img e) ≡ true
   unfolding empty
   erased-empty e h = eq-eqb _ _ (erased .void e h)
 
-  erased-unused : (e : ℕ) → e < G .entries → used (entryAt G img e) ≡ false
+  pub erased-unused : (e : ℕ) → e < G .entries → used (entryAt G img e) ≡ false
   unfolding used
   erased-unused e h = lt-leb (userOf (entryAt G img e)) 15 (omega (arith, erased .void e h))
 
@@ -139,9 +138,9 @@ module _ (G : Geometry) (img : Bytes) (long : length img ≡ imageBytes G) (righ
   unfolding loggedIn
   login-step argument = step-carried G (ask 13 argument) (lend img map fcb buffer) s call13 login-ready tt
 
-  space-ready : Ready G 46 (lend img (freshMap G (entryAt G img)) fcb buffer) (ended s)
-  unfolding usesFcb oneOf _or_
-  space-ready = record {
+  -- after it every call finds image and map right
+  pub logged-ready : (n : ℕ) → (usesFcb n ≡ true → getD fcb 0 0 ≤ 1) → Ready G n (lend img (freshMap G (entryAt G img)) fcb buffer) (ended s)
+  logged-ready n drive = record {
     fits = record {
       image-long = long;
       map-long = length-fresh G (entryAt G img);
@@ -150,7 +149,7 @@ module _ (G : Geometry) (img : Bytes) (long : length img ≡ imageBytes G) (righ
       user-low = fit .user-low;
       place-low = omega arith;
     };
-    drive = λ u. clash (sym u);
+    drive = drive;
     image-right = right;
     map-right = λ ne. fresh-right G (entryAt G img);
   }
@@ -158,8 +157,9 @@ module _ (G : Geometry) (img : Bytes) (long : length img ≡ imageBytes G) (righ
   -- and 46 then answers eight times the free notes of the fresh map
   pub space-step : (argument : ℕ) → step G (ask 46 argument) (lend img (freshMap G (entryAt G img)) fcb buffer) (ended s)
       ≡ done 0 s (lend img (freshMap G (entryAt G img)) fcb (splice buffer 0 (threeBytes (G .perBlock * freeCount G (freshMap G (entryAt G img))))))
-  unfolding space
-  space-step argument = step-carried G (ask 46 argument) (lend img (freshMap G (entryAt G img)) fcb buffer) (ended s) call46 space-ready tt
+  unfolding space usesFcb oneOf _or_
+  space-step argument =
+      step-carried G (ask 46 argument) (lend img (freshMap G (entryAt G img)) fcb buffer) (ended s) call46 (logged-ready 46 (λ u. clash (sym u))) tt
 
 -- a call after another: on what that left, with the session that it left
 abbrev pub next : Geometry → Asked → Outcome → Outcome

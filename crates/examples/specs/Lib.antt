@@ -4,3 +4,6 @@ pub mod Random
 pub mod Numbers
 pub mod Pattern
 pub mod Slots
+pub mod Examples
+pub mod OneFile
+pub mod Useless

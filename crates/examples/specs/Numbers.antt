@@ -1,10 +1,10 @@
 -- Examples g and h: the numbers that 35 and 36 put into r0 to r2.
-use mathlib.Core.Path.{_≡_, refl, sym, ap, subst, _∙_}
+use mathlib.Core.Path.{_≡_, subst}
 use mathlib.Core.Bool.{Bool, true, false}
 use mathlib.Core.List.{[], _∷_}
 use Prim.Native.Nat.{ℕ, _+_, _*_, _≤_, _<_}
 use native.Mathlib.Omega.{arith}
-use lib.ListN.{length, getD}
+use lib.ListN.{length}
 use borrow.Author.Tests.{eqb-true}
 use Rattle.lists.specs.Cases.{split, bool-cases, not-both}
 use Rattle.lists.specs.Tests.{and-left}
@@ -12,8 +12,8 @@ use Rattle.lists.specs.Below.{all-at}
 use Rattle.lists.specs.Splice.{part, splice, part-splice-same}
 use Rattle.format.specs.Diskette.{Bytes, Geometry}
 use Rattle.format.specs.Names.{nameRight}
-use Rattle.format.specs.Entries.{exOf, s2Of, rcOf, userOf, extentOf, countIn, named, findNamed}
-use Rattle.format.specs.Consistent.{entryRight, consistentRows, consistent}
+use Rattle.format.specs.Entries.{rcOf, userOf, extentOf, countIn, named, findNamed}
+use Rattle.format.specs.Consistent.{consistentRows, consistent}
 use Rattle.format.specs.Fcb.{crOf}
 use Rattle.format.specs.Found.{isFound}
 use Rattle.format.specs.FoundLaws.{FoundAt, is-found, not-found, none-says}
@@ -61,12 +61,11 @@ position-256 G argument l s ready ext cr =
     (position-gives G argument l s ready record { ex = omega arith; s2 = omega arith; cr = omega arith })
 
 -- ---- 35: the largest of 128 × extent + rc over the name's entries
-size-gives : (G : Geometry) (argument : ℕ) (l : Lent) (s : Session) → Ready G 35 l s → Sizes G l s
-    → Gives G 35 argument l s (threeBytes (fileSize G (rowsOf G l) (named false (s .user) (l .fcb) 1)))
+pub size-step : (G : Geometry) (argument : ℕ) (l : Lent) (s : Session) → Ready G 35 l s → Sizes G l s
+    → step G (ask 35 argument) l s
+    ≡ done 0 s (lend (l .image) (l .map) (splice (l .fcb) 33 (threeBytes (fileSize G (rowsOf G l) (named false (s .user) (l .fcb) 1)))) (l .buffer))
 unfolding sized
-size-gives G argument l s ready p =
-    gives-three G 35 argument l s (fileSize G (rowsOf G l) (named false (s .user) (l .fcb) 1)) (ready .fits .fcb-long)
-    (step-carried G (ask 35 argument) l s call35 ready p)
+size-step G argument l s ready p = step-carried G (ask 35 argument) l s call35 ready p
 
 -- an entry of the name, with this extent and count
 pub record HasEntry (G : Geometry) (l : Lent) (s : Session) (ext count : ℕ) : Type 0 where
@@ -76,11 +75,11 @@ pub record HasEntry (G : Geometry) (l : Lent) (s : Session) (ext count : ℕ) : 
   pub extent : extentOf (rowsOf G l entry) ≡ ext
   pub counted : rcOf (rowsOf G l entry) ≡ count
 
-entry-size : (G : Geometry) (l : Lent) (s : Session) (ext count : ℕ) (h : HasEntry G l s ext count) → sizeOf (rowsOf G l (h .entry)) ≡ 128 * ext + count
+pub entry-size : (G : Geometry) (l : Lent) (s : Session) (ext count : ℕ) (h : HasEntry G l s ext count) → sizeOf (rowsOf G l (h .entry)) ≡ 128 * ext + count
 unfolding sizeOf countIn
 entry-size G l s ext count h = rw (h .extent, h .counted)
 
-some-entry : (G : Geometry) (l : Lent) (s : Session) (ext count : ℕ) → HasEntry G l s ext count → FoundAt (findNamed G (rowsOf G l) false (s .user) (l .fcb) 1 0)
+pub some-entry : (G : Geometry) (l : Lent) (s : Session) (ext count : ℕ) → HasEntry G l s ext count → FoundAt (findNamed G (rowsOf G l) false (s .user) (l .fcb) 1 0)
 unfolding findNamed
 some-entry G l s ext count h =
     split (bool-cases (isFound (findNamed G (rowsOf G l) false (s .user) (l .fcb) 1 0))) (λ t. is-found _ t)
@@ -103,4 +102,5 @@ size-largest G argument l s ready name h =
     let most = size-high G (rowsOf G l) picks 262144 (entry-high G l s (ready .image-right) (ready .fits .user-low)) in
     let q : fileSize G (rowsOf G l) (named false (s .user) (l .fcb) 1) ≡ 262144 = omega (arith, entry-size G l s 2047 128 h) in
     subst (λ (k : ℕ). Gives G 35 argument l s (threeBytes k)) q
-    (size-gives G argument l s ready record { name = name; some = some-entry G l s 2047 128 h })
+    (gives-three G 35 argument l s (fileSize G (rowsOf G l) picks) (ready .fits .fcb-long)
+    (size-step G argument l s ready record { name = name; some = some-entry G l s 2047 128 h }))

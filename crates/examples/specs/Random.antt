@@ -1,11 +1,13 @@
 -- Example f: the random record of 33 and 34.
-use mathlib.Core.Path.{_≡_, refl, ap, _∙_}
-use mathlib.Core.Bool.{true, false}
-use mathlib.Core.List.{[], _∷_}
-use Prim.Native.Nat.{ℕ, _+_, _*_, _/_, _%_, _≤_, _<_}
+use mathlib.Core.Path.{_≡_, refl, sym, subst, _∙_}
+use mathlib.Core.Bool.{true}
+use Prim.Native.Nat.{ℕ, _+_, _*_, _%_}
 use native.Mathlib.Omega.{arith}
+use lib.Dec.{eqb}
 use lib.ListN.{getD}
-use borrow.Author.Tests.{lt-ltb}
+use borrow.Author.Tests.{lt-ltb, eqb-true}
+use Rattle.lists.specs.Cases.{split}
+use Rattle.lists.specs.Tests.{or-cases}
 use Rattle.format.specs.Diskette.{Bytes, Geometry}
 use Rattle.format.specs.Fcb.{randomOf}
 use Rattle.model.specs.declared.Session.{Session}
@@ -14,10 +16,10 @@ use Rattle.model.specs.declared.Verdict.the-variants.{Refused}
 use Rattle.model.specs.Codes.{aOf, hOf}
 use Rattle.model.specs.Lent.{Lent}
 use Rattle.model.specs.Target.{isRandom, targetExtent, targetRecord}
-use Rattle.model.specs.Table.{oneOf, verdict}
+use Rattle.model.specs.Table.{verdict}
 use Rattle.model.specs.Step.{refused, step}
-use Rattle.table.specs.First.{_&_, here}
-use Rattle.table.specs.Own.{call33, call34, at-one}
+use Rattle.table.specs.First.{here}
+use Rattle.table.specs.Own.{call33, call34}
 use Rattle.table.specs.Facts.{Ready}
 use Rattle.table.specs.Accept.{random-extent}
 use Rattle.table.specs.Refuse.{random-over}
@@ -43,12 +45,14 @@ six : (G : Geometry) (n argument : ℕ) (l : Lent) (s : Session) → step G (ask
 unfolding aOf hOf
 six G n argument l s q = record { refuses = q; is-a = rw q; is-h = rw q }
 
-pub random-six : (G : Geometry) (n argument : ℕ) (l : Lent) (s : Session) → oneOf n (33 ∷ 34 ∷ []) ≡ true → Ready G n l s → RandomIs (l .fcb) 0 0 4 → Six G n argument l s
+pub random-six : (G : Geometry) (n argument : ℕ) (l : Lent) (s : Session) → isRandom n ≡ true → Ready G n l s → RandomIs (l .fcb) 0 0 4 → Six G n argument l s
 random-six G n argument l s which ready r =
     let over = lt-ltb 262143 (randomOf (l .fcb)) (omega (arith, random-is (l .fcb) 0 0 4 r)) in
-    at-one (λ (n : ℕ). Ready G n l s → Six G n argument l s) n (33 ∷ 34 ∷ []) which
-    ((λ p. six G 33 argument l s (step-refused G (ask 33 argument) l s call33 BadRecord p (here over refl)))
-    & (λ p. six G 34 argument l s (step-refused G (ask 34 argument) l s call34 BadRecord p (here over refl))) & tt) ready
+    split (or-cases (eqb n 33) (eqb n 34) which)
+    (λ e. subst (λ (n : ℕ). Ready G n l s → Six G n argument l s) (sym (eqb-true n 33 e))
+    (λ p. six G 33 argument l s (step-refused G (ask 33 argument) l s call33 BadRecord p (here over refl))) ready)
+    (λ e. subst (λ (n : ℕ). Ready G n l s → Six G n argument l s) (sym (eqb-true n 34 e))
+    (λ p. six G 34 argument l s (step-refused G (ask 34 argument) l s call34 BadRecord p (here over refl))) ready)
 
 -- 262,143 is the last that is taken: record 127 of extent 2,047
 pub record Last (G : Geometry) (n argument : ℕ) (l : Lent) (s : Session) : Type 0 where

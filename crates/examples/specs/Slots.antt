@@ -1,20 +1,19 @@
 -- Example j: which blocks a slot may list. A block is put into a slot of a used entry of a consistent image.
-use mathlib.Core.Path.{_≡_, refl, sym, ap, _∙_}
+use mathlib.Core.Path.{_≡_, sym, _∙_}
 use mathlib.Core.Logic.{_⊎_, inl, inr}
 use mathlib.Core.Bool.{true, false}
 use Prim.Native.Nat.{ℕ, _+_, _≤_, _<_}
 use native.Mathlib.Omega.{arith}
-use lib.ListN.{length, getD, set, length-set}
+use lib.ListN.{length, set, length-set}
 use lib.Seq.{getD-set-same, getD-set-other}
 use Rattle.lists.specs.Cases.{split, eq-or-ne, not-both, refute}
 use Rattle.format.specs.Diskette.{Bytes, Geometry, Sound, imageBytes}
-use Rattle.format.specs.Names.{nameRight}
-use Rattle.format.specs.Entries.{Rows, entryBytes, entryAt, withEntry, slotCount, slotOf, userOf, empty, used}
-use Rattle.format.specs.Consistent.{consistentRows, consistent}
+use Rattle.format.specs.Entries.{Rows, entryAt, withEntry, slotCount, slotOf, userOf, used}
+use Rattle.format.specs.Consistent.{consistent}
 use Rattle.format.specs.Notes.{isListed}
 use Rattle.names.specs.Laws.{like-intro, right-cong}
 use Rattle.rows.specs.Entries.{length-entryAt, entry-stored, entry-left}
-use Rattle.consistency.specs.Facts.{Numbers, Fine, Stands, SameFile, Consistent}
+use Rattle.consistency.specs.Facts.{Fine, Stands, SameFile, Consistent}
 use Rattle.consistency.specs.Listed.{somewhere-listed}
 use Rattle.consistency.specs.Reflect.{consistent-facts, facts-consistent, numbers-elim, numbers-intro}
 use Rattle.fields.specs.Agree.{Agree, name-cong, numbers-cong, used-cong, empty-cong, same-file, same-name}

@@ -1,11 +1,13 @@
 -- A list by its elements, the loop that fills one, and the loop that changes every element in its place.
 use mathlib.Core.Path.{_≡_, refl, ap, sym, _∙_}
+use mathlib.Core.Logic.{inl, inr}
 use mathlib.Core.List.{List, [], _∷_, _++_}
-use Prim.Native.Nat.{ℕ, zero, suc, _+_, _≤_, _<_}
+use Prim.Native.Nat.{ℕ, zero, suc, _+_, _-_, _≤_, _<_}
 use native.Mathlib.Omega.{arith}
 use lib.ListN.{getD, set, length, replicate, length-append, length-set, List·getD-append}
 use lib.Seq.{getD-set-same, getD-set-other, ext-getD, getD-at}
 use Rattle.lists.specs.Cases.{lt-or-le, split}
+use Rattle.lists.specs.Splice.{splice, length-splice, getD-splice-at, getD-splice-out}
 
 -- f 0, f 1, .., f (n - 1)
 unfoldable pub tab : ℕ → (ℕ → ℕ) → List ℕ
@@ -65,16 +67,36 @@ pub filled-changed : (g : ℕ → ℕ → ℕ) (old : List ℕ) (i : ℕ) (l : L
     → Filled (λ (k : ℕ). g k (getD old k 0)) old i l → Filled (λ (k : ℕ). g k (getD old k 0)) old (i + 1) (set l i v)
 filled-changed g old i l v h e u = filled-more (λ (k : ℕ). g k (getD old k 0)) old i l v h (e ∙ ap (g i) (u .left i (omega arith))) u
 
+-- elements that are right as they are, up to j
+pub filled-up : (f : ℕ → ℕ) (old : List ℕ) (i j : ℕ) (l : List ℕ) → i ≤ j → ((k : ℕ) → i ≤ k → k < j → getD old k 0 ≡ f k)
+    → Filled f old i l → Filled f old j l
+filled-up f old i j l h same g = record {
+  long = g .long;
+  done = λ k hk. split (lt-or-le k i) (λ w. g .done k w) (λ w. g .left k w ∙ same k w hk);
+  left = λ k hk. g .left k (omega arith);
+}
+
 -- a turn that changes nothing, since the element is right as it is
 pub filled-kept : (f : ℕ → ℕ) (old : List ℕ) (i : ℕ) (l : List ℕ) → getD old i 0 ≡ f i → Filled f old i l → Filled f old (i + 1) l
-filled-kept f old i l e g = record {
-  long = g .long;
-  done = λ k hk. split (lt-or-le k i) (λ w. g .done k w)
-      (λ w. let q : k ≡ i = omega arith in ap (λ (m : ℕ). getD l m 0) q ∙ g .left i (omega arith) ∙ e ∙ ap f (sym q));
-  left = λ k hk. g .left k (omega arith);
+filled-kept f old i l e g = filled-up f old i (i + 1) l (omega arith) (λ k a b. let q : k ≡ i = omega arith in rw q e) g
+
+-- several elements at once
+pub filled-splice : (f : ℕ → ℕ) (old : List ℕ) (i : ℕ) (l ys : List ℕ) → i + length ys ≤ length l
+    → ((k : ℕ) → k < length ys → getD ys k 0 ≡ f (i + k)) → Filled f old i l → Filled f old (i + length ys) (splice l i ys)
+filled-splice f old i l ys fits same g = record {
+  long = length-splice l i ys fits ∙ g .long;
+  done = λ k hk. split (lt-or-le k i)
+      (λ w. getD-splice-out l i ys fits k (inl w) ∙ g .done k w)
+      (λ w. let q : i + (k - i) ≡ k = omega arith in getD-splice-at l i ys fits k w hk ∙ same (k - i) (omega arith) ∙ ap f q);
+  left = λ k hk. getD-splice-out l i ys fits k (inr hk) ∙ g .left k (omega arith);
 }
 
 pub filled-all : (f : ℕ → ℕ) (old : List ℕ) (n i : ℕ) (l : List ℕ) → length old ≡ n → n ≤ i → Filled f old i l → l ≡ tab n f
 filled-all f old n i l e h g =
     let ll : length l ≡ n = g .long ∙ e in
     ext-getD 0 l (tab n f) (ll ∙ sym (length-tab n f)) (λ k b. g .done k (omega arith) ∙ sym (getD-tab n f k (omega arith)))
+
+-- a list filled with the elements of t is t
+pub filled-list : (t old : List ℕ) (i : ℕ) (l : List ℕ) → length t ≡ length old → length t ≤ i → Filled (λ (k : ℕ). getD t k 0) old i l → l ≡ t
+filled-list t old i l e h g =
+    let ll : length l ≡ length t = g .long ∙ sym e in ext-getD 0 l t ll (λ k b. g .done k (omega arith))

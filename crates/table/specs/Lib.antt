@@ -8,3 +8,4 @@ pub mod Refuse
 pub mod Carried
 pub mod Total
 pub mod Plans
+pub mod OwnStep

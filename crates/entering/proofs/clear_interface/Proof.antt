@@ -1,55 +1,55 @@
+-- `entering::clear_interface` meets its contract. The invariant: the bytes below i are the cleared row's, the others the row's.
+use mathlib.Core.Path.{_≡_}
+use Prim.Native.Nat.{_-_, _≤_}
+use native.Mathlib.Omega.{arith}
+use lib.ListN.{length, length-set}
 use borrow.Author.Needs.{needs}
+use Rattle.lists.specs.Tab.{Filled}
+use Rattle.format.specs.Entries.{entryBytes}
+use Rattle.model.specs.Entering.{interfaceByte}
+use Rattle.entering.specs.Rows.{cleared-start, cleared-more, cleared-all}
 use Rattle.entering.proofs.clear_interface.Statement.{statement}
 use Rattle.entering.proofs.clear_interface.Tie as tie
-use Rattle.entering.proofs.clear_interface.Reads as reads
-use Rattle.entering.proofs.clear_interface.Lts as lts
 
--- src/lib.rt:22:12
-array-read-r : tie.Need-array-read-r
-array-read-r c = search needs
+abbrev Inv-loop : tie.InvT-loop
+Inv-loop r₀ i₀ r i = Filled (interfaceByte r₀) r₀ i r × (5 ≤ i) × (i ≤ 9) × (length r ≡ entryBytes)
 
--- src/lib.rt:22:5
-array-write-r : tie.Need-array-write-r
-array-write-r c = search needs
+abbrev μ-loop : tie.MeasureT-loop
+μ-loop r₀ i₀ r i = 9 - i
 
--- src/lib.rt:23:12
-array-read-r-2 : tie.Need-array-read-r-2
-array-read-r-2 c = search needs
+loop-holds : tie.Need-loop-holds Inv-loop μ-loop
+loop-holds c = (cleared-start (c .args .row) (search needs), omega arith, omega arith, search needs)
 
--- src/lib.rt:23:5
-array-write-r-2 : tie.Need-array-write-r-2
-array-write-r-2 c = search needs
+array-read-r : tie.Need-array-read-r Inv-loop μ-loop
+array-read-r c = omega arith
 
--- src/lib.rt:24:12
-array-read-r-3 : tie.Need-array-read-r-3
-array-read-r-3 c = search needs
+array-write-r : tie.Need-array-write-r Inv-loop μ-loop
+array-write-r c = omega arith
 
--- src/lib.rt:24:5
-array-write-r-3 : tie.Need-array-write-r-3
-array-write-r-3 c = search needs
+add-i : tie.Need-add-i Inv-loop μ-loop
+add-i c = omega arith
 
--- src/lib.rt:25:12
-array-read-r-4 : tie.Need-array-read-r-4
-array-read-r-4 c = search needs
+loop-less : tie.Need-loop-less Inv-loop μ-loop
+loop-less c = omega arith
 
--- src/lib.rt:25:5
-array-write-r-4 : tie.Need-array-write-r-4
-array-write-r-4 c = search needs
+loop-again : tie.Need-loop-again Inv-loop μ-loop
+loop-again c =
+    let l = c .before .loop in
+    (cleared-more (c .before .before .args .row) (search needs) (l .i) (l .r) (omega arith) (omega arith) (l .inv .0), omega arith, omega arith, simp length-set (l .inv .3))
 
--- src/lib.rt:18:1
-returns : tie.Need-returns
-returns c = ?
+returns : tie.Need-returns Inv-loop μ-loop
+returns c = let l = c .before .loop in cleared-all (c .before .before .args .row) (search needs) (l .i) (l .r) (omega arith) (l .inv .0)
 
 pub clear-interface-spec : {M : Type 1} → statement M
 clear-interface-spec =
     tie.close
     (tie.spec
+    Inv-loop
+    μ-loop
+    loop-holds
     array-read-r
     array-write-r
-    array-read-r-2
-    array-write-r-2
-    array-read-r-3
-    array-write-r-3
-    array-read-r-4
-    array-write-r-4
+    add-i
+    loop-less
+    loop-again
     returns)

@@ -1,61 +1,63 @@
+-- `entering::made_row` meets its contract. The invariant: the bytes up to name byte i are the made row's, the others as they were.
+use mathlib.Core.Path.{_≡_, refl, sym}
+use Prim.Native.Nat.{_+_, _-_, _≤_}
+use native.Mathlib.Omega.{arith}
+use lib.ListN.{length, length-set}
+use Rattle.format.specs.Names.{nameBytes}
+use Rattle.format.specs.Entries.{entryBytes}
+use Rattle.model.specs.Entering.{madeRow}
+use Rattle.fields.specs.Making.{byte-made}
+use Rattle.entering.specs.Rows.{Made, made-start, made-more, made-all, blank-zero}
 use Rattle.entering.proofs.made_row.Statement.{statement}
 use Rattle.entering.proofs.made_row.Tie as tie
-use Rattle.entering.proofs.made_row.Reads as reads
-use Rattle.entering.proofs.made_row.Lts as lts
 
 abbrev Inv-loop : tie.InvT-loop
-Inv-loop user fcb r₀ i₀ r i = ?
+Inv-loop user fcb r₀ i₀ r i = Made (madeRow user fcb) r₀ (1 + i) r × (i ≤ nameBytes) × (length r ≡ entryBytes)
 
 abbrev μ-loop : tie.MeasureT-loop
-μ-loop user fcb r₀ i₀ r i = ?
+μ-loop user fcb r₀ i₀ r i = nameBytes - i
 
--- src/lib.rt:43:5
 array-write-r : tie.Need-array-write-r Inv-loop μ-loop
-array-write-r c = ?
+array-write-r c = omega arith
 
--- src/lib.rt:45:5
 loop-holds : tie.Need-loop-holds Inv-loop μ-loop
-loop-holds c = ?
+loop-holds c = (made-start (c .args .user) (c .args .fcb .now) _ refl refl, omega arith, refl)
 
--- src/lib.rt:46:24
 add-r : tie.Need-add-r Inv-loop μ-loop
-add-r c = ?
+add-r c = omega arith
 
--- src/lib.rt:46:20
 shared-slice-read-r : tie.Need-shared-slice-read-r Inv-loop μ-loop
-shared-slice-read-r c = ?
+shared-slice-read-r c = omega arith
 
--- src/lib.rt:46:11
 add-r-2 : tie.Need-add-r-2 Inv-loop μ-loop
-add-r-2 c = ?
+add-r-2 c = omega arith
 
--- src/lib.rt:46:9
 array-write-r-2 : tie.Need-array-write-r-2 Inv-loop μ-loop
-array-write-r-2 c = ?
+array-write-r-2 c = omega arith
 
--- src/lib.rt:47:9
 add-i : tie.Need-add-i Inv-loop μ-loop
-add-i c = ?
+add-i c = omega arith
 
--- src/lib.rt:45:5
 loop-less : tie.Need-loop-less Inv-loop μ-loop
-loop-less c = ?
+loop-less c = omega arith
 
--- src/lib.rt:45:5
 loop-again : tie.Need-loop-again Inv-loop μ-loop
-loop-again c = ?
+loop-again c =
+    let l = c .before .before .loop in
+    let a = c .before .before .before .args in
+    (made-more (madeRow (a .user) (a .fcb .now)) _ (l .r) (l .i) _ (omega arith) (sym (byte-made (a .user) (a .fcb .now) (l .i) (omega arith))) (l .inv .0), omega arith, simp length-set (l .inv .2))
 
--- src/lib.rt:49:13
 shared-slice-read-r-2 : tie.Need-shared-slice-read-r-2 Inv-loop μ-loop
-shared-slice-read-r-2 c = ?
+shared-slice-read-r-2 c = omega arith
 
--- src/lib.rt:49:5
 array-write-r-3 : tie.Need-array-write-r-3 Inv-loop μ-loop
-array-write-r-3 c = ?
+array-write-r-3 c = omega arith
 
--- src/lib.rt:38:1
 returns : tie.Need-returns Inv-loop μ-loop
-returns c = ?
+returns c =
+    let l = c .before .before .loop in
+    let a = c .before .before .before .args in
+    made-all (a .user) (a .fcb .now) _ refl refl (l .r) (l .i) (blank-zero (a .user)) (omega arith) (l .inv .0)
 
 pub made-row-spec : {M : Type 1} → statement M
 made-row-spec =

@@ -1,62 +1,66 @@
+-- `entering::renamed_row` meets its contract. The invariant: the bytes up to name byte i are the renamed row's, the others the row's.
+use mathlib.Core.Path.{_≡_, sym, _∙_}
+use Prim.Native.Nat.{_+_, _-_, _≤_}
+use native.Mathlib.Omega.{arith}
+use lib.ListN.{length, length-set}
+use borrow.Author.Needs.{needs}
+use Rattle.format.specs.Names.{nameBytes}
+use Rattle.format.specs.Entries.{entryBytes}
+use Rattle.model.specs.Entering.{renamedRow, renamedByte}
+use Rattle.fields.specs.Making.{byte-renamed}
+use Rattle.entering.specs.Rows.{Made, renamed-start, made-more, renamed-all}
 use Rattle.entering.proofs.renamed_row.Statement.{statement}
 use Rattle.entering.proofs.renamed_row.Tie as tie
-use Rattle.entering.proofs.renamed_row.Reads as reads
-use Rattle.entering.proofs.renamed_row.Lts as lts
-use Rattle.entering.proofs.renamed_byte.Reads as renamed-byte-reads
 
 abbrev Inv-loop : tie.InvT-loop
-Inv-loop fcb row r₀ i₀ r i = ?
+Inv-loop fcb row r₀ i₀ r i = Made (renamedRow fcb row) row (1 + i) r × (i ≤ nameBytes) × (length r ≡ entryBytes)
 
 abbrev μ-loop : tie.MeasureT-loop
-μ-loop fcb row r₀ i₀ r i = ?
+μ-loop fcb row r₀ i₀ r i = nameBytes - i
 
--- src/lib.rt:79:5
 loop-holds : tie.Need-loop-holds Inv-loop μ-loop
-loop-holds c = ?
+loop-holds c = let a = c .before .args in (renamed-start (a .fcb .now) (a .t2) (search needs), omega arith, search needs)
 
--- src/lib.rt:80:37
 add-renamed-byte : tie.Need-add-renamed-byte Inv-loop μ-loop
-add-renamed-byte c = ?
+add-renamed-byte c = omega arith
 
--- src/lib.rt:80:33
 array-read-renamed-byte : tie.Need-array-read-renamed-byte Inv-loop μ-loop
-array-read-renamed-byte c = ?
+array-read-renamed-byte c = omega arith
 
--- src/lib.rt:80:49
 add-renamed-byte-2 : tie.Need-add-renamed-byte-2 Inv-loop μ-loop
-add-renamed-byte-2 c = ?
+add-renamed-byte-2 c = omega arith
 
--- src/lib.rt:80:45
 shared-slice-read-renamed-byte : tie.Need-shared-slice-read-renamed-byte Inv-loop μ-loop
-shared-slice-read-renamed-byte c = ?
+shared-slice-read-renamed-byte c = omega arith
 
--- src/lib.rt:80:20
 renamed-byte-requires : tie.Need-renamed-byte-requires Inv-loop μ-loop
-renamed-byte-requires c κs = ?
+renamed-byte-requires c κs = search needs
 
--- src/lib.rt:80:11
 add-r : tie.Need-add-r Inv-loop μ-loop
-add-r c = ?
+add-r c = omega arith
 
--- src/lib.rt:80:9
 array-write-r : tie.Need-array-write-r Inv-loop μ-loop
-array-write-r c = ?
+array-write-r c = omega arith
 
--- src/lib.rt:81:9
 add-i : tie.Need-add-i Inv-loop μ-loop
-add-i c = ?
+add-i c = omega arith
 
--- src/lib.rt:79:5
 loop-less : tie.Need-loop-less Inv-loop μ-loop
-loop-less c = ?
+loop-less c = omega arith
 
--- src/lib.rt:79:5
 loop-again : tie.Need-loop-again Inv-loop μ-loop
-loop-again c = ?
+unfolding renamedByte
+loop-again c =
+    let l = c .before .before .before .loop in
+    let a = c .before .before .before .before .before .args in
+    let h : length (a .t2) ≡ 32 = search needs in
+    (made-more (renamedRow (a .fcb .now) (a .t2)) (a .t2) (l .r) (l .i) _ (omega arith) (c .renamed-byte .ensures ∙ sym (byte-renamed (a .fcb .now) (a .t2) h (l .i) (omega arith))) (l .inv .0), omega arith, simp length-set (l .inv .2))
 
--- src/lib.rt:73:1
 returns : tie.Need-returns Inv-loop μ-loop
-returns c = ?
+returns c =
+    let l = c .before .loop in
+    let a = c .before .before .before .args in
+    renamed-all (a .fcb .now) (a .t2) (search needs) (l .r) (l .i) (omega arith) (l .inv .0)
 
 pub renamed-row-spec : {M : Type 1} → statement M
 renamed-row-spec =
