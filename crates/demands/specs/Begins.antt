@@ -92,24 +92,8 @@ module _ {G : Geometry} (S : Sound G) (asked : Asked) (number : asked .number �
       record { fits = fits; drive = λ u. drive; image-right = good-consistent G (l .image) (l .map) g; map-right = λ q. good-right G (l .image) (l .map) g } writes)
 
 -- ---- a make, and a write through the FCB that it handed back
-makes-of : (G : Geometry) (argument : ℕ) (l : Lent) (s : Session) {n : ℕ} (c : Call n) → n ≡ 22 → Own G l s argument c → Makes G l s
-makes-of G argument l s call13 q o = absurd (omega arith)
-makes-of G argument l s call15 q o = absurd (omega arith)
-makes-of G argument l s call16 q o = absurd (omega arith)
-makes-of G argument l s call17 q o = absurd (omega arith)
-makes-of G argument l s call18 q o = absurd (omega arith)
-makes-of G argument l s call19 q o = absurd (omega arith)
-makes-of G argument l s call20 q o = absurd (omega arith)
-makes-of G argument l s call21 q o = absurd (omega arith)
-makes-of G argument l s call22 q o = o
-makes-of G argument l s call23 q o = absurd (omega arith)
-makes-of G argument l s call32 q o = absurd (omega arith)
-makes-of G argument l s call33 q o = absurd (omega arith)
-makes-of G argument l s call34 q o = absurd (omega arith)
-makes-of G argument l s call35 q o = absurd (omega arith)
-makes-of G argument l s call36 q o = absurd (omega arith)
-makes-of G argument l s call46 q o = absurd (omega arith)
-makes-of G argument l s call98 q o = absurd (omega arith)
+makes-of : (G : Geometry) (argument : ℕ) (l : Lent) (s : Session) (c : Call 22) → Own G l s argument c → Makes G l s
+makes-of G argument l s call22 o = o
 
 module _ {G : Geometry} (S : Sound G) (d : Disk) (q : Request) (number : q .asked .number ≡ 22) (accepted : accepts G d q ≡ true) (cr : crOf (q .fcb) < 128) where
   abbrev l : Lent
@@ -124,7 +108,9 @@ module _ {G : Geometry} (S : Sound G) (d : Disk) (q : Request) (number : q .aske
   drive = carried .facts .ready .drive (ap usesFcb number)
 
   makes : Makes G l (d .session)
-  makes = makes-of G (q .asked .argument) l (d .session) (carried .facts .call) number (carried .facts .own)
+  makes =
+      subst (λ (n : ℕ). (c : Call n) → Own G l (d .session) (q .asked .argument) c → Makes G l (d .session)) (sym number)
+      (makes-of G (q .asked .argument) l (d .session)) (carried .facts .call) (carried .facts .own)
 
   t : ℕ
   t = makes .entry .place

@@ -29,7 +29,8 @@ use Rattle.model.specs.Calls.{loggedIn, freed, userSet, openedAt, opened, close
 use Rattle.model.specs.Step.{effect, step}
 use Rattle.fields.specs.Making.{length-madeRow, user-made, name-made}
 use Rattle.fields.specs.Naming.{named-used, named-intro}
-use Rattle.table.specs.Own.{Call, call13, call15, call16, call17, call18, call19, call20, call21, call22, call23, call32, call33, call34, call35, call36, call46, call98}
+use Rattle.table.specs.Own.{Call, call13, call15, call16, call17, call18, call19, call20, call21, call22, call23, call32, call33, call34, call35, call36, call46, call98, at-one}
+use Rattle.table.specs.First.{_&_}
 use Rattle.table.specs.Facts.{Fits, Closes, Makes, Renames, Own, Ready}
 use Rattle.table.specs.Carried.{carriedBy, effect-is}
 use Rattle.table.specs.Total.{CarriedOut, total}
@@ -229,26 +230,20 @@ freed-settles : (G : Geometry) (l : Lent) (s : Session) → Tracks G nothingHeld
 unfolding freed
 freed-settles G l s = freed-tracks G (noteAt (l .map)) (noteAt (freedMap G (l .map))) (freed-at G (l .map))
 
-settled : (G : Geometry) (argument : ℕ) (l : Lent) (s : Session) {n : ℕ} (c : Call n) → oneOf n (13 ∷ 98 ∷ []) ≡ true
-    → acceptedAnswer n (carriedBy G argument l s c .answer) ≡ true → StepOk G n l s (carriedBy G argument l s c)
-unfolding loggedIn freed oneOf _or_
-settled G argument l s call13 z a = settles-ok G 13 l s (loggedIn G s l) a z refl (logged-in-tracks G l s)
-settled G argument l s call15 z a = clash (sym z)
-settled G argument l s call16 z a = clash (sym z)
-settled G argument l s call17 z a = clash (sym z)
-settled G argument l s call18 z a = clash (sym z)
-settled G argument l s call19 z a = clash (sym z)
-settled G argument l s call20 z a = clash (sym z)
-settled G argument l s call21 z a = clash (sym z)
-settled G argument l s call22 z a = clash (sym z)
-settled G argument l s call23 z a = clash (sym z)
-settled G argument l s call32 z a = clash (sym z)
-settled G argument l s call33 z a = clash (sym z)
-settled G argument l s call34 z a = clash (sym z)
-settled G argument l s call35 z a = clash (sym z)
-settled G argument l s call36 z a = clash (sym z)
-settled G argument l s call46 z a = clash (sym z)
-settled G argument l s call98 z a = settles-ok G 98 l s (freed G s l) a z refl (freed-settles G l s)
+module _ (G : Geometry) (argument : ℕ) (l : Lent) (s : Session) where
+  abbrev Settled : ℕ → Type 0
+  Settled n = (c : Call n) → acceptedAnswer n (carriedBy G argument l s c .answer) ≡ true → StepOk G n l s (carriedBy G argument l s c)
+
+  settled13 : Settled 13
+  unfolding loggedIn oneOf _or_
+  settled13 call13 a = settles-ok G 13 l s (loggedIn G s l) a refl refl (logged-in-tracks G l s)
+
+  settled98 : Settled 98
+  unfolding freed oneOf _or_
+  settled98 call98 a = settles-ok G 98 l s (freed G s l) a refl refl (freed-settles G l s)
+
+  settled : (n : ℕ) → oneOf n (13 ∷ 98 ∷ []) ≡ true → Settled n
+  settled n z = at-one Settled n (13 ∷ 98 ∷ []) z (settled13 & settled98 & tt)
 
 -- ---- every call
 not-login : (n : ℕ) → oneOf n (13 ∷ 98 ∷ []) ≡ false → n ≡ 13 → ⊥
@@ -271,7 +266,7 @@ module _ {G : Geometry} (S : Sound G) (asked : Asked) (l : Lent) (s : Session) w
       go : {n : ℕ} (k : Call n) → Ready G n l s → Own G l s (asked .argument) k → acceptedAnswer n (carriedBy G (asked .argument) l s k .answer) ≡ true
           → StepOk G n l s (carriedBy G (asked .argument) l s k)
       go {n} k r o a =
-          split (bool-cases (oneOf n (13 ∷ 98 ∷ []))) (λ z. settled G (asked .argument) l s k z a)
+          split (bool-cases (oneOf n (13 ∷ 98 ∷ []))) (λ z. settled G (asked .argument) l s n z k a)
           (λ z. carries-ok G n l s (carriedBy G (asked .argument) l s k) a
           (carried S (asked .argument) l s (r .fits) (ready-good r (not-login n z)) k z o a))
 

@@ -22,7 +22,8 @@ use Rattle.model.specs.Calls.{openedAt, opened, closedAt, closed, createdAt, cr
 use Rattle.fields.specs.Fine.{fine-made}
 use Rattle.fields.specs.Making.{length-madeRow, user-made}
 use Rattle.fields.specs.Naming.{file-user, file-used}
-use Rattle.table.specs.Own.{Call, call13, call15, call16, call17, call18, call19, call20, call21, call22, call23, call32, call33, call34, call35, call36, call46, call98}
+use Rattle.table.specs.First.{_&_}
+use Rattle.table.specs.Own.{Call, call15, call16, call20, call21, call22, call33, call34, at-one}
 use Rattle.table.specs.Facts.{Fits, Opens, Closes, Makes, Own}
 use Rattle.table.specs.Carried.{carriedBy, effect-is}
 use Rattle.invariant.specs.Good.{Good}
@@ -85,26 +86,36 @@ module _ {G : Geometry} (S : Sound G) (argument : ℕ) (l : Lent) (s : Session) 
   unfolding created createdAt
   created-current cr m = rw (m .entry .is) record { entry = m .entry .place; cur = created-cur cr m }
 
-  current-in : {n : ℕ} (c : Call n) → oneOf n (15 ∷ 16 ∷ 20 ∷ 21 ∷ 22 ∷ 33 ∷ 34 ∷ []) ≡ true → (oneOf n (15 ∷ 22 ∷ []) ≡ true → crOf (l .fcb) ≤ 128)
-      → Own G l s argument c → CurrentIn G (s .user) (carriedBy G argument l s c .lent)
+  -- by the number of the call
+  abbrev Leaves : ℕ → Type 0
+  Leaves n = (oneOf n (15 ∷ 22 ∷ []) ≡ true → crOf (l .fcb) ≤ 128) → (c : Call n) → Own G l s argument c → CurrentIn G (s .user) (carriedBy G argument l s c .lent)
+
+  leaves15 : Leaves 15
   unfolding oneOf _or_
-  current-in call13 z cr o = clash (sym z)
-  current-in call15 z cr o = opened-current (cr refl) o
-  current-in call16 z cr o = closed-current o
-  current-in call17 z cr o = clash (sym z)
-  current-in call18 z cr o = clash (sym z)
-  current-in call19 z cr o = clash (sym z)
-  current-in call20 z cr o = let k = reads-ok S 20 l s g f o in record { entry = k .entry; cur = k .cur }
-  current-in call21 z cr o = let k = written-ok S 21 l s g f o in record { entry = k .entry; cur = k .holds .cur }
-  current-in call22 z cr o = created-current (cr refl) o
-  current-in call23 z cr o = clash (sym z)
-  current-in call32 z cr o = clash (sym z)
-  current-in call33 z cr o = let k = reads-ok S 33 l s g f o in record { entry = k .entry; cur = k .cur }
-  current-in call34 z cr o = let k = written-ok S 34 l s g f o in record { entry = k .entry; cur = k .holds .cur }
-  current-in call35 z cr o = clash (sym z)
-  current-in call36 z cr o = clash (sym z)
-  current-in call46 z cr o = clash (sym z)
-  current-in call98 z cr o = clash (sym z)
+  leaves15 cr call15 o = opened-current (cr refl) o
+
+  leaves16 : Leaves 16
+  leaves16 cr call16 o = closed-current o
+
+  leaves20 : Leaves 20
+  leaves20 cr call20 o = let k = reads-ok S 20 l s g f o in record { entry = k .entry; cur = k .cur }
+
+  leaves21 : Leaves 21
+  leaves21 cr call21 o = let k = written-ok S 21 l s g f o in record { entry = k .entry; cur = k .holds .cur }
+
+  leaves22 : Leaves 22
+  unfolding oneOf _or_
+  leaves22 cr call22 o = created-current (cr refl) o
+
+  leaves33 : Leaves 33
+  leaves33 cr call33 o = let k = reads-ok S 33 l s g f o in record { entry = k .entry; cur = k .cur }
+
+  leaves34 : Leaves 34
+  leaves34 cr call34 o = let k = written-ok S 34 l s g f o in record { entry = k .entry; cur = k .holds .cur }
+
+  current-in : (n : ℕ) → oneOf n (15 ∷ 16 ∷ 20 ∷ 21 ∷ 22 ∷ 33 ∷ 34 ∷ []) ≡ true → Leaves n
+  current-in n z =
+      at-one Leaves n (15 ∷ 16 ∷ 20 ∷ 21 ∷ 22 ∷ 33 ∷ 34 ∷ []) z (leaves15 & leaves16 & leaves20 & leaves21 & leaves22 & leaves33 & leaves34 & tt)
 
 -- ---- any disk and call
 module _ {G : Geometry} (S : Sound G) (d : Disk) (q : Request) (accepted : accepts G d q ≡ true)
@@ -117,8 +128,8 @@ module _ {G : Geometry} (S : Sound G) (d : Disk) (q : Request) (accepted : accep
       let good = step-accepted S (q .asked) (lentTo d q) (d .session) c in
       let k : CurrentIn G (d .session .user) (outcomeOf G d q .lent) =
       subst (λ (o : Outcome). CurrentIn G (d .session .user) (o .lent)) (sym (c .is ∙ effect-is G (q .asked .argument) (lentTo d q) (d .session) (c .facts .call)))
-      (current-in S (q .asked .argument) (lentTo d q) (d .session) (c .facts .ready .fits) (ready-good (c .facts .ready) (other 13 refl)) (c .facts .call) call cr
-      (c .facts .own)) in
+      (current-in S (q .asked .argument) (lentTo d q) (d .session) (c .facts .ready .fits) (ready-good (c .facts .ready) (other 13 refl))
+      (q .asked .number) call cr (c .facts .call) (c .facts .own)) in
       let o = outcomeOf G d q .lent in
       record {
         place = k .entry;
