@@ -1,9 +1,8 @@
 -- A call was carried out exactly when its answer says so.
-use mathlib.Core.Path.{_≡_, refl, ap, sym, _∙_, subst}
-use mathlib.Core.Logic.{_⊎_, inl, inr}
+use mathlib.Core.Path.{_≡_, refl, ap, sym, _∙_}
 use mathlib.Core.Bool.{Bool, true, false, not, cond}
 use mathlib.Core.List.{List, [], _∷_}
-use Prim.Native.Nat.{ℕ, _%_, _≤_, _<_}
+use Prim.Native.Nat.{ℕ, _%_, _≤_}
 use native.Mathlib.Omega.{arith}
 use lib.Dec.{eqb}
 use borrow.Author.Tests.{eq-eqb, ne-eqb}
@@ -22,9 +21,8 @@ use Rattle.model.specs.Table.{oneOf}
 use Rattle.model.specs.Step.{refusedSession, step}
 use Rattle.table.specs.Own.{Call, call13, call15, call16, call17, call18, call19, call20, call21, call22, call23, call32, call33, call34, call35, call36, call46, call98, AtEach, at-one}
 use Rattle.table.specs.First.{_&_}
-use Rattle.table.specs.Facts.{Own}
-use Rattle.table.specs.Carried.{AnswersEntry, Answers, Done}
-use Rattle.table.specs.Refuse.{gives, Refuses, unlisted, parameter, disk, own, own-given}
+use Rattle.table.specs.Carried.{AnswersEntry, Done}
+use Rattle.table.specs.Refuse.{gives, Refuses, unlisted, parameter, disk, own}
 use Rattle.table.specs.Total.{RefusedBy, CarriedOut, total}
 use Rattle.effects.specs.Book.{acceptedAnswer}
 

@@ -1,28 +1,22 @@
 -- The demands speak of something: an erased disk is accepted by the log-in.
-use mathlib.Core.Path.{_≡_, refl, ap, sym, _∙_, subst}
-use mathlib.Core.Bool.{true, false}
-use mathlib.Core.List.{List}
-use Prim.Native.Nat.{ℕ, _+_, _*_, _≤_, _<_}
+use mathlib.Core.Path.{_≡_, refl, ap, sym, _∙_}
+use mathlib.Core.Bool.{true}
+use Prim.Native.Nat.{ℕ, _+_, _≤_, _<_}
 use native.Mathlib.Omega.{arith}
-use lib.ListN.{length, getD, replicate, getD-replicate, length-replicate}
+use lib.ListN.{length, replicate, getD-replicate, length-replicate}
 use borrow.Author.Tests.{eq-eqb}
 use Rattle.lists.specs.Cases.{clash, not-both}
 use Rattle.lists.specs.Tests.{_or_}
 use Rattle.lists.specs.Splice.{getD-part}
 use Rattle.format.specs.Diskette.{Bytes, Geometry, Sound, imageBytes, recordBytes}
-use Rattle.format.specs.Entries.{entryAt, entryPlace, entryBytes, userOf, empty, used}
+use Rattle.format.specs.Entries.{entryAt, entryPlace, entryBytes, empty, used}
 use Rattle.format.specs.Consistent.{consistent}
 use Rattle.format.specs.Fcb.{fcbBytes}
-use Rattle.consistency.specs.Facts.{Consistent}
 use Rattle.consistency.specs.Reflect.{facts-consistent, used-full}
 use Rattle.rows.specs.Entries.{entry-fits}
-use Rattle.model.specs.declared.Asked.{Asked}
-use Rattle.model.specs.declared.Session.{Session}
-use Rattle.model.specs.declared.Verdict.the-variants.{Passed}
-use Rattle.model.specs.Lent.{Lent}
 use Rattle.model.specs.Table.{usesFcb, oneOf, verdict}
 use Rattle.table.specs.Own.{call13}
-use Rattle.table.specs.Facts.{Fits, Ready}
+use Rattle.table.specs.Facts.{Ready}
 use Rattle.table.specs.Accept.{passes}
 use Rattle.table.specs.Total.{InRange, total-accepted}
 use Rattle.demands.specs.Accepted.{carried-says}

@@ -6,3 +6,5 @@ pub mod Reading
 pub mod ReadBack
 pub mod StillCurrent
 pub mod Erased
+pub mod Begins
+pub mod Eight

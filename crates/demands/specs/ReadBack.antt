@@ -1,16 +1,13 @@
 -- Demand 2, exact, and read back. After an accepted 21 or 34, with or without a move, and any calls that do not name that file, call 33
 -- through the FCB that the write handed back, with r0 to r2 alone set to that record, gives the bytes that were written.
 use mathlib.Core.Path.{_≡_, refl, ap, sym, _∙_, subst}
-use mathlib.Core.Logic.{_⊎_, inl, inr}
-use mathlib.Core.Bool.{Bool, true, false, cond}
+use mathlib.Core.Bool.{true, false}
 use mathlib.Core.List.{List, [], _∷_}
-use Prim.Native.Nat.{ℕ, _+_, _*_, _%_, _≤_, _<_}
+use Prim.Native.Nat.{ℕ, _+_, _%_, _≤_, _<_}
 use native.Mathlib.Omega.{arith}
-use lib.Dec.{eqb}
-use lib.ListN.{length, getD, set, length-set}
+use lib.ListN.{length, getD, set}
 use lib.Seq.{getD-set-same, getD-set-other}
-use borrow.Author.Tests.{eqb-true, ne-eqb}
-use Rattle.lists.specs.Cases.{split, bool-cases, eq-or-ne, clash, not-both}
+use Rattle.lists.specs.Cases.{split, eq-or-ne, clash, not-both}
 use Rattle.lists.specs.Tests.{_or_}
 use Rattle.format.specs.Diskette.{Bytes, Geometry, Sound, recordBytes}
 use Rattle.format.specs.Entries.{userOf, extentOf, named}
@@ -18,17 +15,18 @@ use Rattle.format.specs.Fcb.{fcbBytes}
 use Rattle.names.specs.Laws.{like-at}
 use Rattle.model.specs.declared.Asked.{Asked}
 use Rattle.model.specs.declared.Session.{Session}
-use Rattle.model.specs.Lent.{Lent, Outcome, ended, withUser}
+use Rattle.model.specs.Lent.{Lent, Outcome}
 use Rattle.model.specs.Naming.{names}
 use Rattle.model.specs.Target.{extents, targetExtent, targetRecord}
 use Rattle.model.specs.Table.{oneOf, usesFcb}
 use Rattle.model.specs.Step.{step}
 use Rattle.fields.specs.Agree.{SameName, named-cong}
 use Rattle.fields.specs.Naming.{named-user, named-like}
-use Rattle.table.specs.Own.{Call, call13, call15, call16, call17, call18, call19, call20, call21, call22, call23, call32, call33, call34, call35, call36, call46, call98}
+use Rattle.table.specs.Own.{Call, call13, call15, call16, call17, call18, call19, call20, call21, call22, call23, call32, call33, call34, call35, call36, call46, call98, at-one}
+use Rattle.table.specs.First.{_&_}
 use Rattle.table.specs.Facts.{Own, Ready}
 use Rattle.table.specs.Carried.{Leaves, carriedBy, effect-is}
-use Rattle.table.specs.Total.{CarriedOut, InRange, total, step-range}
+use Rattle.table.specs.Total.{InRange, total, step-range}
 use Rattle.invariant.specs.Good.{Good}
 use Rattle.invariant.specs.Step.{step-good}
 use Rattle.effects.specs.View.{viewOf, Names}
@@ -155,38 +153,36 @@ pub record Wrote (G : Geometry) (d : Disk) (w : Request) : Type 0 where
   pub range : InRange G (d .session)
 
 module _ {G : Geometry} (S : Sound G) (argument : ℕ) (l : Lent) (s : Session) where
-  write-ok : {n : ℕ} (c : Call n) → oneOf n (21 ∷ 34 ∷ []) ≡ true → Ready G n l s → Own G l s argument c
-      → WriteOk G n (s .user) l (carriedBy G argument l s c .lent) × (targetExtent n (l .fcb) < extents) × (usesFcb n ≡ true)
-  unfolding oneOf usesFcb _or_
-  write-ok call13 z r o = clash (sym z)
-  write-ok call15 z r o = clash (sym z)
-  write-ok call16 z r o = clash (sym z)
-  write-ok call17 z r o = clash (sym z)
-  write-ok call18 z r o = clash (sym z)
-  write-ok call19 z r o = clash (sym z)
-  write-ok call20 z r o = clash (sym z)
-  write-ok call21 z r o = (written-ok S 21 l s (ready-good r (λ q. omega arith)) (r .fits) o, o .extent, refl)
-  write-ok call22 z r o = clash (sym z)
-  write-ok call23 z r o = clash (sym z)
-  write-ok call32 z r o = clash (sym z)
-  write-ok call33 z r o = clash (sym z)
-  write-ok call34 z r o = (written-ok S 34 l s (ready-good r (λ q. omega arith)) (r .fits) o, o .extent, refl)
-  write-ok call35 z r o = clash (sym z)
-  write-ok call36 z r o = clash (sym z)
-  write-ok call46 z r o = clash (sym z)
-  write-ok call98 z r o = clash (sym z)
+  record WriteFacts (n : ℕ) (c : Call n) : Type 0 where
+    ok : WriteOk G n (s .user) l (carriedBy G argument l s c .lent)
+    extent : targetExtent n (l .fcb) < extents
+    uses : usesFcb n ≡ true
+
+  abbrev Facts : ℕ → Type 0
+  Facts n = (c : Call n) → Ready G n l s → Own G l s argument c → WriteFacts n c
+
+  facts21 : Facts 21
+  unfolding usesFcb oneOf _or_
+  facts21 call21 r o = record { ok = written-ok S 21 l s (ready-good r (λ q. omega arith)) (r .fits) o; extent = o .extent; uses = refl }
+
+  facts34 : Facts 34
+  unfolding usesFcb oneOf _or_
+  facts34 call34 r o = record { ok = written-ok S 34 l s (ready-good r (λ q. omega arith)) (r .fits) o; extent = o .extent; uses = refl }
+
+  write-facts : (n : ℕ) → oneOf n (21 ∷ 34 ∷ []) ≡ true → Facts n
+  write-facts n z = at-one Facts n (21 ∷ 34 ∷ []) z (facts21 & facts34 & tt)
 
 module _ {G : Geometry} (S : Sound G) (d : Disk) (w : Request) (writes : oneOf (w .asked .number) (21 ∷ 34 ∷ []) ≡ true) (accepted : accepts G d w ≡ true) where
   pub wrote : Wrote G d w
   unfolding outcomeOf
   wrote =
       let c = accepted-carried G (w .asked) (lentTo d w) (d .session) accepted in
-      let k = write-ok S (w .asked .argument) (lentTo d w) (d .session) (c .facts .call) writes (c .facts .ready) (c .facts .own) in
+      let k = write-facts S (w .asked .argument) (lentTo d w) (d .session) (w .asked .number) writes (c .facts .call) (c .facts .ready) (c .facts .own) in
       record {
         ok = subst (λ (o : Outcome). WriteOk G (w .asked .number) (d .session .user) (lentTo d w) (o .lent))
-            (sym (c .is ∙ effect-is G (w .asked .argument) (lentTo d w) (d .session) (c .facts .call))) (k .0);
-        drive = c .facts .ready .drive (k .2);
-        extent = k .1;
+            (sym (c .is ∙ effect-is G (w .asked .argument) (lentTo d w) (d .session) (c .facts .call))) (k .ok);
+        drive = c .facts .ready .drive (k .uses);
+        extent = k .extent;
         range = record { user = c .facts .ready .fits .user-low; place = c .facts .ready .fits .place-low };
       }
 

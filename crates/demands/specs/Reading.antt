@@ -1,17 +1,15 @@
 -- A record that holds is read: call 33 through its FCB, with r0 to r2 set to the record, is accepted and gives its bytes.
-use mathlib.Core.Path.{_≡_, refl, ap, sym, _∙_, subst}
-use mathlib.Core.Logic.{inl, inr}
-use mathlib.Core.Bool.{Bool, true, false, not, cond}
-use Prim.Native.Nat.{ℕ, _+_, _*_, _/_, _%_, _≤_, _<_, max}
+use mathlib.Core.Path.{_≡_, refl, ap, sym, _∙_}
+use mathlib.Core.Bool.{true, not}
+use Prim.Native.Nat.{ℕ, _+_, _*_, _≤_, _<_}
 use native.Mathlib.Omega.{arith}
-use lib.Dec.{eqb, ltb}
 use lib.ListN.{length, getD}
 use borrow.Author.Tests.{eq-eqb, ne-eqb, lt-ltb}
-use Rattle.lists.specs.Cases.{split, not-both}
+use Rattle.lists.specs.Cases.{not-both}
 use Rattle.lists.specs.Tests.{_and_, _or_, and-both}
 use Rattle.lists.specs.Splice.{splice}
 use Rattle.format.specs.Diskette.{Bytes, Geometry, Sound, recordAt}
-use Rattle.format.specs.Entries.{entryAt, slotCount, slotOf, slotFor, rcOf, extentOf}
+use Rattle.format.specs.Entries.{slotCount, slotOf, slotFor, rcOf, extentOf}
 use Rattle.format.specs.Fcb.{fcbBytes, fcbRight, randomOf}
 use Rattle.format.specs.declared.Found.the-variants.{At}
 use Rattle.rows.specs.Fields.{slot-for-below}
@@ -19,9 +17,9 @@ use Rattle.model.specs.declared.Asked.{Asked}
 use Rattle.model.specs.declared.Session.{Session}
 use Rattle.model.specs.declared.Plan.{Plan}
 use Rattle.model.specs.declared.Verdict.the-variants.{Passed}
-use Rattle.model.specs.Lent.{Lent, rowsOf, Outcome}
+use Rattle.model.specs.Lent.{Lent, Outcome}
 use Rattle.model.specs.Entering.{threeBytes}
-use Rattle.model.specs.Target.{extents, extentRecords, targetExtent, targetRecord, targetSlot, presentEntry, stays, targetEntry, blockThere, countThere, recordThere, plan, placeIn, haveRead}
+use Rattle.model.specs.Target.{extents, extentRecords, targetExtent, targetRecord, targetSlot, presentEntry, stays, blockThere, countThere, recordThere, plan, placeIn, haveRead}
 use Rattle.model.specs.Table.{verdict}
 use Rattle.model.specs.Calls.{readAt, reading, read}
 use Rattle.model.specs.Step.{effect, step}
@@ -35,7 +33,6 @@ use Rattle.table.specs.Accept.{passes}
 use Rattle.table.specs.Present.{target-present}
 use Rattle.table.specs.Plans.{There, Planned, stay, move, make, planned-read}
 use Rattle.table.specs.Carried.{effect-is, read-answered}
-use Rattle.table.specs.Total.{CarriedOut, total-accepted}
 use Rattle.invariant.specs.Good.{Good, good-consistent, good-right}
 use Rattle.invariant.specs.RecordCalls.{stay-block}
 use Rattle.effects.specs.View.{View, viewOf}

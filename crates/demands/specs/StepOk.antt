@@ -1,21 +1,19 @@
 -- What every call does to what it does not name, to the bytes of the image, and to the book: one record, for all seventeen calls and for
 -- calls that are refused.
 use mathlib.Core.Path.{_≡_, refl, ap, sym, _∙_, subst}
-use mathlib.Core.Logic.{_⊎_, inl, inr}
-use mathlib.Core.Bool.{Bool, true, false, cond}
-use mathlib.Core.List.{List, [], _∷_}
-use Prim.Native.Nat.{ℕ, _≤_, _<_}
-use native.Mathlib.Omega.{arith}
+use mathlib.Core.Logic.{inl}
+use mathlib.Core.Bool.{true, false}
+use mathlib.Core.List.{[], _∷_}
+use Prim.Native.Nat.{ℕ}
 use lib.Dec.{eqb}
 use lib.ListN.{length}
-use borrow.Author.Tests.{eq-eqb, ne-eqb}
+use borrow.Author.Tests.{eq-eqb}
 use Rattle.lists.specs.Cases.{split, bool-cases, not-both, clash}
-use Rattle.lists.specs.Tests.{_and_, _or_, and-both, or-left, or-right}
+use Rattle.lists.specs.Tests.{_and_, _or_, and-both, or-left}
 use Rattle.format.specs.Diskette.{Bytes, Geometry, Sound}
-use Rattle.format.specs.Entries.{entryAt, withEntry, entryBytes, slotOf, extentOf, named, findEmpty}
-use Rattle.format.specs.Notes.{noteAt, freshNote, freshMap, freedMap}
+use Rattle.format.specs.Entries.{slotOf, named, findEmpty}
+use Rattle.format.specs.Notes.{noteAt, freshMap, freedMap}
 use Rattle.format.specs.Fcb.{fcbBytes}
-use Rattle.format.specs.Found.{numberOf}
 use Rattle.format.specs.declared.Found.the-variants.{At}
 use Rattle.names.specs.Laws.{like-intro}
 use Rattle.notes.specs.Right.{fresh-at, freed-at}
@@ -25,22 +23,23 @@ use Rattle.model.specs.declared.Session.{Session}
 use Rattle.model.specs.Lent.{Lent, rowsOf, Outcome}
 use Rattle.model.specs.Naming.{names}
 use Rattle.model.specs.Entering.{madeRow}
-use Rattle.model.specs.Target.{targetRecord, targetSlot, presentEntry}
+use Rattle.model.specs.Target.{targetRecord, targetSlot}
 use Rattle.model.specs.Table.{oneOf, usesFcb}
 use Rattle.model.specs.Calls.{loggedIn, freed, userSet, openedAt, opened, closedAt, closed, foundAt, searched, deletes, deleted, createdAt, created, renamed, sized, positioned, space, read, written}
 use Rattle.model.specs.Step.{effect, step}
 use Rattle.fields.specs.Making.{length-madeRow, user-made, name-made}
 use Rattle.fields.specs.Naming.{named-used, named-intro}
-use Rattle.table.specs.Own.{Call, call13, call15, call16, call17, call18, call19, call20, call21, call22, call23, call32, call33, call34, call35, call36, call46, call98}
-use Rattle.table.specs.Facts.{Fits, Closes, Makes, Renames, Own, Ready, AcceptedCall}
+use Rattle.table.specs.Own.{Call, call13, call15, call16, call17, call18, call19, call20, call21, call22, call23, call32, call33, call34, call35, call36, call46, call98, at-one}
+use Rattle.table.specs.First.{_&_}
+use Rattle.table.specs.Facts.{Fits, Closes, Makes, Renames, Own, Ready}
 use Rattle.table.specs.Carried.{carriedBy, effect-is}
-use Rattle.table.specs.Total.{RefusedBy, CarriedOut, total}
+use Rattle.table.specs.Total.{CarriedOut, total}
 use Rattle.invariant.specs.Good.{Good, good-of}
 use Rattle.invariant.specs.Calls.{GoodOutcome, carried-good}
-use Rattle.effects.specs.View.{viewOf, Names}
+use Rattle.effects.specs.View.{viewOf}
 use Rattle.effects.specs.Effect.{Effect, Keeps, nothing-done, nothing-kept}
 use Rattle.effects.specs.Where.{Frame, NoRecord, OneRecord, one-more}
-use Rattle.effects.specs.Book.{Book, nothingHeld, settledBy, acceptedAnswer, entryBefore, closedBook, movedBook, deletedBook, writtenBook, bookBy, bookStep}
+use Rattle.effects.specs.Book.{Book, nothingHeld, settledBy, acceptedAnswer, closedBook, movedBook, deletedBook, writtenBook, bookBy, bookStep}
 use Rattle.effects.specs.Tracks.{Tracks, fresh-tracks, freed-tracks}
 use Rattle.effects.specs.Change.{Change, asItWas, no-change, as-change}
 use Rattle.effects.specs.Closed.{byName, closed-change}
@@ -231,26 +230,20 @@ freed-settles : (G : Geometry) (l : Lent) (s : Session) → Tracks G nothingHeld
 unfolding freed
 freed-settles G l s = freed-tracks G (noteAt (l .map)) (noteAt (freedMap G (l .map))) (freed-at G (l .map))
 
-settled : (G : Geometry) (argument : ℕ) (l : Lent) (s : Session) {n : ℕ} (c : Call n) → oneOf n (13 ∷ 98 ∷ []) ≡ true
-    → acceptedAnswer n (carriedBy G argument l s c .answer) ≡ true → StepOk G n l s (carriedBy G argument l s c)
-unfolding loggedIn freed oneOf _or_
-settled G argument l s call13 z a = settles-ok G 13 l s (loggedIn G s l) a z refl (logged-in-tracks G l s)
-settled G argument l s call15 z a = clash (sym z)
-settled G argument l s call16 z a = clash (sym z)
-settled G argument l s call17 z a = clash (sym z)
-settled G argument l s call18 z a = clash (sym z)
-settled G argument l s call19 z a = clash (sym z)
-settled G argument l s call20 z a = clash (sym z)
-settled G argument l s call21 z a = clash (sym z)
-settled G argument l s call22 z a = clash (sym z)
-settled G argument l s call23 z a = clash (sym z)
-settled G argument l s call32 z a = clash (sym z)
-settled G argument l s call33 z a = clash (sym z)
-settled G argument l s call34 z a = clash (sym z)
-settled G argument l s call35 z a = clash (sym z)
-settled G argument l s call36 z a = clash (sym z)
-settled G argument l s call46 z a = clash (sym z)
-settled G argument l s call98 z a = settles-ok G 98 l s (freed G s l) a z refl (freed-settles G l s)
+module _ (G : Geometry) (argument : ℕ) (l : Lent) (s : Session) where
+  abbrev Settled : ℕ → Type 0
+  Settled n = (c : Call n) → acceptedAnswer n (carriedBy G argument l s c .answer) ≡ true → StepOk G n l s (carriedBy G argument l s c)
+
+  settled13 : Settled 13
+  unfolding loggedIn oneOf _or_
+  settled13 call13 a = settles-ok G 13 l s (loggedIn G s l) a refl refl (logged-in-tracks G l s)
+
+  settled98 : Settled 98
+  unfolding freed oneOf _or_
+  settled98 call98 a = settles-ok G 98 l s (freed G s l) a refl refl (freed-settles G l s)
+
+  settled : (n : ℕ) → oneOf n (13 ∷ 98 ∷ []) ≡ true → Settled n
+  settled n z = at-one Settled n (13 ∷ 98 ∷ []) z (settled13 & settled98 & tt)
 
 -- ---- every call
 not-login : (n : ℕ) → oneOf n (13 ∷ 98 ∷ []) ≡ false → n ≡ 13 → ⊥
@@ -273,7 +266,7 @@ module _ {G : Geometry} (S : Sound G) (asked : Asked) (l : Lent) (s : Session) w
       go : {n : ℕ} (k : Call n) → Ready G n l s → Own G l s (asked .argument) k → acceptedAnswer n (carriedBy G (asked .argument) l s k .answer) ≡ true
           → StepOk G n l s (carriedBy G (asked .argument) l s k)
       go {n} k r o a =
-          split (bool-cases (oneOf n (13 ∷ 98 ∷ []))) (λ z. settled G (asked .argument) l s k z a)
+          split (bool-cases (oneOf n (13 ∷ 98 ∷ []))) (λ z. settled G (asked .argument) l s n z k a)
           (λ z. carries-ok G n l s (carriedBy G (asked .argument) l s k) a
           (carried S (asked .argument) l s (r .fits) (ready-good r (not-login n z)) k z o a))
 

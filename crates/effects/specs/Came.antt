@@ -30,13 +30,14 @@ use Rattle.fields.specs.Naming.{named-like, file-named, file-user, file-extent}
 use Rattle.fields.specs.Target.{stays-extent, moves-extent}
 use Rattle.table.specs.Facts.{Fits}
 use Rattle.invariant.specs.Good.{Good}
-use Rattle.invariant.specs.RecordCalls.{stay-block, move-block, make-block, slot-below, target-file, target-below, target-used, next-file, good-next}
+use Rattle.invariant.specs.CloseGood.{closed-free}
+use Rattle.invariant.specs.RecordCalls.{present-current, stay-block, move-block, make-block, slot-below, target-file, target-below, target-used, next-file, good-next}
 use Rattle.effects.specs.View.{viewOf, listed}
 use Rattle.effects.specs.Cur.{Cur, current-cur, cur-uses, cur-mine}
 use Rattle.effects.specs.Where.{Theirs, was-theirs}
 use Rattle.effects.specs.Book.{Book, settledBy, entryBefore, closedBook, movedBook}
 use Rattle.effects.specs.Change.{Change, asItWas, no-change, then-change}
-use Rattle.effects.specs.Closed.{byName, closed-there, closed-free, closed-change}
+use Rattle.effects.specs.Closed.{byName, closed-there, closed-change}
 use Rattle.current.specs.Current.{fcb-says, current-says}
 use Rattle.effects.specs.Picked.{made-here, made-change, made-names-stay}
 use Rattle.effects.specs.Entered.{entered-cur}
@@ -105,7 +106,7 @@ module _ {G : Geometry} (S : Sound G) (n : ℕ) (l : Lent) (s : Session) (g : Go
   closed-by = closed-change S (l .image) (l .map) g (s .user) (f .user-low) (l .fcb) e present-cur W
 
   still-free : (b : ℕ) → b < G .blocks → noteAt (l .map) b ≡ freeNote → noteAt (closedMap (rowsOf G l e) (l .fcb) (l .map)) b ≡ freeNote
-  still-free = closed-free S (l .image) (l .map) g (s .user) (f .user-low) (l .fcb) e present-cur
+  still-free = closed-free S (l .image) (l .map) g (s .user) (f .user-low) (l .fcb) e (present-current S n l s g f e at)
 
   move-book : stays n (l .fcb) ≡ false → (u : Book) → movedBook G n (s .user) l u ≡ settledBy (rowsOf G l e) (l .fcb) u
   unfolding movedBook closedBook

@@ -13,6 +13,7 @@ use Rattle.notes.specs.Numbers.{pending-not-free}
 use Rattle.rows.specs.Entries.{length-entryAt, entry-stored, entry-left, record-kept}
 use Rattle.model.specs.Closing.{closedRow, closedImage, closedMap}
 use Rattle.fields.specs.Closing.{Takes, length-closedRow, note-closed-cases}
+use Rattle.fields.specs.Images.{row-closedImage-other, record-closedImage}
 use Rattle.invariant.specs.Good.{Good}
 use Rattle.invariant.specs.CloseGood.{good-closed}
 use Rattle.effects.specs.View.{viewOf, Names}
@@ -42,31 +43,20 @@ module _ {G : Geometry} (S : Sound G) (img map : Bytes) (g : Good G img map) (us
   whole = length-closedRow (entryAt G img e) fcb long
 
   pub closed-there : (k : ℕ) → k < G .entries → (k ≡ e → ⊥) → entryAt G (closedImage G img e fcb) k ≡ entryAt G img k
-  unfolding closedImage
-  closed-there k l n = entry-left S img (g .image-long) e (c .low) (closedRow (entryAt G img e) fcb) whole k l (λ z. n (sym z))
+  closed-there k l n = row-closedImage-other S img (g .image-long) e (c .low) fcb k l (λ z. n (sym z))
 
-  pub closed-here : entryAt G (closedImage G img e fcb) e ≡ closedRow (entryAt G img e) fcb
-  unfolding closedImage
-  closed-here = entry-stored S img (g .image-long) e (c .low) (closedRow (entryAt G img e) fcb) whole
-
-  pub closed-recs : RecsStay G (viewOf G img map) (viewOf G (closedImage G img e fcb) (closedMap (entryAt G img e) fcb map))
-  unfolding closedImage
-  closed-recs d p b = record-kept S img (g .image-long) e (c .low) (closedRow (entryAt G img e) fcb) whole d p b
+  closed-recs : RecsStay G (viewOf G img map) (viewOf G (closedImage G img e fcb) (closedMap (entryAt G img e) fcb map))
+  closed-recs d p b = record-closedImage S img (g .image-long) e (c .low) fcb d p b
 
   -- a block that the close takes was pending for its entry
-  pub taken-noted : (b : ℕ) (t : Takes (entryAt G img e) fcb b) → noteAt map b ≡ pendingFor e (t .slot)
+  taken-noted : (b : ℕ) (t : Takes (entryAt G img e) fcb b) → noteAt map b ≡ pendingFor e (t .slot)
   taken-noted b t =
       split (c .fits (t .slot) (t .below)) (λ q. absurd (t .some (sym (t .is) ∙ q ∙ t .was))) (λ h. sym (ap (noteAt map) (t .is)) ∙ h .noted)
 
   -- each note stays, or was pending for the entry
-  pub closed-notes : (b : ℕ) → b < G .blocks → (noteAt (closedMap (entryAt G img e) fcb map) b ≡ noteAt map b) ⊎ Takes (entryAt G img e) fcb b
+  closed-notes : (b : ℕ) → b < G .blocks → (noteAt (closedMap (entryAt G img e) fcb map) b ≡ noteAt map b) ⊎ Takes (entryAt G img e) fcb b
   closed-notes b l =
       split (note-closed-cases (entryAt G img e) fcb map b (let w = g .map-long in omega arith)) (λ p. inr (p .0)) (λ p. inl (p .1))
-
-  -- a free block stays free
-  pub closed-free : (b : ℕ) → b < G .blocks → noteAt map b ≡ freeNote → noteAt (closedMap (entryAt G img e) fcb map) b ≡ freeNote
-  closed-free b l z =
-      split (closed-notes b l) (λ q. q ∙ z) (λ t. absurd (pending-not-free e (t .slot) (sym (taken-noted b t) ∙ z)))
 
   pub closed-change : (W : ℕ → Type 0)
       → Change G (byName user fcb) W (settledBy (entryAt G img e) fcb) img map (closedImage G img e fcb) (closedMap (entryAt G img e) fcb map)

@@ -23,10 +23,10 @@ use Rattle.fields.specs.Closing.{slot-closed-old, slot-closed-new, file-closed,
 use Rattle.fields.specs.Entering.{name-entered, slot-entered, extent-entered, fcbRight-entered, name-copied, slot-copied, extent-copied, row-copied, rest-copied}
 use Rattle.fields.specs.Target.{name-read, slot-read, extent-read, head-read, cr-read, name-written, head-written, rc-written, cr-written, count-written-high}
 use Rattle.invariant.specs.Close.{Held}
+use Rattle.fields.specs.Images.{row-closedImage}
 use Rattle.invariant.specs.Good.{Good}
 use Rattle.effects.specs.View.{View, viewOf}
 use Rattle.effects.specs.Cur.{Cur}
-use Rattle.effects.specs.Closed.{closed-here}
 
 -- ---- the fields of an FCB
 -- with the name, ex and s2 of a right FCB, and rc and cr in range
@@ -122,7 +122,7 @@ module _ {G : Geometry} (S : Sound G) (img map : Bytes) (g : Good G img map) (us
   pub closed-cur : Cur G (viewOf G (closedImage G img e fcb) (closedMap (entryAt G img e) fcb map)) user (closedFcb fcb) e
   closed-cur =
       let hf′ : 32 ≤ length fcb = omega arith in
-      let here = closed-here S img map g user hu fcb e c in
+      let here = row-closedImage S img (g .image-long) e (c .low) fcb in
       let long = length-entryAt S img (g .image-long) e (c .low) in
       record {
         right = fcbRight-closedFcb fcb hf′ ∙ c .right;

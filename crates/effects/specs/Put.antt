@@ -23,7 +23,7 @@ use Rattle.fields.specs.Target.{place-below, name-written, extent-written, slot
 use Rattle.invariant.specs.Close.{Held}
 use Rattle.invariant.specs.Good.{Good}
 use Rattle.invariant.specs.Updates.{good-record, good-taken}
-use Rattle.effects.specs.View.{viewOf, Names, Mine, mine-one, mine-low, mine-not-free, free-spare}
+use Rattle.effects.specs.View.{viewOf, Names, Mine, mine-one, mine-low, mine-not-free, spare-free}
 use Rattle.effects.specs.Effect.{Foreign, NamesStay, not-entry, notes-stay}
 use Rattle.effects.specs.Steps.{rows-names-stay, put-effect, take-keeps}
 use Rattle.effects.specs.Cur.{Cur, cur-uses, cur-mine, cur-zero, Holds, recSlot}
@@ -33,7 +33,7 @@ use Rattle.effects.specs.Tracks.{Tracks, same-tracks, taken-tracks}
 use Rattle.effects.specs.Change.{Change}
 
 -- the block b for a slot: a free one where the slot is 0, else the slot's own
-pub record BlockFor (G : Geometry) (map : Bytes) (slot b : ℕ) : Type 0 where
+pub record ForSlot (G : Geometry) (map : Bytes) (slot b : ℕ) : Type 0 where
   pub below : b < G .blocks
   pub free : slot ≡ 0 → noteAt map b ≡ freeNote
   pub own : (slot ≡ 0 → ⊥) → slot ≡ b
@@ -44,7 +44,7 @@ putBook f t j b u = cond (eqb (slotOf f j) 0) (enteredFor b t j u) u
 
 module _ {G : Geometry} (S : Sound G) (img map : Bytes) (g : Good G img map) (user : ℕ) (hu : user ≤ 15) (f : Bytes) (hf : length f ≡ fcbBytes)
     (t : ℕ) (c : Cur G (viewOf G img map) user f t) (r : ℕ) (hr : r < extentRecords) (j : ℕ) (hj : j ≡ slotFor G (extentOf f) r)
-    (b : ℕ) (k : BlockFor G map (slotOf f j) b) (buf : Bytes) (hb : length buf ≡ recordBytes) where
+    (b : ℕ) (k : ForSlot G map (slotOf f j) b) (buf : Bytes) (hb : length buf ≡ recordBytes) where
   pub put-slot : j < slotCount
   put-slot = rw hj (slot-for-below S (extentOf f) r hr)
 
@@ -54,7 +54,7 @@ module _ {G : Geometry} (S : Sound G) (img map : Bytes) (g : Good G img map) (us
 
   pub put-low : G .area ≤ b
   put-low =
-      split (eq-or-ne (slotOf f j) 0) (λ z. free-spare G (viewOf G img map) (g .inv) b (k .below) (k .free z) .past)
+      split (eq-or-ne (slotOf f j) 0) (λ z. spare-free G (viewOf G img map) (g .inv) b (k .below) (k .free z) .past)
       (λ z. mine-low G (viewOf G img map) (g .inv) b t (put-mine z))
 
   place : placeIn G b r < G .perBlock * G .blocks

@@ -11,6 +11,8 @@ use Rattle.consistency.specs.Facts.{Stands}
 use Rattle.consistency.specs.Listed.{somewhere-listed}
 use Rattle.notes.specs.Numbers.{pending-once, pending-not-free, pending-not-area, pending-not-recorded}
 use Rattle.notes.specs.Right.{Spare, NoteOk, ok-area, ok-recorded, ok-free, ok-pending}
+use Rattle.notes.specs.Free.{free-spare}
+use Rattle.invariant.specs.Close.{pending-spare}
 use Rattle.invariant.specs.Inv.{Inv}
 
 pub record View : Type 0 where
@@ -36,25 +38,12 @@ pub data Mine (G : Geometry) (s : View) (b e : ℕ) : Type 0 where
 
 module _ (G : Geometry) (s : View) (v : Right G s) where
   -- ---- what the notes say
-  -- a block that is pending lies past the directory, and no entry lists it
-  pub pending-spare : (b e j : ℕ) → b < G .blocks → s .notes b ≡ pendingFor e j → Spare G (s .rows) b
-  pending-spare b e j l q = go (v .map b l)
-    where
-      go : NoteOk G (s .rows) b (s .notes b) → Spare G (s .rows) b
-      go (ok-area n h) = absurd (pending-not-area e j (sym q ∙ n))
-      go (ok-recorded n h y) = absurd (pending-not-recorded e j (sym q ∙ n))
-      go (ok-free n x) = x
-      go (ok-pending f k n h i u x) = x
+  -- a block that is pending, or free, lies past the directory, and no entry lists it
+  pub spare-held : (b e j : ℕ) → b < G .blocks → s .notes b ≡ pendingFor e j → Spare G (s .rows) b
+  spare-held b e j l q = pending-spare G (s .rows) b e j (s .notes b) (v .map b l) q
 
-  -- so is a block that is free
-  pub free-spare : (b : ℕ) → b < G .blocks → s .notes b ≡ freeNote → Spare G (s .rows) b
-  free-spare b l q = go (v .map b l)
-    where
-      go : NoteOk G (s .rows) b (s .notes b) → Spare G (s .rows) b
-      go (ok-area n h) = absurd (omega arith)
-      go (ok-recorded n h y) = absurd (omega arith)
-      go (ok-free n x) = x
-      go (ok-pending f k n h i u x) = x
+  pub spare-free : (b : ℕ) → b < G .blocks → s .notes b ≡ freeNote → Spare G (s .rows) b
+  spare-free b l q = free-spare G (s .rows) b (s .notes b) (v .map b l) q
 
   -- a block that stands in an entry is not spare
   pub stands-not-spare : (b e j : ℕ) → Stands G (s .rows) b e j → Spare G (s .rows) b → ⊥
@@ -70,19 +59,19 @@ module _ (G : Geometry) (s : View) (v : Right G s) where
   -- a block is one entry's
   pub mine-one : (b e f : ℕ) → Mine G s b e → Mine G s b f → e ≡ f
   mine-one b e f (listed j a) (listed k c) = v .dir .once-entry b e j f k a c
-  mine-one b e f (listed j a) (pending k l h q) = absurd (stands-not-spare b e j a (pending-spare b f k h q))
-  mine-one b e f (pending j l h q) (listed k a) = absurd (stands-not-spare b f k a (pending-spare b e j h q))
+  mine-one b e f (listed j a) (pending k l h q) = absurd (stands-not-spare b e j a (spare-held b f k h q))
+  mine-one b e f (pending j l h q) (listed k a) = absurd (stands-not-spare b f k a (spare-held b e j h q))
   mine-one b e f (pending j l h q) (pending k m i p) = pending-once e j f k l m (sym q ∙ p) .0
 
   -- it is a block past the directory
   pub mine-low : (b e : ℕ) → Mine G s b e → G .area ≤ b
   mine-low b e (listed j a) = stands-low b e j a
-  mine-low b e (pending j l h q) = pending-spare b e j h q .past
+  mine-low b e (pending j l h q) = spare-held b e j h q .past
 
   pub mine-high : (b e : ℕ) → Mine G s b e → b < G .blocks
   mine-high b e (listed j a) = stands-high b e j a
   mine-high b e (pending j l h q) = h
 
   pub mine-not-free : (b e : ℕ) → Mine G s b e → s .notes b ≡ freeNote → ⊥
-  mine-not-free b e (listed j a) z = stands-not-spare b e j a (free-spare b (stands-high b e j a) z)
+  mine-not-free b e (listed j a) z = stands-not-spare b e j a (spare-free b (stands-high b e j a) z)
   mine-not-free b e (pending j l h q) z = pending-not-free e j (sym q ∙ z)

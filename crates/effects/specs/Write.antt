@@ -29,7 +29,7 @@ use Rattle.effects.specs.Where.{NoRecord, Theirs, was-free, OneRecord}
 use Rattle.effects.specs.Book.{Book, movedBook, entryAfter, writtenBook}
 use Rattle.effects.specs.Change.{Change, then-change, as-change}
 use Rattle.effects.specs.Closed.{byName}
-use Rattle.effects.specs.Put.{BlockFor, putBook, put-change, put-stay, put-holds}
+use Rattle.effects.specs.Put.{ForSlot, putBook, put-change, put-stay, put-holds}
 use Rattle.current.specs.Current.{fcb-says}
 use Rattle.effects.specs.Entered.{right-written, set-cur}
 use Rattle.effects.specs.Came.{CameTo, present-cur, stay-came, move-came, make-came}
@@ -91,11 +91,11 @@ module _ {G : Geometry} (S : Sound G) (n : ℕ) (l : Lent) (s : Session) (g : Go
     here-good : Good G (there .image) (there .map)
     here-good = came .change .good
 
-    block-for : BlockFor G (there .map) (slotOf (there .fcb) j) b
+    for-slot : ForSlot G (there .map) (slotOf (there .fcb) j) b
     unfolding j
-    block-for = go block
+    for-slot = go block
       where
-        go : Block G n (s .user) l b → BlockFor G (there .map) (slotOf (there .fcb) (targetSlot G n (l .fcb))) b
+        go : Block G n (s .user) l b → ForSlot G (there .map) (slotOf (there .fcb) (targetSlot G n (l .fcb))) b
         go (Plans.there q real) =
             let own : slotOf (there .fcb) (targetSlot G n (l .fcb)) ≡ b = came .slot ∙ q in
             record {
@@ -133,15 +133,15 @@ module _ {G : Geometry} (S : Sound G) (n : ℕ) (l : Lent) (s : Session) (g : Go
     whole =
         then-change G (byName (s .user) (l .fcb)) One B (putBook (there .fcb) t j b) (l .image) (l .map) (there .image) (there .map)
         (withRecord G (there .image) (placeIn G b r) (there .buffer)) (writtenMap (there .map) (there .fcb) t j b) (g .inv .dir) (came .change)
-        (put-change S (there .image) (there .map) here-good (s .user) (f .user-low) (there .fcb) (came .long) t (came .cur) r r-below j slot-is b block-for
-        (there .buffer) full (byName (s .user) (l .fcb)) (came .mine) One record { is = refl; below = block-for .below; theirs = theirs })
-        (put-stay S (there .image) (there .map) here-good (s .user) (f .user-low) (there .fcb) (came .long) t (came .cur) r r-below j slot-is b block-for
+        (put-change S (there .image) (there .map) here-good (s .user) (f .user-low) (there .fcb) (came .long) t (came .cur) r r-below j slot-is b for-slot
+        (there .buffer) full (byName (s .user) (l .fcb)) (came .mine) One record { is = refl; below = for-slot .below; theirs = theirs })
+        (put-stay S (there .image) (there .map) here-good (s .user) (f .user-low) (there .fcb) (came .long) t (came .cur) r r-below j slot-is b for-slot
         (there .buffer) full (byName (s .user) (l .fcb)) (came .mine))
 
     held : Holds G (viewOf G (withRecord G (there .image) (placeIn G b r) (there .buffer)) (writtenMap (there .map) (there .fcb) t j b)) (s .user)
         (writtenFcb (there .fcb) (entryAt G (there .image) t) j b r (crAfter n (l .fcb))) t r (there .buffer)
     held =
-        put-holds S (there .image) (there .map) here-good (s .user) (f .user-low) (there .fcb) (came .long) t (came .cur) r r-below j slot-is b block-for
+        put-holds S (there .image) (there .map) here-good (s .user) (f .user-low) (there .fcb) (came .long) t (came .cur) r r-below j slot-is b for-slot
         (there .buffer) full (crAfter n (l .fcb)) right
 
     new-slot : slotOf (writtenFcb (there .fcb) (entryAt G (there .image) t) j b r (crAfter n (l .fcb))) j ≡ b
