@@ -38,8 +38,8 @@ skewed s = getD skew s 0
 abbrev pub eightInch : Geometry
 eightInch = record { tracks = 77; sectors = 26; reserved = 2; perBlock = 8; blocks = 243; area = 2; entries = 64; physical = skewed }
 
--- what the laws ask of a disk's sizes; the 8-inch disk's are so (crate disk). The sizes that hold on every disk enter here too:
--- an entry's sixteen slots are enough for the 128 records of an extent
+-- What the laws ask of a disk's sizes; no definition uses it, and the 8-inch disk's are so (crate disk). The sizes that hold on every
+-- disk enter here too: an entry's sixteen slots are enough for the 128 records of an extent
 pub record Sound (G : Geometry) : Type 0 where
   pub some-sector : 0 < G .sectors
   pub some-record : 0 < G .perBlock

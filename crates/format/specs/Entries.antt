@@ -64,7 +64,8 @@ used r = leb (userOf r) 15
 unfoldable pub readOnly : Bytes → Bool
 readOnly r = leb 128 (getD r 9 0)
 
--- ---- what an entry says of extents: what other disks will do otherwise is told by these three alone
+-- ---- what an entry says of extents, each question under its own name, since other disks answer them otherwise. Byte 13 is s1, which no rule
+-- reads
 unfoldable pub extentOf : Bytes → ℕ
 extentOf r = 32 * s2Of r + exOf r
 
@@ -76,9 +77,9 @@ covers r ext = eqb (extentOf r) ext
 unfoldable pub countIn : Bytes → ℕ → ℕ
 countIn r ext = rcOf r
 
--- the slot that holds a record of the extent
+-- the slot that holds record k of the extent
 unfoldable pub slotFor : Geometry → ℕ → ℕ → ℕ
-slotFor G ext record′ = record′ / G .perBlock
+slotFor G ext k = k / G .perBlock
 
 -- ---- looking for entries
 abbrev pub Rows : Type 0

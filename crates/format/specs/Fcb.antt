@@ -35,10 +35,11 @@ slotFits map e es fs j =
 unfoldable pub slotsFit : Bytes → ℕ → Bytes → Bytes → Bool
 slotsFit map e es fs = allBelow (slotFits map e es fs) slotCount
 
+-- the entry found, if the FCB's slots fit it
 abbrev pub fitting : Rows → Bytes → Bytes → Found → Found
 fitting d map fcb (At e) = cond (slotsFit map e (slotsOf (d e)) (slotsOf fcb)) (At e) Nothing
 fitting d map fcb Nothing = Nothing
 
--- the entry of a current FCB
+-- the entry of a current FCB; `Nothing` where it is not current
 unfoldable pub current : Geometry → Rows → Bytes → ℕ → Bytes → Found
 current G d map user fcb = cond (fcbRight fcb) (fitting d map fcb (findFile G d user fcb 1 (extentOf fcb))) Nothing

@@ -1,4 +1,5 @@
--- Document 01 on names: the name rule, and how names are compared. A name is eleven bytes, from a place in an entry or an FCB on.
+-- Document 01 on names: the name rule, and how names are compared. A name is eleven bytes from a place on: 1 in an entry or an FCB, 17
+-- for the new name of 23, 0 in a search's pattern. `wild` says that 3FH may stand in a name (17, 19) and then matches any byte.
 use mathlib.Core.Bool.{Bool, not}
 use Prim.Native.Nat.{ℕ, _+_, _%_}
 use lib.Dec.{eqb, leb}

@@ -43,7 +43,7 @@ abbrev pub noteAt : Bytes → ℕ → ℕ
 noteAt map b = getD map b 0
 
 -- ---- the map that is right for a directory
--- some used entry lists block b
+-- some used entry lists block b (asked only of blocks past the directory: a slot of 0 lists none)
 unfoldable pub isListed : Geometry → Rows → ℕ → Bool
 isListed G d b = taken (listed d) (slotsInAll G) b
 

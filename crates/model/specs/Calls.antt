@@ -112,12 +112,13 @@ module _ (G : Geometry) (s : Session) (l : Lent) where
   unfoldable pub renamed : Outcome
   renamed = done 0 s (lend (changedRows G (named false (s .user) (l .fcb) 1) (renamedRow (l .fcb)) (l .image)) (l .map) (l .fcb) (l .buffer))
 
-  -- 35: the size in r0 to r2, lowest byte first. 36: 128 × extent + cr
+  -- 35: the size in r0 to r2, lowest byte first
   unfoldable pub sized : Outcome
   sized =
       done 0 s
       (lend (l .image) (l .map) (splice (l .fcb) 33 (threeBytes (fileSize G (rowsOf G l) (named false (s .user) (l .fcb) 1)))) (l .buffer))
 
+  -- 36: 128 × extent + cr
   unfoldable pub positioned : Outcome
   positioned =
       done 0 s (lend (l .image) (l .map) (splice (l .fcb) 33 (threeBytes (extentRecords * extentOf (l .fcb) + crOf (l .fcb)))) (l .buffer))
@@ -130,6 +131,7 @@ module _ (G : Geometry) (s : Session) (l : Lent) where
   unfoldable pub readAt : ℕ → ℕ → Lent → Outcome
   readAt n b there = done 0 s (haveRead G b (targetRecord n (l .fcb)) (crAfter n (l .fcb)) there)
 
+  -- a read never makes an entry: the table refuses one of an extent without
   abbrev pub reading : ℕ → Plan → Outcome
   reading n (Stay e b) = readAt n b l
   reading n (Move e t b) = readAt n b (moved G n l e t)

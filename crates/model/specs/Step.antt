@@ -37,7 +37,7 @@ refusedSession DiskFull s = s
 abbrev pub refused : Code → Session → Lent → Outcome
 refused code s l = ends code (refusedSession code s) l
 
--- what each call does
+-- what each call does; only listed numbers come here, and the last is 98
 unfoldable pub effect : Geometry → ℕ → ℕ → Lent → Session → Outcome
 effect G n argument l s =
     cond (eqb n 13) (loggedIn G s l)

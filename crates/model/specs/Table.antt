@@ -61,7 +61,7 @@ module _ (G : Geometry) (l : Lent) where
   unfoldable pub anyNamed : Bool → ℕ → ℕ → Bool
   anyNamed wild user q = isFound (findNamed G (rowsOf G l) wild user (l .fcb) q 0)
 
-  -- the entry of this name, with ex = byte 12 and s2 0
+  -- the entry of this name, with ex = byte 12 and s2 0: the extent of that number, since byte 12 and every ex are at most 31 here
   unfoldable pub askedEntry : ℕ → Found
   askedEntry user = findFile G (rowsOf G l) user (l .fcb) 1 (exOf (l .fcb))
 
@@ -93,37 +93,53 @@ module _ (G : Geometry) (n argument : ℕ) (l : Lent) (s : Session) where
 
   unfoldable pub table : List Row
   table =
+      -- 255, 255
       every (not (isListed n)) NotListed
+      -- 255, 4
       ∷ every (not (parametersRight G l n s)) BadParameter
+      -- 255, 1
       ∷ every (not (diskRight G l n)) BadDisk
+      -- 6, 0
       ∷ row (33 ∷ 34 ∷ []) (ltb 262143 (randomOf (l .fcb))) BadRecord
+      -- 9, 0
       ∷ row (20 ∷ 21 ∷ 33 ∷ 34 ∷ []) (not (isFound (presentEntry G (s .user) l))) NotCurrent
+      -- 255, 0
       ∷ row (16 ∷ []) (not (isFound (presentEntry G (s .user) l))) Failed
       ∷ row (36 ∷ []) (not (positionRight (l .fcb))) Failed
       ∷ row (32 ∷ []) (not (eqb argument 255 or leb argument 15)) Failed
+      -- 255, 9
       ∷ row (15 ∷ 22 ∷ 23 ∷ 35 ∷ []) (not (nameRight false (l .fcb) 1)) BadName
       ∷ row (17 ∷ 19 ∷ []) (not (nameRight true (l .fcb) 1)) BadName
       ∷ row (23 ∷ []) (not (nameRight false (l .fcb) 17)) BadName
       ∷ row (15 ∷ 22 ∷ []) (ltb 31 (exOf (l .fcb))) BadName
       ∷ row (17 ∷ []) (ltb 31 (exOf (l .fcb)) and not (eqb (exOf (l .fcb)) 63)) BadName
+      -- 255, 0: nothing matches; no search on
       ∷ row (15 ∷ []) (not (isFound (askedEntry G l (s .user)))) Failed
       ∷ row (17 ∷ []) (not (isFound (findHit G (rowsOf G l) (s .user) (patternOf (l .fcb)) 0))) SearchOver
       ∷ row (18 ∷ []) (not (searchOn s)) Failed
       ∷ row (18 ∷ []) (not (isFound (findHit G (rowsOf G l) (s .user) (s .pattern) (s .place)))) SearchOver
       ∷ row (19 ∷ []) (not (anyNamed G l true (s .user) 1)) Failed
       ∷ row (23 ∷ 35 ∷ []) (not (anyNamed G l false (s .user) 1)) Failed
+      -- 255, 3
       ∷ row (19 ∷ []) (anyReadOnly G l true (s .user)) ReadOnly
       ∷ row (23 ∷ []) (anyReadOnly G l false (s .user)) ReadOnly
       ∷ row (21 ∷ 34 ∷ []) (readOnlyThere G n (s .user) l) ReadOnly
+      -- 255, 8
       ∷ row (22 ∷ []) (isFound (askedEntry G l (s .user))) Exists
       ∷ row (23 ∷ []) (anyNamed G l false (s .user) 17) Exists
+      -- 255, 0
       ∷ row (22 ∷ []) (not (isFound (findEmpty G (rowsOf G l)))) Failed
+      -- 3, 0: stands behind 9, 0, so that it never decides (crate table, `never-not-closed`)
       ∷ row (20 ∷ 21 ∷ 33 ∷ 34 ∷ []) (not (stays n (l .fcb)) and not (isFound (presentEntry G (s .user) l))) NotClosed
+      -- 4, 0
       ∷ row (33 ∷ []) (not (isFound (targetEntry G n (s .user) l))) NoExtent
+      -- 1, 0
       ∷ row (20 ∷ 33 ∷ []) (not (recordThere G n (s .user) l)) NoRecord
+      -- 1, 0 (21) or 5, 0 (34)
       ∷ row (21 ∷ []) (leb extents (targetExtent n (l .fcb))) NoRecord
       ∷ row (21 ∷ []) (not (isFound (targetEntry G n (s .user) l)) and not (isFound (findEmpty G (rowsOf G l)))) NoRecord
       ∷ row (34 ∷ []) (not (isFound (targetEntry G n (s .user) l)) and not (isFound (findEmpty G (rowsOf G l)))) NoEntry
+      -- 2, 0
       ∷ row (21 ∷ 34 ∷ []) (eqb (blockThere G n (s .user) l) 0 and not (isFound (findFree G (l .map)))) DiskFull
       ∷ []
 

@@ -101,7 +101,8 @@ module _ (G : Geometry) (n user : ℕ) (l : Lent) where
   unfoldable pub plan : Plan
   plan = planFrom (numberOf (G .entries) (presentEntry G user l))
 
--- ---- moving: the present extent (entry e) is closed, then the FCB takes the target's entry (t), which a write may have to make
+-- ---- moving: the present extent (entry e) is closed, then the FCB takes the target's entry (t), which a write may have to make. The two
+-- are different entries, and a close leaves user, name and attributes, so both rows are read as they came
 module _ (G : Geometry) (n : ℕ) (l : Lent) where
   unfoldable pub moved : ℕ → ℕ → Lent
   moved e t =
@@ -132,6 +133,7 @@ writtenFcb fcb row j b r cr = set (set (set fcb (16 + j) b) 15 (writtenCount fcb
 unfoldable pub writtenMap : Bytes → Bytes → ℕ → ℕ → ℕ → Bytes
 writtenMap map fcb t j b = cond (eqb (slotOf fcb j) 0) (withNote map b (pendingFor t j)) map
 
+-- record r goes to block b, in slot j of entry t
 unfoldable pub haveWritten : Geometry → ℕ → ℕ → ℕ → ℕ → ℕ → Lent → Lent
 haveWritten G t j b r cr l =
     lend (withRecord G (l .image) (placeIn G b r) (l .buffer)) (writtenMap (l .map) (l .fcb) t j b)
