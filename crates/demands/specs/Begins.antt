@@ -35,7 +35,7 @@ use Rattle.fields.specs.Making.{length-madeRow, readOnly-made}
 use Rattle.fields.specs.Entering.{length-copied, first-copied, rest-copied}
 use Rattle.fields.specs.Naming.{file-used}
 use Rattle.fields.specs.Target.{extent-within}
-use Rattle.table.specs.Own.{Call, call13, call15, call16, call17, call18, call19, call20, call21, call22, call23, call32, call33, call34, call35, call36, call46, call98}
+use Rattle.table.specs.Own.{Call, call21, call22}
 use Rattle.table.specs.Facts.{Fits, Writes, Makes, Own}
 use Rattle.table.specs.Accept.{passes}
 use Rattle.table.specs.Present.{target-present, numbers-extent}

@@ -8,9 +8,8 @@ use lib.ListN.{length}
 use Rattle.lists.specs.Cases.{split}
 use Rattle.format.specs.Diskette.{Bytes, Geometry, Sound}
 use Rattle.format.specs.Entries.{entryAt, entryBytes, named}
-use Rattle.format.specs.Notes.{freeNote, noteAt, pendingFor}
-use Rattle.notes.specs.Numbers.{pending-not-free}
-use Rattle.rows.specs.Entries.{length-entryAt, entry-stored, entry-left, record-kept}
+use Rattle.format.specs.Notes.{noteAt, pendingFor}
+use Rattle.rows.specs.Entries.{length-entryAt}
 use Rattle.model.specs.Closing.{closedRow, closedImage, closedMap}
 use Rattle.fields.specs.Closing.{Takes, length-closedRow, note-closed-cases}
 use Rattle.fields.specs.Images.{row-closedImage-other, record-closedImage}

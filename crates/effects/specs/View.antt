@@ -2,15 +2,14 @@
 use mathlib.Core.Path.{_≡_, sym, _∙_}
 use mathlib.Core.Bool.{Bool}
 use Prim.Native.Nat.{ℕ, _≤_, _<_}
-use native.Mathlib.Omega.{arith}
 use Rattle.lists.specs.Cases.{not-both}
 use Rattle.format.specs.Diskette.{Bytes, Geometry, recordAt}
 use Rattle.format.specs.Entries.{Rows, slotCount, entryAt}
 use Rattle.format.specs.Notes.{freeNote, noteAt, pendingFor}
 use Rattle.consistency.specs.Facts.{Stands}
 use Rattle.consistency.specs.Listed.{somewhere-listed}
-use Rattle.notes.specs.Numbers.{pending-once, pending-not-free, pending-not-area, pending-not-recorded}
-use Rattle.notes.specs.Right.{Spare, NoteOk, ok-area, ok-recorded, ok-free, ok-pending}
+use Rattle.notes.specs.Numbers.{pending-once, pending-not-free}
+use Rattle.notes.specs.Right.{Spare}
 use Rattle.notes.specs.Free.{free-spare}
 use Rattle.invariant.specs.Close.{pending-spare}
 use Rattle.invariant.specs.Inv.{Inv}

@@ -1,5 +1,5 @@
 -- Where a byte of the image that a call changed lies. Each byte stays, or lies there: a sum, so that changes follow one another.
-use mathlib.Core.Path.{_≡_, refl, _∙_}
+use mathlib.Core.Path.{_≡_}
 use mathlib.Core.Logic.{_⊎_, inl, inr}
 use mathlib.Core.Bool.{true}
 use Prim.Native.Nat.{ℕ, _+_, _≤_, _<_}
@@ -49,22 +49,7 @@ pub record OneRecord (G : Geometry) (img map : Bytes) (N : Names) (b rec d : ℕ
   pub below : b < G .blocks
   pub theirs : Theirs G img map N b
 
--- ---- nothing done, and changes that follow one another
-pub same-frame : (G : Geometry) (img : Bytes) (N : Names) (W : ℕ → Type 0) → Frame G img img N W
-same-frame G img N W i = inl refl
-
-module _ (G : Geometry) (img mid img′ : Bytes) (N : Names) (W : ℕ → Type 0)
-    (stay : (e : ℕ) → e < G .entries → N (entryAt G mid e) ≡ true → N (entryAt G img′ e) ≡ true) where
-  where-on : (i : ℕ) → Where G img mid N W i → Where G img img′ N W i
-  where-on i (in-entry e p n) = in-entry e p n
-  where-on i (in-new e p z n) = in-new e p z (stay e (p .low) n)
-  where-on i (in-record d p w) = in-record d p w
-
-  -- what the second change touches lies in entries that were named, or empty, before the first
-  pub then-frame : Frame G img mid N W → ((i : ℕ) → (getD img′ i 0 ≡ getD mid i 0) ⊎ Where G img img′ N W i) → Frame G img img′ N W
-  then-frame f g i = split (g i) (λ q. split (f i) (λ p. inl (q ∙ p)) (λ p. inr (where-on i p))) (λ p. inr p)
-
--- N and M name the same rows, U and W allow the same records
+-- ---- a naming that has more, and more records allowed
 pub frame-more : (G : Geometry) (img img′ : Bytes) (M N : Names) (U W : ℕ → Type 0) → ((r : Bytes) → M r ≡ true → N r ≡ true)
     → ((d : ℕ) → U d → W d) → Frame G img img′ M U → Frame G img img′ N W
 frame-more G img img′ M N U W more wide f i = split (f i) (λ q. inl q) (λ p. inr (go p))

@@ -60,9 +60,6 @@ pub record ReadOk (G : Geometry) (n user : ℕ) (l left : Lent) : Type 0 where
   pub cur : Cur G (viewOf G (left .image) (left .map)) user (left .fcb) entry
 
 module _ {G : Geometry} (S : Sound G) (n : ℕ) (l : Lent) (s : Session) (g : Good G (l .image) (l .map)) (f : Fits G l s) (cr : crOf (l .fcb) ≤ 128) where
-  user : ℕ
-  user = s .user
-
   j : ℕ
   j = targetSlot G n (l .fcb)
 
