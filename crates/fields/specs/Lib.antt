@@ -9,3 +9,4 @@ pub mod Target
 pub mod Search
 pub mod Size
 pub mod Changing
+pub mod Naming

@@ -1,4 +1,4 @@
--- Every number below a bound passes a test; some number does; the first that does. The definitions peel at the number that a loop
+-- Every number below a bound passes a test; some number does; the first that does, and the last. The definitions peel at the number that a loop
 -- counts, so a turn of the loop is one law.
 use mathlib.Core.Path.{_≡_, refl, ap, sym, _∙_}
 use mathlib.Core.Bool.{Bool, true, false, cond}
@@ -28,6 +28,11 @@ firstOf p i (suc n) = cond (p i) i (firstOf p (suc i) n)
 -- the first number from i on, below n, of which p holds, or n (or i, where i is over n)
 unfoldable pub firstIn : (ℕ → Bool) → ℕ → ℕ → ℕ
 firstIn p i n = firstOf p i (n - i)
+
+-- one past the last number below n of which p holds, or 0
+unfoldable pub lastBelow : (ℕ → Bool) → ℕ → ℕ
+lastBelow p zero = 0
+lastBelow p (suc n) = cond (p n) (suc n) (lastBelow p n)
 
 -- ---- every number
 pub all-none : (p : ℕ → Bool) → allBelow p 0 ≡ true
@@ -201,3 +206,36 @@ of-cong p q i (suc n) f = rw (f i (omega arith) (omega arith), of-cong p q (suc 
 pub first-cong : (p q : ℕ → Bool) (i n : ℕ) → ((k : ℕ) → i ≤ k → k < n → p k ≡ q k) → firstIn p i n ≡ firstIn q i n
 unfolding firstIn
 first-cong p q i n f = of-cong p q i (n - i) (λ k a b. f k a (omega arith))
+
+-- ---- the last number
+pub last-none : (p : ℕ → Bool) → lastBelow p 0 ≡ 0
+unfolding lastBelow
+last-none p = refl
+
+pub last-hit : (p : ℕ → Bool) (n : ℕ) → p n ≡ true → lastBelow p (n + 1) ≡ n + 1
+unfolding lastBelow
+last-hit p n e = simp (add-one, e)
+
+pub last-miss : (p : ℕ → Bool) (n : ℕ) → p n ≡ false → lastBelow p (n + 1) ≡ lastBelow p n
+unfolding lastBelow
+last-miss p n e = simp (add-one, e)
+
+pub last-high : (p : ℕ → Bool) (n : ℕ) → lastBelow p n ≤ n
+unfolding lastBelow
+last-high p zero = omega arith
+last-high p (suc n) = split (bool-cases (p n)) (λ e. rw e (omega arith)) (λ e. rw e (omega (arith, last-high p n)))
+
+pub last-holds : (p : ℕ → Bool) (n : ℕ) → 0 < lastBelow p n → p (lastBelow p n - 1) ≡ true
+unfolding lastBelow
+last-holds p zero h = absurd (omega arith)
+last-holds p (suc n) h =
+    split (bool-cases (p n)) (λ e. let q : suc n - 1 ≡ n = omega arith in rw (e, q) e)
+    (λ e. let l : 0 < lastBelow p n = rw e at h in rw e (last-holds p n l))
+
+pub last-after : (p : ℕ → Bool) (n k : ℕ) → lastBelow p n ≤ k → k < n → p k ≡ false
+unfolding lastBelow
+last-after p zero k h l = absurd (omega arith)
+last-after p (suc n) k h l =
+    split (bool-cases (p n)) (λ e. let q : suc n ≤ k = rw e at h in absurd (omega arith))
+    (λ e. let q : lastBelow p n ≤ k = rw e at h in
+    split (lt-or-le k n) (λ w. last-after p n k q w) (λ w. let z : n ≡ k = omega arith in rw z at e))

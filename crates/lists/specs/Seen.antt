@@ -2,15 +2,15 @@
 use mathlib.Core.Path.{_≡_, refl, ap, sym, _∙_}
 use mathlib.Core.Bool.{Bool, true, false, not}
 use mathlib.Core.List.{List}
-use Prim.Native.Nat.{ℕ, _+_, _≤_, _<_}
+use Prim.Native.Nat.{ℕ, _+_, _<_}
 use native.Mathlib.Omega.{arith}
 use lib.Dec.{eqb}
 use lib.ListN.{length, getD, set, length-set, replicate, getD-replicate, length-replicate}
 use lib.Seq.{getD-set-same, getD-set-other}
-use borrow.Author.Tests.{eqb-false, eq-eqb, ne-eqb}
-use Rattle.lists.specs.Cases.{bool-cases, eq-or-ne, split}
-use Rattle.lists.specs.Tests.{_or_, or-left, or-right, or-first}
-use Rattle.lists.specs.Below.{anyBelow, any-next, any-none, any-never}
+use borrow.Author.Tests.{eq-eqb, ne-eqb}
+use Rattle.lists.specs.Cases.{eq-or-ne, split}
+use Rattle.lists.specs.Tests.{_or_, or-right, or-first}
+use Rattle.lists.specs.Below.{anyBelow, any-next, any-none}
 
 abbrev pub bit : Bool → ℕ
 bit true = 1
@@ -31,15 +31,6 @@ bit-set false = refl
 -- f takes the value b below x
 unfoldable pub taken : (ℕ → ℕ) → ℕ → ℕ → Bool
 taken f x b = anyBelow (λ (y : ℕ). eqb (f y) b) x
-
--- a turn: f takes b, or does not
-pub taken-hit : (f : ℕ → ℕ) (x b : ℕ) → f x ≡ b → taken f (x + 1) b ≡ true
-unfolding taken
-taken-hit f x b q = any-next _ x ∙ or-right _ _ (eq-eqb _ _ q)
-
-pub taken-miss : (f : ℕ → ℕ) (x b : ℕ) → (f x ≡ b → ⊥) → taken f (x + 1) b ≡ taken f x b
-unfolding taken
-taken-miss f x b q = any-next _ x ∙ or-first _ _ (ne-eqb _ _ q)
 
 -- the marks after x turns: 1 at what `start` marks and at what f takes below x
 unfoldable pub Seen : (ℕ → Bool) → (ℕ → ℕ) → ℕ → List ℕ → Type 0
@@ -81,17 +72,3 @@ seen-kept start f l x t s b hb =
     split (eq-or-ne (f x) b)
     (λ q. let z : start b ≡ true = ap start (sym q) ∙ t in s b hb ∙ rw (or-right (anyBelow (λ (y : ℕ). eqb (f y) b) x) _ z, or-right (anyBelow (λ (y : ℕ). eqb (f y) b) (x + 1)) _ z))
     (λ q. s b hb ∙ rw (any-next, or-first (anyBelow (λ (y : ℕ). eqb (f y) b) x) _ (ne-eqb (f x) b q)))
-
--- a turn whose value has no mark leaves the marks as they are
-pub seen-past : (start : ℕ → Bool) (f : ℕ → ℕ) (l : List ℕ) (x : ℕ) → length l ≤ f x → Seen start f x l → Seen start f (x + 1) l
-unfolding Seen
-seen-past start f l x past s b hb = s b hb ∙ rw (taken-miss f x b (λ q. omega arith))
-
--- a number that has no mark was not taken
-pub seen-unmarked : (start : ℕ → Bool) (f : ℕ → ℕ) (x : ℕ) (l : List ℕ) → Seen start f x l → (b : ℕ) → b < length l → getD l b 0 ≡ 0 → taken f x b ≡ false
-seen-unmarked start f x l s b h z =
-    split (bool-cases (taken f x b)) (λ t. let q : 0 ≡ 1 = sym z ∙ seen-at start f x l s b h ∙ ap bit (or-left _ _ t) in absurd (omega arith)) (λ e. e)
-
-pub taken-never : (f : ℕ → ℕ) (x b : ℕ) → taken f x b ≡ false → (y : ℕ) → y < x → f y ≡ b → ⊥
-unfolding taken
-taken-never f x b t y h q = eqb-false _ _ (any-never _ x t y h) q

@@ -1,5 +1,6 @@
 // Names: the name rule, and the comparison of names in their low seven bits, of a name with a name or with a search pattern.
 ghost use mathlib.Core.Path.{_≡_};
+ghost use mathlib.Core.Bool.{not, cond};
 ghost use Prim.Native.Nat.{_+_, _≤_};
 ghost use lib.ListN.{length};
 ghost use Rattle.format.specs.Names.{nameBytes, nameByte, nameRight, byteLike, nameLike};
@@ -22,22 +23,32 @@ pub fn name_byte(wild: bool, b: u8) -> bool
     wild
 }
 
-// Whether the eleven bytes from `at` on obey the name rule.
+// 1 where a name may not hold the byte, or else 0.
+fn name_fault(wild: bool, b: u8) -> u8
+    ensures { λ r. ⌜ (r ≡ cond (not (nameByte wild b)) 1 0) × (r ≤ 1) ⌝ }
+{
+    if name_byte(wild, b) {
+        return 0;
+    }
+    1
+}
+
+// Whether the eleven bytes from `at` on obey the name rule. Their faults are counted: that takes several bytes at a time, where an
+// early return would branch at each.
 pub fn name_right(wild: bool, r: &[u8], at: usize) -> bool
     requires { ⌜ at + nameBytes ≤ length (now r) ⌝ }
     ensures { λ b. ⌜ b ≡ nameRight wild (now (r .entry)) at ⌝ }
 {
-    if r[at] % 128 == 32 {
-        return false;
-    }
+    let mut faults: u8 = 0;
     let mut i = 0;
     while i < NAME_BYTES {
-        if !name_byte(wild, r[at + i]) {
-            return false;
-        }
+        faults += name_fault(wild, r[at + i]);
         i += 1;
     }
-    true
+    if faults != 0 {
+        return false;
+    }
+    r[at] % 128 != 32
 }
 
 // Whether byte y is what x asks for. Equal bytes, the usual case, take one compare.

@@ -33,8 +33,11 @@ random-extent n fcb h = rw h
 pub random-below : (n : ℕ) (fcb : Bytes) → isRandom n ≡ true → ltb 262143 (randomOf fcb) ≡ false → targetExtent n fcb < extents
 random-below n fcb r h = omega (arith, random-extent n fcb r, ltb-false 262143 (randomOf fcb) h)
 
+pub random-most : (n : ℕ) (fcb : Bytes) → isRandom n ≡ true → targetExtent n fcb < extents → randomOf fcb ≤ 262143
+random-most n fcb r h = omega (arith, random-extent n fcb r)
+
 pub random-low : (n : ℕ) (fcb : Bytes) → isRandom n ≡ true → targetExtent n fcb < extents → ltb 262143 (randomOf fcb) ≡ false
-random-low n fcb r h = le-ltb 262143 (randomOf fcb) (omega (arith, random-extent n fcb r))
+random-low n fcb r h = le-ltb 262143 (randomOf fcb) (random-most n fcb r h)
 
 module _ (G : Geometry) (l : Lent) (s : Session) where
   -- ---- from the rows to the facts

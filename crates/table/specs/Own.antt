@@ -20,8 +20,8 @@ use Rattle.model.specs.declared.Verdict.the-variants.{Refused}
 use Rattle.model.specs.Lent.{Lent, rowsOf, searchOn}
 use Rattle.model.specs.Target.{extents, targetExtent, stays, presentEntry, targetEntry, blockThere, recordThere, readOnlyThere}
 use Rattle.model.specs.Search.{patternOf, findHit}
-use Rattle.table.specs.First.{_&_}
 use Rattle.model.specs.Table.{oneOf, fcbCalls, plainCalls, usesFcb, isListed, parametersRight, diskRight, anyNamed, askedEntry, anyReadOnly, positionRight, Row, firstRow, table, verdict}
+use Rattle.table.specs.First.{_&_}
 
 -- the calls
 pub data Call : ℕ → Type 0 where

@@ -1,5 +1,5 @@
 -- One call once the first three rows have passed it: its own rows decide, and then it is carried out. What a call's own function does.
-use mathlib.Core.Path.{_≡_, sym, ap, _∙_}
+use mathlib.Core.Path.{_≡_, refl, sym, ap, _∙_}
 use mathlib.Core.Bool.{not}
 use Prim.Native.Nat.{ℕ}
 use Rattle.format.specs.Diskette.{Geometry}
@@ -8,11 +8,13 @@ use Rattle.model.specs.declared.Session.{Session}
 use Rattle.model.specs.declared.Answer.{Answer}
 use Rattle.model.specs.declared.Code.{Code}
 use Rattle.model.specs.declared.Code.the-variants.{BadParameter, BadDisk}
+use Rattle.model.specs.declared.Verdict.{Verdict}
+use Rattle.model.specs.declared.Verdict.the-variants.{Passed, Refused}
 use Rattle.model.specs.Lent.{Lent, Outcome, outcome, answerOf}
 use Rattle.model.specs.Table.{parametersRight, diskRight, firstRow, verdict}
-use Rattle.model.specs.Step.{refusedSession, refused, carriedOut, step}
+use Rattle.model.specs.Step.{refusedSession, refused, effect, carriedOut, step}
 use Rattle.table.specs.First.{NoneHolds, Decides, first-passes, none-passed, decides-refused}
-use Rattle.table.specs.Own.{Call, when, ownRows, verdict-rows}
+use Rattle.table.specs.Own.{Call, call13, call15, call16, call17, call18, call19, call20, call21, call22, call23, call32, call33, call34, call35, call36, call46, call98, when, ownRows, verdict-rows}
 use Rattle.table.specs.Facts.{Ready}
 use Rattle.table.specs.Reflect.{parameters-right, disk-right}
 use Rattle.table.specs.Carried.{carriedBy, effect-is}
@@ -53,3 +55,33 @@ pub step-own : (G : Geometry) (asked : Asked) (l : Lent) (s : Session) {n : ℕ}
     → step G asked l s ≡ ownStep G (asked .argument) l s c
 unfolding step ownStep
 step-own G asked l s c q r = rw (q, verdict-own G (asked .argument) l s c r)
+
+-- ---- only 32 looks at the argument
+module _ (G : Geometry) (a b : ℕ) (l : Lent) (s : Session) where
+  carried-same : (n : ℕ) → effect G n a l s ≡ effect G n b l s → (v : Verdict) → carriedOut G v n a l s ≡ carriedOut G v n b l s
+  carried-same n e Passed = e
+  carried-same n e (Refused code) = refl
+
+  own-same : {n : ℕ} (c : Call n) → ownRows G a l s c ≡ ownRows G b l s c → carriedBy G a l s c ≡ carriedBy G b l s c
+      → ownStep G a l s c ≡ ownStep G b l s c
+  unfolding ownStep
+  own-same {n} c p q = rw p (carried-same n (effect-is G a l s c ∙ q ∙ sym (effect-is G b l s c)) (firstRow (ownRows G b l s c)))
+
+  pub own-argument : {n : ℕ} (c : Call n) → (n ≡ 32 → ⊥) → ownStep G a l s c ≡ ownStep G b l s c
+  own-argument call13 h = own-same call13 refl refl
+  own-argument call15 h = own-same call15 refl refl
+  own-argument call16 h = own-same call16 refl refl
+  own-argument call17 h = own-same call17 refl refl
+  own-argument call18 h = own-same call18 refl refl
+  own-argument call19 h = own-same call19 refl refl
+  own-argument call20 h = own-same call20 refl refl
+  own-argument call21 h = own-same call21 refl refl
+  own-argument call22 h = own-same call22 refl refl
+  own-argument call23 h = own-same call23 refl refl
+  own-argument call32 h = absurd (h refl)
+  own-argument call33 h = own-same call33 refl refl
+  own-argument call34 h = own-same call34 refl refl
+  own-argument call35 h = own-same call35 refl refl
+  own-argument call36 h = own-same call36 refl refl
+  own-argument call46 h = own-same call46 refl refl
+  own-argument call98 h = own-same call98 refl refl

@@ -9,7 +9,7 @@ use Rattle.lists.specs.Tests.{and-left, and-right}
 use Rattle.format.specs.Diskette.{Geometry}
 use Rattle.format.specs.Entries.{findEmpty}
 use Rattle.format.specs.Notes.{findFree}
-use Rattle.format.specs.FoundLaws.{FoundAt, at-nothing}
+use Rattle.format.specs.FoundLaws.{FoundAt, at-not-nothing}
 use Rattle.format.specs.declared.Found.{Found}
 use Rattle.format.specs.declared.Found.the-variants.{At, Nothing}
 use Rattle.model.specs.declared.Session.{Session}
@@ -74,4 +74,4 @@ planned-write G n l s w =
 pub planned-read : (G : Geometry) (n : ℕ) (l : Lent) (s : Session) → Reads G l s n → Planned G n (s .user) l (There G n (s .user) l) (plan G n (s .user) l)
 planned-read G n l s r =
     planned G n (s .user) l (There G n (s .user) l) (record-block G n (s .user) l (r .there)) (r .entry .place) (r .entry .is)
-    (λ q. at-nothing (r .target .place) (sym (r .target .is) ∙ q))
+    (λ q. absurd (at-not-nothing (r .target .place) (sym (r .target .is) ∙ q)))

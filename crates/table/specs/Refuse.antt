@@ -3,9 +3,9 @@ use mathlib.Core.Path.{_≡_, refl, sym, ap, subst, _∙_}
 use mathlib.Core.Logic.{_⊎_}
 use mathlib.Core.Bool.{Bool, true, false, not}
 use mathlib.Core.List.{List, [], _∷_}
-use Prim.Native.Nat.{ℕ, _≤_}
-use lib.Dec.{eqb}
-use borrow.Author.Tests.{eqb-false, not-true, not-false}
+use Prim.Native.Nat.{ℕ, _≤_, _<_}
+use lib.Dec.{eqb, ltb}
+use borrow.Author.Tests.{ltb-true, eqb-false, not-true, not-false}
 use Rattle.lists.specs.Cases.{split, bool-cases, clash, not-both}
 use Rattle.lists.specs.Tests.{_and_, _or_, and-left, and-right}
 use Rattle.format.specs.Diskette.{Geometry}
@@ -13,6 +13,7 @@ use Rattle.format.specs.Names.{nameRight}
 use Rattle.format.specs.Entries.{exOf}
 use Rattle.format.specs.Consistent.{consistent}
 use Rattle.format.specs.Notes.{mapRight}
+use Rattle.format.specs.Fcb.{randomOf}
 use Rattle.format.specs.Found.{isFound}
 use Rattle.format.specs.FoundLaws.{not-found}
 use Rattle.format.specs.declared.Found.{Found}
@@ -218,6 +219,19 @@ module _ (G : Geometry) (argument : ℕ) (l : Lent) (s : Session) where
       at-one (λ (n : ℕ). verdict G n argument l s ≡ Refused NotClosed → ⊥) n (20 ∷ 21 ∷ 33 ∷ 34 ∷ []) (refused-given n NotClosed refl refl refl q)
       ((λ v. three-20 (own-decides NotClosed call20 refl refl v)) & (λ v. three-21 (own-decides NotClosed call21 refl refl v))
       & (λ v. three-33 (own-decides NotClosed call33 refl refl v)) & (λ v. three-34 (own-decides NotClosed call34 refl refl v)) & tt) q
+
+  -- ---- code 6 comes out only where the random record is over 262,143
+  first-row : (test : Bool) (code : Code) (rs : List Row) → Decides code (when test code ∷ rs) → Absent code rs → test ≡ true
+  first-row test code rs (here t q) a = t
+  first-row test code rs (later f d) a = absent code rs d a
+
+  pub random-over : (n : ℕ) → verdict G n argument l s ≡ Refused BadRecord → 262143 < randomOf (l .fcb)
+  unfolding gives codeNumber
+  random-over n q =
+      ltb-true _ _ (at-one (λ (n : ℕ). verdict G n argument l s ≡ Refused BadRecord → ltb 262143 (randomOf (l .fcb)) ≡ true) n (33 ∷ 34 ∷ [])
+      (refused-given n BadRecord refl refl refl q)
+      ((λ v. first-row _ BadRecord _ (own-decides BadRecord call33 refl refl v) (refl & refl & refl & refl & tt))
+      & (λ v. first-row _ BadRecord _ (own-decides BadRecord call34 refl refl v) (refl & refl & refl & refl & refl & tt)) & tt) q)
 
   -- ---- a search ends exactly where it has found nothing
   last-row : (r : Found) (code : Code) → Decides code (when (not (isFound r)) code ∷ []) → r ≡ Nothing

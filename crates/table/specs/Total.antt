@@ -8,7 +8,7 @@ use lib.Dec.{eqb}
 use borrow.Author.Tests.{eq-eqb, ne-eqb}
 use Rattle.lists.specs.Cases.{split}
 use Rattle.format.specs.Diskette.{Bytes, Geometry, eightInch}
-use Rattle.format.specs.FoundLaws.{found-first}
+use Rattle.format.specs.FoundLaws.{first-says}
 use Rattle.model.specs.declared.Asked.{Asked}
 use Rattle.model.specs.declared.Session.{Session}
 use Rattle.model.specs.declared.Code.{Code}
@@ -21,11 +21,11 @@ use Rattle.model.specs.Search.{findHit}
 use Rattle.model.specs.Table.{table, verdict}
 use Rattle.model.specs.Step.{refusedSession, refused, effect, step}
 use Rattle.table.specs.First.{NoneHolds, Decides, passed-none, refused-decides}
-use Rattle.table.specs.Own.{Call, call13, call15, call16, call17, call18, call19, call20, call21, call22, call23, call32, call33, call34, call35, call36, call46, call98}
-use Rattle.table.specs.Facts.{Own, AcceptedCall}
-use Rattle.table.specs.Accept.{accepted}
-use Rattle.table.specs.Refuse.{SearchEnds, search-over, Refuses, refuses}
-use Rattle.table.specs.Carried.{GoesOn, Leaves, Done, effect-is, carried-done}
+use Rattle.table.specs.Own.{Call, call13, call15, call16, call17, call18, call19, call20, call21, call22, call23, call32, call33, call34, call35, call36, call46, call98, ownRows}
+use Rattle.table.specs.Facts.{Own, Ready, AcceptedCall}
+use Rattle.table.specs.Accept.{accepted, passes}
+use Rattle.table.specs.Refuse.{SearchEnds, search-over, Refuses, refuses, refused-own}
+use Rattle.table.specs.Carried.{carriedBy, GoesOn, Leaves, Done, effect-is, carried-done}
 
 -- only a search that has found nothing changes the session of a refusal
 refused-session : (c : Code) (s : Session) → (refusedSession c s ≡ s) ⊎ ((c ≡ SearchOver) × (refusedSession c s ≡ ended s))
@@ -45,6 +45,10 @@ refused-session NoExtent s = inl refl
 refused-session NoRecord s = inl refl
 refused-session NoEntry s = inl refl
 refused-session DiskFull s = inl refl
+
+-- what is asked, from its parts
+abbrev pub ask : ℕ → ℕ → Asked
+ask number argument = record { number = number; argument = argument }
 
 module _ (G : Geometry) (asked : Asked) (l : Lent) (s : Session) where
   -- a refusal with code c
@@ -112,6 +116,16 @@ module _ (G : Geometry) (asked : Asked) (l : Lent) (s : Session) where
             (carried-done G (asked .argument) l s (facts .call) (facts .own));
       }
 
+  -- a call whose facts hold is carried out
+  pub step-carried : (c : Call (asked .number)) → Ready G (asked .number) l s → Own G l s (asked .argument) c
+      → step G asked l s ≡ carriedBy G (asked .argument) l s c
+  step-carried c r o = passed-is (passes G (asked .number) (asked .argument) l s c r o) ∙ effect-is G (asked .argument) l s c
+
+  -- a call that a row of its own refuses is refused
+  pub step-refused : (c : Call (asked .number)) (code : Code) → Ready G (asked .number) l s → Decides code (ownRows G (asked .argument) l s c)
+      → step G asked l s ≡ refused code s l
+  step-refused c code r d = refused-is code (refused-own G (asked .argument) l s c code r d)
+
   -- every call is the one or the other
   pub total : ((c : Code) × RefusedBy c) ⊎ CarriedOut
   total = go (verdict G (asked .number) (asked .argument) l s) refl
@@ -136,7 +150,7 @@ module _ (G : Geometry) (argument : ℕ) (l : Lent) (s : Session) (r : InRange G
   on-range : (pattern : Bytes) (place : ℕ) (t : Session) → GoesOn s pattern (findHit G (rowsOf G l) (s .user) pattern place) t → InRange G t
   unfolding findHit
   on-range pattern place t g =
-      let below : g .entry < G .entries = found-first _ place (G .entries) (g .entry) (g .found) .below in
+      let below : g .entry < G .entries = first-says _ place (G .entries) (g .entry) (g .found) .below in
       rw (g .on) record { user = r .user; place = omega arith }
 
   user-range : (t : Session) → (argument ≡ 255) ⊎ (argument ≤ 15) → t ≡ ended (cond (eqb argument 255) s (withUser s argument)) → InRange G t

@@ -1,45 +1,36 @@
--- The loop keeps that the bytes passed may stand in a name; the first byte was tested before it.
+-- The loop counts the bytes passed that may not stand in a name: none, exactly where all may.
+use Rattle.format.specs.Names.{nameBytes, nameByte, nameRight}
+use Rattle.lists.specs.Count.{countBelow, count-none, count-next, count-all, count-fails}
+use Rattle.lists.specs.Tests.{and-fails-left, and-then}
+use lib.ListN.{getD}
+use Prim.Native.Nat.{ℕ, _+_, _-_, _≤_}
+use mathlib.Core.Bool.{not}
+use mathlib.Core.Path.{_≡_, sym, _∙_}
 use borrow.Author.Needs.{needs}
 use native.Mathlib.Omega.{arith}
-use mathlib.Core.Path.{_≡_, sym, ap, _∙_}
-use mathlib.Core.Bool.{true, not}
-use Prim.Native.Nat.{ℕ, _+_, _-_, _≤_}
-use lib.ListN.{getD}
-use borrow.Author.Tests.{eq-eqb, ne-eqb, not-true, not-false}
-use Rattle.lists.specs.Tests.{and-both, and-fails-left, and-fails-right}
-use Rattle.lists.specs.Below.{allBelow, all-none, all-more, all-fails, all-done}
-use Rattle.format.specs.Names.{nameBytes, nameByte, nameRight}
 use Rattle.names.proofs.name_right.Statement.{statement}
 use Rattle.names.proofs.name_right.Tie as tie
 
 abbrev Inv-loop : tie.InvT-loop
-Inv-loop wild r at i₀ i = (allBelow (λ (k : ℕ). nameByte wild (getD r (at + k) 0)) i ≡ true) × (i ≤ nameBytes)
+Inv-loop wild r at faults₀ i₀ faults i = (faults ≡ countBelow (λ (k : ℕ). not (nameByte wild (getD r (at + k) 0))) i) × (i ≤ nameBytes) × (faults ≤ i)
 
 abbrev μ-loop : tie.MeasureT-loop
-μ-loop wild r at i₀ i = nameBytes - i
-
-shared-slice-read-if1 : tie.Need-shared-slice-read-if1 Inv-loop μ-loop
-shared-slice-read-if1 c = omega arith
-
-returns : tie.Need-returns Inv-loop μ-loop
-unfolding nameRight
-returns c = sym (and-fails-right _ _ (ap not (eq-eqb _ _ (c .if1 .taken))))
+μ-loop wild r at faults₀ i₀ faults i = nameBytes - i
 
 loop-holds : tie.Need-loop-holds Inv-loop μ-loop
-loop-holds c = (all-none _, omega arith)
+loop-holds c = (sym (count-none _), omega arith, omega arith)
 
-add-name-byte : tie.Need-add-name-byte Inv-loop μ-loop
-add-name-byte c = omega arith
+add-name-fault : tie.Need-add-name-fault Inv-loop μ-loop
+add-name-fault c = omega arith
 
-shared-slice-read-name-byte : tie.Need-shared-slice-read-name-byte Inv-loop μ-loop
-shared-slice-read-name-byte c = omega arith
+shared-slice-read-name-fault : tie.Need-shared-slice-read-name-fault Inv-loop μ-loop
+shared-slice-read-name-fault c = omega arith
 
-name-byte-requires : tie.Need-name-byte-requires Inv-loop μ-loop
-name-byte-requires c κs = search needs
+name-fault-requires : tie.Need-name-fault-requires Inv-loop μ-loop
+name-fault-requires c κs = search needs
 
-returns-2 : tie.Need-returns-2 Inv-loop μ-loop
-unfolding nameRight
-returns-2 c = let b = c .before .before .before .before in sym (and-fails-left _ _ (all-fails _ nameBytes (b .loop .i) (omega arith) (sym (c .before .name-byte .ensures) ∙ not-true _ (c .if2 .taken))))
+add-faults : tie.Need-add-faults Inv-loop μ-loop
+add-faults c = omega arith
 
 add-i : tie.Need-add-i Inv-loop μ-loop
 add-i c = omega arith
@@ -48,11 +39,18 @@ loop-less : tie.Need-loop-less Inv-loop μ-loop
 loop-less c = omega arith
 
 loop-again : tie.Need-loop-again Inv-loop μ-loop
-loop-again c = let b = c .before .before .before .before in (all-more _ (b .loop .i) (b .loop .inv .0) (sym (c .before .name-byte .ensures) ∙ not-false _ (c .if2 .left)), omega arith)
+loop-again c = let b = c .before .before .before in (rw (b .loop .inv .0, c .name-fault .ensures .0) (sym (count-next _ (b .loop .i))), omega arith, omega arith)
 
-returns-3 : tie.Need-returns-3 Inv-loop μ-loop
+returns : tie.Need-returns Inv-loop μ-loop
 unfolding nameRight
-returns-3 c = let b = c .before in sym (and-both _ _ (sym (all-done _ (b .loop .i) nameBytes (omega arith) (omega arith) (b .loop .inv .0))) (ap not (ne-eqb _ _ (b .before .if1 .left))))
+returns c = let b = c .before .before in let q : b .loop .i ≡ nameBytes = omega arith in sym (and-fails-left _ _ (count-fails _ nameBytes (λ z. c .if1 .taken (rw q at (b .loop .inv .0) ∙ z))))
+
+shared-slice-read-result : tie.Need-shared-slice-read-result Inv-loop μ-loop
+shared-slice-read-result c = omega arith
+
+returns-2 : tie.Need-returns-2 Inv-loop μ-loop
+unfolding nameRight
+returns-2 c = let b = c .before .before .before in let q : b .loop .i ≡ nameBytes = omega arith in sym (and-then _ _ (count-all _ nameBytes (sym (rw q at (b .loop .inv .0)) ∙ c .before .if1 .left)))
 
 pub name-right-spec : {M : Type 1} → statement M
 name-right-spec =
@@ -60,14 +58,14 @@ name-right-spec =
     (tie.spec
     Inv-loop
     μ-loop
-    shared-slice-read-if1
-    returns
     loop-holds
-    add-name-byte
-    shared-slice-read-name-byte
-    name-byte-requires
-    returns-2
+    add-name-fault
+    shared-slice-read-name-fault
+    name-fault-requires
+    add-faults
     add-i
     loop-less
     loop-again
-    returns-3)
+    returns
+    shared-slice-read-result
+    returns-2)

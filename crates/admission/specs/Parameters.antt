@@ -1,0 +1,59 @@
+-- The tests of lengths and parameters, one after the other, as code makes them.
+use mathlib.Core.Path.{_≡_, ap, _∙_}
+use mathlib.Core.Bool.{true, false, not}
+use Prim.Native.Nat.{ℕ, _≤_}
+use lib.Dec.{eqb, leb}
+use lib.ListN.{length, getD}
+use borrow.Author.Tests.{eqb-true, eq-eqb, leb-true, le-leb}
+use Rattle.lists.specs.Tests.{_and_, _or_, and-left, and-right, and-then, or-then, or-left}
+use Rattle.format.specs.Diskette.{Geometry, imageBytes, recordBytes}
+use Rattle.format.specs.Fcb.{fcbBytes}
+use Rattle.model.specs.declared.Session.{Session}
+use Rattle.model.specs.Lent.{Lent}
+use Rattle.model.specs.Table.{usesFcb, lengthsRight, parametersRight}
+
+module _ (G : Geometry) (l : Lent) where
+  pub image-length : lengthsRight G l ≡ true → length (l .image) ≡ imageBytes G
+  unfolding lengthsRight
+  image-length t = eqb-true _ _ (and-left _ _ t)
+
+  pub map-length : lengthsRight G l ≡ true → length (l .map) ≡ G .blocks
+  unfolding lengthsRight
+  map-length t = eqb-true _ _ (and-left _ _ (and-right _ _ t))
+
+  pub fcb-length : lengthsRight G l ≡ true → length (l .fcb) ≡ fcbBytes
+  unfolding lengthsRight
+  fcb-length t = eqb-true _ _ (and-left _ _ (and-right _ _ (and-right _ _ t)))
+
+  -- the last length decides where the others are right
+  pub buffer-decides : length (l .image) ≡ imageBytes G → length (l .map) ≡ G .blocks → length (l .fcb) ≡ fcbBytes
+      → lengthsRight G l ≡ eqb (length (l .buffer)) recordBytes
+  unfolding lengthsRight
+  buffer-decides i m f =
+      and-then _ _ (eq-eqb _ _ i) ∙ and-then _ _ (eq-eqb _ _ m) ∙ and-then _ _ (eq-eqb _ _ f)
+
+  module _ (n : ℕ) (s : Session) where
+    pub lengths-are : parametersRight G l n s ≡ true → lengthsRight G l ≡ true
+    unfolding parametersRight
+    lengths-are t = and-left _ _ t
+
+    pub user-is : parametersRight G l n s ≡ true → s .user ≤ 15
+    unfolding parametersRight
+    user-is t = leb-true _ _ (and-left _ _ (and-right _ _ t))
+
+    pub place-is : parametersRight G l n s ≡ true → s .place ≤ G .entries
+    unfolding parametersRight
+    place-is t = leb-true _ _ (and-left _ _ (and-right _ _ (and-right _ _ t)))
+
+    -- byte 0 of the FCB decides where everything else is right and the FCB is used
+    drive-left : lengthsRight G l ≡ true → s .user ≤ 15 → s .place ≤ G .entries
+        → parametersRight G l n s ≡ (not (usesFcb n) or leb (getD (l .fcb) 0 0) 1)
+    unfolding parametersRight
+    drive-left a b c = and-then _ _ a ∙ and-then _ _ (le-leb _ _ b) ∙ and-then _ _ (le-leb _ _ c)
+
+    pub drive-decides : lengthsRight G l ≡ true → s .user ≤ 15 → s .place ≤ G .entries → usesFcb n ≡ true
+        → parametersRight G l n s ≡ leb (getD (l .fcb) 0 0) 1
+    drive-decides a b c u = drive-left a b c ∙ or-then _ _ (ap not u)
+
+    pub drive-unused : lengthsRight G l ≡ true → s .user ≤ 15 → s .place ≤ G .entries → usesFcb n ≡ false → parametersRight G l n s ≡ true
+    drive-unused a b c u = drive-left a b c ∙ or-left _ _ (ap not u)

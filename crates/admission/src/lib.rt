@@ -1,0 +1,83 @@
+// What every call is asked for first: a number that is listed, and lengths and parameters in range.
+ghost use mathlib.Core.Path.{_≡_};
+ghost use Prim.Native.Nat.{_≤_};
+ghost use lib.ListN.{length};
+ghost use Rattle.format.specs.Diskette.{eightInch};
+ghost use Rattle.model.specs.Lent.{lend};
+ghost use Rattle.model.specs.Table.{usesFcb, isListed, lengthsRight, parametersRight};
+use model::Session;
+
+// Whether a call uses the FCB.
+fn uses_fcb(number: u8) -> bool
+    ensures { λ r. ⌜ r ≡ usesFcb number ⌝ }
+{
+    match number {
+        15 | 16 | 17 | 19 | 20 | 21 | 22 | 23 | 33 | 34 | 35 | 36 => true,
+        _ => false,
+    }
+}
+
+// Whether there is a call of this number.
+pub fn is_listed(number: u8) -> bool
+    ensures { λ r. ⌜ r ≡ isListed number ⌝ }
+{
+    if uses_fcb(number) {
+        return true;
+    }
+    if number == 13 {
+        return true;
+    }
+    if number == 18 {
+        return true;
+    }
+    if number == 32 {
+        return true;
+    }
+    if number == 46 {
+        return true;
+    }
+    number == 98
+}
+
+// Whether each of the four buffers has its length.
+fn lengths_right(image: &[u8], map: &[u16], fcb: &[u8], buffer: &[u8]) -> bool
+    ensures { λ r. ⌜ r ≡ lengthsRight eightInch (lend (now (image .entry)) (now (map .entry)) (now (fcb .entry)) (now (buffer .entry))) ⌝ }
+{
+    if image.len() != format::IMAGE_BYTES {
+        return false;
+    }
+    if map.len() != format::BLOCKS {
+        return false;
+    }
+    if fcb.len() != format::FCB_BYTES {
+        return false;
+    }
+    buffer.len() == format::RECORD_BYTES
+}
+
+// Whether lengths, the session's user and place, and byte 0 of an FCB that is used are in range.
+pub fn parameters_right(
+    number: u8,
+    image: &[u8],
+    map: &[u16],
+    fcb: &[u8],
+    buffer: &[u8],
+    session: Session,
+) -> bool
+    ensures { λ r. ⌜ r ≡ parametersRight eightInch (lend (now (image .entry)) (now (map .entry)) (now (fcb .entry)) (now (buffer .entry))) number session ⌝ }
+{
+    if !lengths_right(image, map, fcb, buffer) {
+        return false;
+    }
+    if 15 < session.user {
+        return false;
+    }
+    let place = session.place as usize;
+    if format::ENTRIES < place {
+        return false;
+    }
+    if uses_fcb(number) {
+        return fcb[0] <= 1;
+    }
+    true
+}

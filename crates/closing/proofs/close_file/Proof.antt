@@ -1,0 +1,93 @@
+-- `closing::close_file` meets its contract: the entry of the FCB decides, and a refusal comes before anything is written.
+use Prim.Native.Nat.{_<_}
+use borrow.Author.Needs.{needs}
+use Rattle.format.specs.Diskette.{eightInch}
+use Rattle.closing.specs.Laws.{close-refused, close-low, close-carried}
+use Rattle.closing.proofs.close_file.Statement.{statement}
+use Rattle.closing.proofs.close_file.Tie as tie
+
+current-entry-requires : tie.Need-current-entry-requires
+current-entry-requires c κs = search needs
+
+enum-known-e : tie.Need-enum-known-e
+enum-known-e c = search needs
+
+enum-told : tie.Need-enum-told
+enum-told c = search needs
+
+refuse-requires : tie.Need-refuse-requires
+refuse-requires c κs = search needs
+
+same-length : tie.Need-same-length
+same-length c = search needs
+
+same-length-2 : tie.Need-same-length-2
+same-length-2 c = search needs
+
+same-length-3 : tie.Need-same-length-3
+same-length-3 c = search needs
+
+returns : tie.Need-returns
+returns c buffer =
+    let a = c .before .before .before .before .before .before .before .before .before .before .args in
+    let found = c .before .before .before .current-entry in
+    close-refused eightInch (a .image .now) (a .map .now) (a .fcb .now) (a .session) (found .result) (found .ensures) buffer (c .refuse .result)
+    (c .before .enum-told .given .1) (c .refuse .ensures)
+
+close-entry-requires : tie.Need-close-entry-requires
+close-entry-requires c κs =
+    let a = c .before .before .before .before .before .before .before .before .before .before .before .before .before .args in
+    let found = c .before .before .before .before .before .before .current-entry in
+    let e = c .before .before .before .before .e .given in
+    let low : e .0 .0 < eightInch .entries =
+    close-low eightInch (a .image .now) (a .map .now) (a .fcb .now) (a .session) (found .result) (found .ensures) (e .0 .0) (e .1) in
+    search needs
+
+clear-attributes-requires : tie.Need-clear-attributes-requires
+clear-attributes-requires c κs = search needs
+
+cast-done : tie.Need-cast-done
+cast-done c = search needs
+
+done-requires : tie.Need-done-requires
+done-requires c κs = search needs
+
+same-length-4 : tie.Need-same-length-4
+same-length-4 c = search needs
+
+same-length-5 : tie.Need-same-length-5
+same-length-5 c = search needs
+
+same-length-6 : tie.Need-same-length-6
+same-length-6 c = search needs
+
+returns-2 : tie.Need-returns-2
+returns-2 c buffer =
+    let a = c .before .before .before .before .before .before .before .before .before .before .before .before .before .before .before .before .before .before .before .before .before .before .before .args in
+    let found = c .before .before .before .before .before .before .before .before .before .before .before .before .before .before .before .before .current-entry in
+    let e = c .before .before .before .before .before .before .before .before .before .before .before .before .before .before .e .given in
+    let closed = c .before .before .before .before .before .before .before .before .before .close-entry in
+    close-carried eightInch (a .image .now) (a .map .now) (a .fcb .now) (a .session) (found .result) (found .ensures) buffer (e .0 .0) (c .done .result)
+    (closed .last .0) (closed .last .1 .0) (c .before .before .before .clear-attributes .last .0) (e .1) (c .done .ensures) (closed .ensures .0) (closed .ensures .1)
+    (c .before .before .before .clear-attributes .ensures)
+
+pub close-file-spec : {M : Type 1} → statement M
+close-file-spec =
+    tie.close
+    (tie.spec
+    current-entry-requires
+    enum-known-e
+    enum-told
+    refuse-requires
+    same-length
+    same-length-2
+    same-length-3
+    returns
+    close-entry-requires
+    clear-attributes-requires
+    cast-done
+    done-requires
+    same-length-4
+    same-length-5
+    same-length-6
+    returns-2)

@@ -1,0 +1,55 @@
+-- `closing::merge` meets its contract. The invariant: the slots below j are the merged ones.
+use mathlib.Core.Path.{_≡_, refl}
+use Prim.Native.Nat.{_-_, _≤_}
+use native.Mathlib.Omega.{arith}
+use lib.ListN.{length, length-set}
+use borrow.Author.Needs.{needs}
+use Rattle.lists.specs.Tab.{Filled, filled-none, filled-more, filled-all}
+use Rattle.format.specs.Entries.{slotCount}
+use Rattle.model.specs.Closing.{mergedSlot, mergedSlots}
+use Rattle.closing.proofs.merge.Statement.{statement}
+use Rattle.closing.proofs.merge.Tie as tie
+
+abbrev Inv-loop : tie.InvT-loop
+Inv-loop es fs r₀ j₀ r j = Filled (mergedSlot es fs) r₀ j r × (j ≤ slotCount) × (length r ≡ slotCount)
+
+abbrev μ-loop : tie.MeasureT-loop
+μ-loop es fs r₀ j₀ r j = slotCount - j
+
+loop-holds : tie.Need-loop-holds Inv-loop μ-loop
+loop-holds c = (filled-none _ _, omega arith, refl)
+
+merged-slot-requires : tie.Need-merged-slot-requires Inv-loop μ-loop
+merged-slot-requires c κs = search needs
+
+array-write-r : tie.Need-array-write-r Inv-loop μ-loop
+array-write-r c = omega arith
+
+add-j : tie.Need-add-j Inv-loop μ-loop
+add-j c = omega arith
+
+loop-less : tie.Need-loop-less Inv-loop μ-loop
+loop-less c = omega arith
+
+loop-again : tie.Need-loop-again Inv-loop μ-loop
+loop-again c =
+    let l = c .before .before .loop in
+    (filled-more _ _ (l .j) (l .r) (c .merged-slot .result) (omega arith) (c .merged-slot .ensures) (l .inv .0), omega arith, simp length-set (l .inv .2))
+
+returns : tie.Need-returns Inv-loop μ-loop
+unfolding mergedSlots
+returns c = let l = c .before .loop in filled-all _ _ slotCount (l .j) (l .r) refl (omega arith) (l .inv .0)
+
+pub merge-spec : {M : Type 1} → statement M
+merge-spec =
+    tie.close
+    (tie.spec
+    Inv-loop
+    μ-loop
+    loop-holds
+    merged-slot-requires
+    array-write-r
+    add-j
+    loop-less
+    loop-again
+    returns)

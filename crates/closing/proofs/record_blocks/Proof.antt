@@ -1,0 +1,60 @@
+-- `closing::record_blocks` meets its contract. The invariant: the map is what the slots below j have made of it.
+use mathlib.Core.Path.{_≡_, refl, sym, ap, _∙_}
+use Prim.Native.Nat.{_-_, _≤_}
+use native.Mathlib.Omega.{arith}
+use lib.ListN.{length}
+use borrow.Author.Needs.{needs}
+use Rattle.lists.specs.Fold.{foldBelow, fold-none, fold-next, fold-done}
+use Rattle.format.specs.Entries.{slotCount}
+use Rattle.format.specs.Diskette.{Bytes}
+use Rattle.model.specs.Closing.{closedNote}
+use Rattle.closing.proofs.record_blocks.Statement.{statement}
+use Rattle.closing.proofs.record_blocks.Tie as tie
+
+abbrev Inv-loop : tie.InvT-loop
+Inv-loop map₀ es fs j₀ map j = (map ≡ foldBelow (closedNote es fs) map₀ j) × (j ≤ slotCount) × (length map ≡ length map₀)
+
+abbrev μ-loop : tie.MeasureT-loop
+μ-loop map₀ es fs j₀ map j = slotCount - j
+
+loop-holds : tie.Need-loop-holds Inv-loop μ-loop
+loop-holds c = (sym (fold-none _ _), omega arith, refl)
+
+record-block-requires : tie.Need-record-block-requires Inv-loop μ-loop
+record-block-requires c κs = search needs
+
+add-j : tie.Need-add-j Inv-loop μ-loop
+add-j c = omega arith
+
+loop-less : tie.Need-loop-less Inv-loop μ-loop
+loop-less c = omega arith
+
+loop-again : tie.Need-loop-again Inv-loop μ-loop
+loop-again c =
+    let l = c .before .before .before .before .before .loop in
+    let a = c .before .before .before .before .before .before .before .args in
+    let f = closedNote (a .es) (a .fs) in
+    (c .before .before .record-block .ensures ∙ ap (λ (m : Bytes). f m (l .j)) (l .inv .0) ∙ sym (fold-next f (a .map .now) (l .j)), omega arith, c .before .before .record-block .kept .0 ∙ l .inv .2)
+
+same-length : tie.Need-same-length Inv-loop μ-loop
+same-length c = search needs
+
+returns : tie.Need-returns Inv-loop μ-loop
+returns c =
+    let l = c .before .loop in
+    let a = c .before .before .before .args in
+    fold-done (closedNote (a .es) (a .fs)) (a .map .now) (l .map) (l .j) slotCount (omega arith) (omega arith) (l .inv .0)
+
+pub record-blocks-spec : {M : Type 1} → statement M
+record-blocks-spec =
+    tie.close
+    (tie.spec
+    Inv-loop
+    μ-loop
+    loop-holds
+    record-block-requires
+    add-j
+    loop-less
+    loop-again
+    same-length
+    returns)

@@ -1,0 +1,61 @@
+-- What the steps of a close come to, and call 16 by the entry of its FCB.
+use mathlib.Core.Path.{_≡_, refl, sym, ap, _∙_}
+use mathlib.Core.Bool.{not}
+use Prim.Native.Nat.{ℕ, _<_}
+use lib.ListN.{set}
+use Rattle.lists.specs.Splice.{splice}
+use Rattle.lists.specs.Fold.{foldBelow}
+use Rattle.format.specs.Diskette.{Bytes, Geometry}
+use Rattle.format.specs.Entries.{entryAt, withEntry, slotCount, slotsOf}
+use Rattle.format.specs.Fcb.{current}
+use Rattle.format.specs.Found.{isFound}
+use Rattle.format.specs.declared.Found.{Found}
+use Rattle.format.specs.declared.Found.the-variants.{At, Nothing}
+use Rattle.model.specs.declared.Session.{Session}
+use Rattle.model.specs.declared.Answer.{Answer}
+use Rattle.model.specs.declared.Code.the-variants.{Accepted, Failed}
+use Rattle.model.specs.Lent.{lend, outcome, answerOf, ended}
+use Rattle.model.specs.Closing.{mergedSlots, closedCount, closedRow, closedNote, closedMap, closedImage, closedFcb}
+use Rattle.model.specs.Target.{presentEntry}
+use Rattle.model.specs.Calls.{entryNumber, closedAt, closed}
+use Rattle.table.specs.First.{_&_, here}
+use Rattle.table.specs.Own.{call16}
+use Rattle.current.specs.Current.{current-says, current-low}
+use Rattle.table.specs.OwnStep.{ownStep, refuses-own, carries-own}
+
+-- ---- a row and a map, from their parts
+pub closed-row : (row fcb es fs m r : Bytes) (n : ℕ) → es ≡ slotsOf row → fs ≡ slotsOf fcb → m ≡ mergedSlots es fs → n ≡ closedCount row fcb
+    → r ≡ splice (set row 15 n) 16 m → r ≡ closedRow row fcb
+unfolding closedRow
+closed-row row fcb es fs m r n a b c d e = rw (e, c, d, a, b)
+
+pub closed-image : (G : Geometry) (img fcb row r i : Bytes) (e : ℕ) → row ≡ entryAt G img e → r ≡ closedRow row fcb → i ≡ withEntry G img e r
+    → i ≡ closedImage G img e fcb
+unfolding closedImage
+closed-image G img fcb row r i e a b c = rw (c, b, a)
+
+pub closed-map : (G : Geometry) (img fcb row es fs map m : Bytes) (e : ℕ) → row ≡ entryAt G img e → es ≡ slotsOf row → fs ≡ slotsOf fcb
+    → m ≡ foldBelow (closedNote es fs) map slotCount → m ≡ closedMap (entryAt G img e) fcb map
+unfolding closedMap
+closed-map G img fcb row es fs map m e a b c d = rw (d, b, c, a)
+
+-- ---- call 16, by what the look-up of its FCB's entry answers
+module _ (G : Geometry) (img map fcb : Bytes) (s : Session) (found : Found) (is : found ≡ current G (entryAt G img) map (s .user) fcb) where
+  -- the FCB is not current
+  pub close-refused : (buffer : Bytes) (r : Answer) → found ≡ Nothing → r ≡ answerOf Failed s → outcome r img map fcb buffer ≡ ownStep G 0 (lend img map fcb buffer) s call16
+  unfolding presentEntry
+  close-refused buffer r q a =
+      refuses-own G 0 (lend img map fcb buffer) s call16 Failed r (here (ap (λ (f : Found). not (isFound f)) (sym is ∙ q)) refl) a
+
+  -- it is, and e is its entry
+  pub close-low : (e : ℕ) → found ≡ At e → e < G .entries
+  close-low e q =
+      current-low G (entryAt G img) map (s .user) fcb e (current-says G (entryAt G img) map (s .user) fcb e (sym is ∙ q))
+
+  pub close-carried : (buffer : Bytes) (e : ℕ) (r : Answer) (i m f : Bytes) → found ≡ At e → r ≡ answerOf (Accepted (entryNumber e)) (ended s)
+      → i ≡ closedImage G img e fcb → m ≡ closedMap (entryAt G img e) fcb map → f ≡ closedFcb fcb
+      → outcome r i m f buffer ≡ ownStep G 0 (lend img map fcb buffer) s call16
+  unfolding presentEntry closed closedAt
+  close-carried buffer e r i m f q a b c d =
+      let p : current G (entryAt G img) map (s .user) fcb ≡ At e = sym is ∙ q in
+      carries-own G 0 (lend img map fcb buffer) s call16 (outcome r i m f buffer) (ap (λ (f : Found). not (isFound f)) p & tt) (rw (p, a, b, c, d))

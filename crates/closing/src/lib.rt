@@ -1,0 +1,133 @@
+// Closing an entry: what call 16 and a move share, and call 16 itself.
+ghost use mathlib.Core.Path.{_≡_};
+ghost use Prim.Native.Nat.{_≤_, _<_};
+ghost use lib.ListN.{length};
+ghost use Rattle.lists.specs.Fold.{foldBelow};
+ghost use Rattle.format.specs.Diskette.{Bytes, eightInch, imageBytes};
+ghost use Rattle.format.specs.Entries.{entryBytes, entryAt, slotCount};
+ghost use Rattle.format.specs.Fcb.{fcbBytes};
+ghost use Rattle.model.specs.Lent.{lend, outcome};
+ghost use Rattle.model.specs.Closing.{takesSlot, mergedSlot, mergedSlots, closedCount, closedRow, closedNote, closedMap, closedImage, closedFcb};
+ghost use Rattle.table.specs.Own.{call16};
+ghost use Rattle.table.specs.OwnStep.{ownStep};
+use format::Found;
+use model::Answer;
+use model::Code;
+use model::Session;
+
+// Whether slot j takes the FCB's block: the entry has none there, and the FCB has one.
+fn takes_slot(es: [u8; 16], fs: [u8; 16], j: usize) -> bool
+    requires { ⌜ j < slotCount ⌝ }
+    ensures { λ r. ⌜ r ≡ takesSlot es fs j ⌝ }
+{
+    if es[j] != 0 {
+        return false;
+    }
+    fs[j] != 0
+}
+
+// The block of slot j after a close. A block that the entry has stays.
+fn merged_slot(es: [u8; 16], fs: [u8; 16], j: usize) -> u8
+    requires { ⌜ j < slotCount ⌝ }
+    ensures { λ r. ⌜ r ≡ mergedSlot es fs j ⌝ }
+{
+    if takes_slot(es, fs, j) {
+        return fs[j];
+    }
+    es[j]
+}
+
+// The slots after a close.
+fn merge(es: [u8; 16], fs: [u8; 16]) -> [u8; 16]
+    ensures { λ r. ⌜ r ≡ mergedSlots es fs ⌝ }
+{
+    let mut r = [0u8; 16];
+    let mut j = 0;
+    while j < format::SLOTS {
+        r[j] = merged_slot(es, fs, j);
+        j += 1;
+    }
+    r
+}
+
+// The entry's count after a close: it stays unless the FCB's is larger.
+fn closed_count(row: &[u8], fcb: &[u8]) -> u8
+    requires { ⌜ (entryBytes ≤ length (now row)) × (entryBytes ≤ length (now fcb)) ⌝ }
+    ensures { λ r. ⌜ r ≡ closedCount (now (row .entry)) (now (fcb .entry)) ⌝ }
+{
+    if rows::count_in(row, rows::extent(fcb)) < fcb[15] {
+        return fcb[15];
+    }
+    row[15]
+}
+
+// The entry's row after a close.
+fn closed_row(row: [u8; 32], fcb: &[u8]) -> [u8; 32]
+    requires { ⌜ length (now fcb) ≡ fcbBytes ⌝ }
+    ensures { λ r. ⌜ r ≡ closedRow row (now (fcb .entry)) ⌝ }
+{
+    let merged = merge(rows::slots(&row), rows::slots(fcb));
+    let mut r = row;
+    r[15] = closed_count(&row, fcb);
+    lists::put(&mut r, 16, &merged);
+    r
+}
+
+// The block that slot j takes becomes recorded; a number past the last block is none.
+fn record_block(map: &mut [u16], es: [u8; 16], fs: [u8; 16], j: usize)
+    requires { ⌜ j < slotCount ⌝ }
+    ensures { λ _. ⌜ now (map .exit) ≡ closedNote es fs (now (map .entry)) j ⌝ }
+{
+    if !takes_slot(es, fs, j) {
+        return;
+    }
+    let b = lists::wide(fs[j]);
+    if b < map.len() {
+        notes::set_note(map, b, notes::RECORDED);
+    }
+}
+
+// The blocks that the entry takes become recorded.
+fn record_blocks(map: &mut [u16], es: [u8; 16], fs: [u8; 16])
+    ensures { λ _. ⌜ now (map .exit) ≡ foldBelow (closedNote es fs) (now (map .entry)) slotCount ⌝ }
+{
+    let mut j = 0;
+    while j < format::SLOTS {
+        record_block(map, es, fs, j);
+        j += 1;
+    }
+}
+
+// Entry e takes the FCB's blocks, which become recorded, and its count where that is larger.
+pub fn close_entry(image: &mut [u8], map: &mut [u16], e: usize, fcb: &[u8])
+    requires { ⌜ (length (now image) ≡ imageBytes eightInch) × (length (now fcb) ≡ fcbBytes) × (e < eightInch .entries) ⌝ }
+    ensures { λ _. ⌜ (now (image .exit) ≡ closedImage eightInch (now (image .entry)) e (now (fcb .entry)))
+        × (now (map .exit) ≡ closedMap (entryAt eightInch (now (image .entry)) e) (now (fcb .entry)) (now (map .entry))) ⌝ }
+{
+    let row = rows::copy_row(image, e);
+    record_blocks(map, rows::slots(&row), rows::slots(fcb));
+    rows::store_row(image, e, closed_row(row, fcb));
+}
+
+// f5' and f6' in the FCB are cleared.
+fn clear_attributes(fcb: &mut [u8])
+    requires { ⌜ length (now fcb) ≡ fcbBytes ⌝ }
+    ensures { λ _. ⌜ now (fcb .exit) ≡ closedFcb (now (fcb .entry)) ⌝ }
+{
+    fcb[5] = fcb[5] % 128;
+    fcb[6] = fcb[6] % 128;
+}
+
+// Call 16, once the disk and the parameters are known to be right. The transfer buffer is not touched.
+pub fn close_file(image: &mut [u8], map: &mut [u16], fcb: &mut [u8], session: Session) -> Answer
+    requires { ⌜ (length (now image) ≡ imageBytes eightInch) × (length (now fcb) ≡ fcbBytes) ⌝ }
+    ensures { λ r. ⌜ ((buffer : Bytes) → outcome r (now (image .exit)) (now (map .exit)) (now (fcb .exit)) buffer
+        ≡ ownStep eightInch 0 (lend (now (image .entry)) (now (map .entry)) (now (fcb .entry)) buffer) session call16) ⌝ }
+{
+    let Found::At(e) = current::current_entry(image, map, session.user, fcb) else {
+        return answers::refuse(Code::Failed, session);
+    };
+    close_entry(image, map, e, fcb);
+    clear_attributes(fcb);
+    answers::done((e % format::ENTRIES_PER_RECORD) as u8, session)
+}

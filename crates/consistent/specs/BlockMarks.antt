@@ -1,0 +1,211 @@
+-- The marks of blocks: 1 at each number that no slot may list from now on. That is the number of no block past the directory,
+-- barred from the start, or of a block that a slot listed before. So one look at the mark of a slot's number decides whether the
+-- number is in range and stands there for the first time.
+use mathlib.Core.Path.{_≡_, refl, ap, sym, _∙_}
+use mathlib.Core.Logic.{inl, inr}
+use mathlib.Core.Bool.{Bool, true, false, not, cond}
+use Prim.Native.Nat.{ℕ, zero, suc, _+_, _-_, _*_, _≤_, _<_}
+use native.Mathlib.Nat.{add-zero}
+use native.Mathlib.Omega.{arith}
+use lib.Dec.{eqb, leb, ltb}
+use lib.ListN.{getD, length, set, length-set}
+use borrow.Author.Tests.{le-leb, lt-leb, lt-ltb, le-ltb, eq-eqb, ne-eqb}
+use Rattle.lists.specs.Cases.{split, lt-or-le, eq-or-ne}
+use Rattle.lists.specs.Tests.{_and_, _or_, and-both, and-fails-left, and-fails-right, or-left, or-right, or-first, or-then}
+use Rattle.lists.specs.Below.{allBelow, all-cong, all-both}
+use Rattle.lists.specs.Fold.{foldBelow, fold-none, fold-next}
+use Rattle.lists.specs.Splice.{splice, copies, length-fill, getD-fill-in, getD-fill-out}
+use Rattle.lists.specs.Seen.{bit, taken, Seen, seen-start, seen-more, seen-kept, seen-at}
+use Rattle.format.specs.Diskette.{Bytes, Geometry}
+use Rattle.format.specs.Entries.{Rows, slotCount, slotOf, used}
+use Rattle.format.specs.Consistent.{slotRight, slotsRight, slotsInAll, listed, listedOnce}
+use Rattle.format.specs.Notes.{isListed}
+use Rattle.format.specs.Marks.{markCount, Marked}
+use Rattle.consistency.specs.Listed.{listed-used, listed-unused}
+
+-- no block past the directory has this number
+unfoldable pub barred : Geometry → ℕ → Bool
+barred G b = ltb b (G .area) or leb (G .blocks) b
+
+-- the marks after the first x slots of all entries
+pub record BlockMarks (G : Geometry) (d : Rows) (x : ℕ) (l : Bytes) : Type 0 where
+  pub long : length l ≡ markCount
+  pub seen : Seen (barred G) (listed d) x l
+
+-- the marks before the first slot
+unfoldable pub startMarks : Geometry → Bytes → Bytes
+startMarks G l = splice (splice (splice l 0 (copies markCount 0)) 0 (copies (G .area) 1)) (G .blocks) (copies (markCount - G .blocks) 1)
+
+-- a slot may list b: 0, or a number without a mark; and b marked
+unfoldable pub numberFree : Bytes → ℕ → Bool
+numberFree l b = eqb b 0 or eqb (getD l b 0) 0
+
+unfoldable pub markNumber : Bytes → ℕ → Bytes
+markNumber l b = cond (eqb b 0) l (set l b 1)
+
+-- the first j slots of a row marked, and whether each slot may list what it lists
+unfoldable pub markSlots : Bytes → Bytes → ℕ → Bytes
+markSlots l r j = foldBelow (λ (m : Bytes) (k : ℕ). markNumber m (slotOf r k)) l j
+
+unfoldable pub slotFree : Bytes → Bytes → ℕ → Bool
+slotFree l r j = numberFree (markSlots l r j) (slotOf r j)
+
+unfoldable pub slotsFree : Bytes → Bytes → Bool
+slotsFree l r = allBelow (slotFree l r) slotCount
+
+pub mark-slots-none : (l r : Bytes) → markSlots l r 0 ≡ l
+unfolding markSlots
+mark-slots-none l r = fold-none _ l
+
+pub mark-slots-next : (l r : Bytes) (j : ℕ) → markSlots l r (j + 1) ≡ markNumber (markSlots l r j) (slotOf r j)
+unfolding markSlots
+mark-slots-next l r j = fold-next _ l j
+
+-- ---- which numbers are barred
+barred-low : (G : Geometry) (b : ℕ) → b < G .area → barred G b ≡ true
+unfolding barred
+barred-low G b h = or-left _ _ (lt-ltb _ _ h)
+
+barred-high : (G : Geometry) (b : ℕ) → G .blocks ≤ b → barred G b ≡ true
+unfolding barred
+barred-high G b h = or-right _ _ (le-leb _ _ h)
+
+inside-open : (G : Geometry) (b : ℕ) → G .area ≤ b → b < G .blocks → barred G b ≡ false
+unfolding barred
+inside-open G b h k = or-then _ _ (le-ltb _ _ h) ∙ lt-leb _ _ k
+
+zero-right : (G : Geometry) (b : ℕ) → b ≡ 0 → slotRight G b ≡ true
+unfolding slotRight
+zero-right G b z = or-left _ _ (eq-eqb _ _ z)
+
+right-open : (G : Geometry) (b : ℕ) → (b ≡ 0 → ⊥) → slotRight G b ≡ not (barred G b)
+unfolding slotRight
+right-open G b r =
+    or-then _ _ (ne-eqb b 0 r)
+    ∙ split (lt-or-le b (G .area)) (λ w. and-fails-left _ _ (lt-leb _ _ w) ∙ ap not (sym (barred-low G b w)))
+    (λ w. split (lt-or-le b (G .blocks)) (λ v. and-both _ _ (le-leb _ _ w) (lt-ltb _ _ v) ∙ ap not (sym (inside-open G b w v)))
+    (λ v. and-fails-right _ _ (le-ltb _ _ v) ∙ ap not (sym (barred-high G b v))))
+
+bit-test : (t b : Bool) → eqb (bit (t or b)) 0 ≡ (not b and not t)
+unfolding _and_ _or_
+bit-test true true = refl
+bit-test true false = refl
+bit-test false true = refl
+bit-test false false = refl
+
+-- ---- the start
+module _ (G : Geometry) (d : Rows) (l : Bytes) (h : length l ≡ markCount) (m : G .area ≤ G .blocks) (n : G .blocks ≤ markCount) where
+  cleared : Bytes
+  cleared = splice l 0 (copies markCount 0)
+
+  low : Bytes
+  low = splice cleared 0 (copies (G .area) 1)
+
+  long-cleared : length cleared ≡ markCount
+  unfolding cleared
+  long-cleared = length-fill l 0 markCount 0 (omega arith) ∙ h
+
+  long-low : length low ≡ markCount
+  unfolding low
+  long-low = length-fill cleared 0 (G .area) 1 (omega (arith, long-cleared)) ∙ long-cleared
+
+  at-low : (b : ℕ) → b < G .area → getD (startMarks G l) b 0 ≡ 1
+  unfolding startMarks low cleared
+  at-low b p =
+      getD-fill-out low (G .blocks) (markCount - G .blocks) 1 (omega (arith, long-low)) b (inl (omega arith))
+      ∙ getD-fill-in cleared 0 (G .area) 1 (omega (arith, long-cleared)) b (omega arith) (omega arith)
+
+  at-high : (b : ℕ) → G .blocks ≤ b → b < markCount → getD (startMarks G l) b 0 ≡ 1
+  unfolding startMarks low cleared
+  at-high b p q = getD-fill-in low (G .blocks) (markCount - G .blocks) 1 (omega (arith, long-low)) b p (omega arith)
+
+  at-open : (b : ℕ) → G .area ≤ b → b < G .blocks → getD (startMarks G l) b 0 ≡ 0
+  unfolding startMarks low cleared
+  at-open b p q =
+      getD-fill-out low (G .blocks) (markCount - G .blocks) 1 (omega (arith, long-low)) b (inl (omega arith))
+      ∙ getD-fill-out cleared 0 (G .area) 1 (omega (arith, long-cleared)) b (inr (omega arith))
+      ∙ getD-fill-in l 0 markCount 0 (omega arith) b (omega arith) (omega arith)
+
+  start-bit : (b : ℕ) → b < markCount → getD (startMarks G l) b 0 ≡ bit (barred G b)
+  start-bit b k =
+      split (lt-or-le b (G .area)) (λ w. at-low b w ∙ ap bit (sym (barred-low G b w)))
+      (λ w. split (lt-or-le b (G .blocks)) (λ v. at-open b w v ∙ ap bit (sym (inside-open G b w v)))
+      (λ v. at-high b v k ∙ ap bit (sym (barred-high G b v))))
+
+  long-start : length (startMarks G l) ≡ markCount
+  unfolding startMarks low cleared
+  long-start = length-fill low (G .blocks) (markCount - G .blocks) 1 (omega (arith, long-low)) ∙ long-low
+
+  pub marks-start : BlockMarks G d 0 (startMarks G l)
+  marks-start = record {
+    long = long-start;
+    seen = seen-start (barred G) (listed d) (startMarks G l) (λ b k. start-bit b (omega (arith, long-start)));
+  }
+
+module _ (G : Geometry) (some : 0 < G .area) (d : Rows) where
+  -- ---- a slot: marked, or listing none
+  marks-kept : (x : ℕ) (l : Bytes) → listed d x ≡ 0 → BlockMarks G d x l → BlockMarks G d (x + 1) l
+  marks-kept x l q m = record {
+    long = m .long;
+    seen = seen-kept (barred G) (listed d) l x (ap (barred G) q ∙ barred-low G 0 some) (m .seen);
+  }
+
+  marks-more : (x v : ℕ) (l : Bytes) → listed d x ≡ v → v < markCount → BlockMarks G d x l → BlockMarks G d (x + 1) (markNumber l v)
+  unfolding markNumber
+  marks-more x v l q h m =
+      split (eq-or-ne v 0) (λ z. rw (eq-eqb v 0 z) (marks-kept x l (q ∙ z) m))
+      (λ z. let long = m .long in rw (ne-eqb v 0 z) (record {
+        long = length-set l v 1 ∙ m .long;
+        seen = seen-more (barred G) (listed d) l x v (sym q) (omega arith) (m .seen);
+      }))
+
+  -- the look at the mark is both tests of the slot
+  mark-decides : (x v : ℕ) (l : Bytes) → listed d x ≡ v → v < markCount → BlockMarks G d x l → numberFree l v ≡ (slotRight G v and listedOnce d x)
+  unfolding numberFree listedOnce
+  mark-decides x v l q h m =
+      let long = m .long in
+      split (eq-or-ne v 0)
+      (λ z. or-left _ _ (eq-eqb v 0 z) ∙ sym (and-both _ _ (zero-right G v z) (or-left _ _ (eq-eqb _ _ (q ∙ z)))))
+      (λ z. let at : getD l v 0 ≡ bit (taken (listed d) x v or barred G v) = seen-at (barred G) (listed d) x l (m .seen) v (omega arith) in
+      let once : (eqb (listed d x) 0 or not (taken (listed d) x (listed d x))) ≡ not (taken (listed d) x v) = rw q (or-then _ _ (ne-eqb v 0 z)) in
+      or-then _ _ (ne-eqb v 0 z) ∙ rw (at, once, right-open G v z) (bit-test (taken (listed d) x v) (barred G v)))
+
+  -- ---- the slots of an entry that is not used
+  skipped : (e j : ℕ) (l : Bytes) → used (d e) ≡ false → j ≤ slotCount → BlockMarks G d (slotCount * e) l → BlockMarks G d (slotCount * e + j) l
+  skipped e zero l u h m = rw add-zero m
+  skipped e (suc j) l u h m =
+      let q : slotCount * e + suc j ≡ slotCount * e + j + 1 = omega arith in
+      rw q (marks-kept (slotCount * e + j) l (listed-unused d e j h u) (skipped e j l u (omega arith) m))
+
+  pub marks-skip : (e : ℕ) (l : Bytes) → used (d e) ≡ false → BlockMarks G d (slotCount * e) l → BlockMarks G d (slotCount * (e + 1)) l
+  marks-skip e l u m =
+      let q : slotCount * (e + 1) ≡ slotCount * e + slotCount = omega arith in rw q (skipped e slotCount l u (omega arith) m)
+
+  -- ---- the slots of a used entry
+  module _ (e : ℕ) (l : Bytes) (u : used (d e) ≡ true) (bytes : (j : ℕ) → j < slotCount → slotOf (d e) j < markCount) (m : BlockMarks G d (slotCount * e) l) where
+    passed : (j : ℕ) → j ≤ slotCount → BlockMarks G d (slotCount * e + j) (markSlots l (d e) j)
+    unfolding markSlots foldBelow
+    passed zero h = rw add-zero m
+    passed (suc j) h =
+        let q : slotCount * e + suc j ≡ slotCount * e + j + 1 = omega arith in
+        rw q (marks-more (slotCount * e + j) (slotOf (d e) j) (markSlots l (d e) j) (listed-used d e j h u) (bytes j h) (passed j (omega arith)))
+
+    pub marks-row : BlockMarks G d (slotCount * (e + 1)) (markSlots l (d e) slotCount)
+    marks-row = let q : slotCount * (e + 1) ≡ slotCount * e + slotCount = omega arith in rw q (passed slotCount (omega arith))
+
+    free-right : (j : ℕ) → j < slotCount → slotFree l (d e) j ≡ (slotRight G (slotOf (d e) j) and listedOnce d (slotCount * e + j))
+    unfolding slotFree
+    free-right j h = mark-decides (slotCount * e + j) (slotOf (d e) j) (markSlots l (d e) j) (listed-used d e j h u) (bytes j h) (passed j (omega arith))
+
+    pub slots-right : slotsFree l (d e) ≡ (slotsRight G (d e) and allBelow (λ (j : ℕ). listedOnce d (slotCount * e + j)) slotCount)
+    unfolding slotsFree slotsRight
+    slots-right = all-cong _ _ slotCount free-right ∙ all-both _ _ slotCount
+
+-- ---- the end: after all slots the marks tell which blocks are listed
+pub marks-end : (G : Geometry) (d : Rows) (l : Bytes) → G .blocks ≤ markCount → BlockMarks G d (slotsInAll G) l → Marked G d l
+unfolding isListed
+marks-end G d l n m = record {
+  long = m .long;
+  mark = λ b h k. let long = m .long in
+      seen-at (barred G) (listed d) (slotsInAll G) l (m .seen) b (omega arith) ∙ ap bit (or-first _ _ (inside-open G b h k));
+}

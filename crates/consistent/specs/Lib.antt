@@ -1,0 +1,4 @@
+pub mod BlockMarks
+pub mod Key
+pub mod Chain
+pub mod Pass

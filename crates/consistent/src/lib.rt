@@ -1,0 +1,195 @@
+// Whether an image is consistent, decided in one pass over the directory. Every call of the file system asks this first.
+ghost use mathlib.Core.Path.{_≡_};
+ghost use mathlib.Core.Bool.{true};
+ghost use Prim.Native.Nat.{ℕ, _+_, _≤_, _<_};
+ghost use lib.ListN.{length};
+ghost use Rattle.format.specs.Diskette.{eightInch, imageBytes};
+ghost use Rattle.format.specs.Names.{nameBytes};
+ghost use Rattle.format.specs.Entries.{entryBytes, slotCount, entryAt, slotOf, used};
+ghost use Rattle.format.specs.Consistent.{sameFile, alone, consistent};
+ghost use Rattle.format.specs.Marks.{markCount, Marked, UsersMarked};
+ghost use Rattle.consistent.specs.BlockMarks.{startMarks, numberFree, markNumber, markSlots, slotsFree};
+ghost use Rattle.consistent.specs.Key.{keyCount, nameSum, keyOf};
+ghost use Rattle.consistent.specs.Chain.{Lasts, Links};
+ghost use Rattle.consistent.specs.Pass.{rowRight, entryFits, Passed};
+use format::AREA_BLOCKS;
+use format::BLOCKS;
+use format::ENTRIES;
+use format::MARKS;
+use format::NAME_BYTES;
+use format::SLOTS;
+
+// The number of keys, and what each byte of a name, the user and the extent weigh in one.
+const KEYS: usize = 256;
+
+const WEIGHTS: [usize; NAME_BYTES] = [215, 179, 227, 1, 229, 187, 225, 253, 131, 81, 171];
+
+const USER_WEIGHT: usize = 121;
+
+const EXTENT_WEIGHT: usize = 33;
+
+// Whether a row has a user, a name and numbers in range.
+fn row_right(r: &[u8]) -> bool
+    requires { ⌜ entryBytes ≤ length (now r) ⌝ }
+    ensures { λ b. ⌜ b ≡ rowRight (now (r .entry)) ⌝ }
+{
+    if 15 < r[0] {
+        return false;
+    }
+    if !names::name_right(false, r, 1) {
+        return false;
+    }
+    rows::numbers_right(r)
+}
+
+// Marks the numbers that are no block's past the directory: no slot may list them.
+fn start_marks(marks: &mut [u8])
+    requires { ⌜ length (now marks) ≡ markCount ⌝ }
+    ensures { λ _. ⌜ now (marks .exit) ≡ startMarks eightInch (now (marks .entry)) ⌝ }
+{
+    lists::fill(marks, 0, MARKS, 0);
+    lists::fill(marks, 0, AREA_BLOCKS, 1);
+    lists::fill(marks, BLOCKS, MARKS - BLOCKS, 1);
+}
+
+// Whether a slot may list the number, which is marked then. Most slots hold 0, which needs no look at the marks.
+fn mark_number(marks: &mut [u8], b: u8) -> bool
+    requires { ⌜ length (now marks) ≡ markCount ⌝ }
+    ensures { λ r. ⌜ (r ≡ numberFree (now (marks .entry)) b) × (r ≡ true → now (marks .exit) ≡ markNumber (now (marks .entry)) b) ⌝ }
+{
+    if b == 0 {
+        return true;
+    }
+    let at = lists::wide(b);
+    if marks[at] != 0 {
+        return false;
+    }
+    marks[at] = 1;
+    true
+}
+
+// Whether each slot of a row may list what it lists; the numbers are marked on the way.
+fn mark_slots(marks: &mut [u8], r: &[u8]) -> bool
+    requires { ⌜ (length (now marks) ≡ markCount) × (entryBytes ≤ length (now r)) ⌝ }
+    ensures { λ b. ⌜ (b ≡ slotsFree (now (marks .entry)) (now (r .entry))) × (b ≡ true → now (marks .exit) ≡ markSlots (now (marks .entry)) (now (r .entry)) slotCount) ⌝ }
+{
+    let mut j = 0;
+    while j < SLOTS {
+        if !mark_number(marks, r[16 + j]) {
+            return false;
+        }
+        j += 1;
+    }
+    true
+}
+
+// The bytes of a row's name, weighed and summed.
+fn name_sum(r: &[u8]) -> usize
+    requires { ⌜ entryBytes ≤ length (now r) ⌝ }
+    ensures { λ n. ⌜ (n ≡ nameSum (now (r .entry)) nameBytes) × (n < 1000000) ⌝ }
+{
+    let mut sum: usize = 0;
+    let mut i = 0;
+    while i < NAME_BYTES {
+        sum += WEIGHTS[i] * lists::wide(r[1 + i] % 128);
+        i += 1;
+    }
+    sum
+}
+
+// The key of a row: rows of one file have one key.
+fn key(r: &[u8]) -> usize
+    requires { ⌜ entryBytes ≤ length (now r) ⌝ }
+    ensures { λ k. ⌜ (k ≡ keyOf (now (r .entry))) × (k < keyCount) ⌝ }
+{
+    (name_sum(r) + USER_WEIGHT * lists::wide(r[0]) + EXTENT_WEIGHT * rows::extent(r)) % KEYS
+}
+
+// Whether two used rows are of one file.
+fn same_file(r: &[u8], t: &[u8]) -> bool
+    requires { ⌜ (entryBytes ≤ length (now r)) × (entryBytes ≤ length (now t)) × (used (now r) ≡ true) × (used (now t) ≡ true) ⌝ }
+    ensures { λ b. ⌜ b ≡ sameFile (now (r .entry)) (now (t .entry)) ⌝ }
+{
+    rows::is_file(t[0], t, 1, rows::extent(t), r)
+}
+
+// Whether no entry before e is of the same file: only those of its key are looked at.
+fn is_alone(image: &[u8], e: usize, links: &[u8]) -> bool
+    requires { ⌜ (length (now image) ≡ imageBytes eightInch) × (e < eightInch .entries) × (length (now links) ≡ eightInch .entries)
+        × (used (entryAt eightInch (now image) e) ≡ true) × Links (entryAt eightInch (now image)) (e + 1) (now links) ⌝ }
+    ensures { λ b. ⌜ b ≡ alone (entryAt eightInch (now (image .entry))) e ⌝ }
+{
+    let r = rows::row(image, e);
+    let mut f = lists::wide(links[e]);
+    while f != 0 {
+        if same_file(r, rows::row(image, f - 1)) {
+            return false;
+        }
+        f = lists::wide(links[f - 1]);
+    }
+    true
+}
+
+// Whether e is alone; it becomes the last entry of its key.
+fn take_key(image: &[u8], e: usize, r: &[u8], lasts: &mut [u8], links: &mut [u8]) -> bool
+    requires { ⌜ (length (now image) ≡ imageBytes eightInch) × (e < eightInch .entries) × (length (now links) ≡ eightInch .entries)
+        × (entryBytes ≤ length (now r)) × (now r ≡ entryAt eightInch (now image) e) × (used (now r) ≡ true)
+        × Lasts (entryAt eightInch (now image)) e (now lasts) × Links (entryAt eightInch (now image)) e (now links) ⌝ }
+    ensures { λ b. ⌜ (b ≡ alone (entryAt eightInch (now (image .entry))) e)
+        × Lasts (entryAt eightInch (now (image .entry))) (e + 1) (now (lasts .exit))
+        × Links (entryAt eightInch (now (image .entry))) (e + 1) (now (links .exit)) ⌝ }
+{
+    let k = key(r);
+    links[e] = lasts[k];
+    lasts[k] = (e + 1) as u8;
+    is_alone(image, e, links)
+}
+
+// Whether entry e passes, after all before it have.
+fn take_entry(
+    image: &[u8],
+    e: usize,
+    marks: &mut [u8],
+    users: &mut [u8],
+    lasts: &mut [u8],
+    links: &mut [u8],
+) -> bool
+    requires { ⌜ (length (now image) ≡ imageBytes eightInch) × (e < eightInch .entries)
+        × Passed eightInch (entryAt eightInch (now image)) e (now marks) (now users) (now lasts) (now links) ⌝ }
+    ensures { λ b. ⌜ (b ≡ entryFits eightInch (entryAt eightInch (now (image .entry))) e)
+        × (b ≡ true → Passed eightInch (entryAt eightInch (now (image .entry))) (e + 1) (now (marks .exit)) (now (users .exit)) (now (lasts .exit)) (now (links .exit))) ⌝ }
+{
+    let r = rows::row(image, e);
+    if r[0] == 0xE5 {
+        users[e] = 0;
+        return true;
+    }
+    if !row_right(r) {
+        return false;
+    }
+    users[e] = 1;
+    if !mark_slots(marks, r) {
+        return false;
+    }
+    take_key(image, e, r, lasts, links)
+}
+
+// Whether the image is consistent. Where it is, the marks tell which blocks are listed, and users which entries are used.
+pub fn is_consistent(image: &[u8], marks: &mut [u8], users: &mut [u8]) -> bool
+    requires { ⌜ (length (now image) ≡ imageBytes eightInch) × (length (now marks) ≡ markCount) × (length (now users) ≡ eightInch .entries) ⌝ }
+    ensures { λ b. ⌜ (b ≡ consistent eightInch (now (image .entry)))
+        × (b ≡ true → Marked eightInch (entryAt eightInch (now (image .entry))) (now (marks .exit)))
+        × (b ≡ true → UsersMarked eightInch (entryAt eightInch (now (image .entry))) (now (users .exit))) ⌝ }
+{
+    start_marks(marks);
+    let mut lasts = [0u8; KEYS];
+    let mut links = [0u8; ENTRIES];
+    let mut e = 0;
+    while e < ENTRIES {
+        if !take_entry(image, e, marks, users, &mut lasts, &mut links) {
+            return false;
+        }
+        e += 1;
+    }
+    true
+}

@@ -1,0 +1,201 @@
+-- Example e: an erased disk, on which every entry begins with E5H. It is consistent, nothing is listed on it, and after a log-in all
+-- blocks past the directory are free.
+use mathlib.Core.Path.{_≡_, refl, sym, subst, _∙_}
+use mathlib.Core.Bool.{true, false}
+use mathlib.Core.List.{[], _∷_}
+use Prim.Native.Nat.{ℕ, _+_, _-_, _*_, _≤_, _<_}
+use native.Mathlib.Omega.{arith}
+use lib.ListN.{length, getD, replicate, getD-replicate, length-replicate}
+use borrow.Author.Tests.{lt-leb, eq-eqb, lt-ltb, le-ltb}
+use Rattle.lists.specs.Cases.{split, bool-cases, lt-or-le, not-both, clash}
+use Rattle.lists.specs.Tests.{_or_}
+use Rattle.lists.specs.Splice.{part, splice, getD-part, part-splice-same}
+use Rattle.lists.specs.Count.{count-from}
+use Rattle.format.specs.Diskette.{Bytes, Geometry, Sound, imageBytes, recordBytes, eightInch}
+use Rattle.format.specs.Entries.{Rows, entryBytes, entryPlace, entryAt, userOf, empty, used}
+use Rattle.format.specs.Consistent.{consistent}
+use Rattle.format.specs.Notes.{isListed, freshNote, freshMap, isFree, freeCount}
+use Rattle.format.specs.Fcb.{fcbBytes}
+use Rattle.disk.specs.Eight.{eight-sound}
+use Rattle.rows.specs.Entries.{entry-fits}
+use Rattle.consistency.specs.Facts.{Consistent}
+use Rattle.consistency.specs.Listed.{listed-somewhere}
+use Rattle.consistency.specs.Reflect.{facts-consistent}
+use Rattle.notes.specs.Right.{length-fresh, fresh-at, fresh-right}
+use Rattle.model.specs.declared.Asked.{Asked}
+use Rattle.model.specs.declared.Session.{Session}
+use Rattle.model.specs.Codes.{aOf, hOf}
+use Rattle.model.specs.Lent.{lend, Outcome, ended}
+use Rattle.model.specs.Entering.{threeBytes}
+use Rattle.model.specs.Table.{oneOf, usesFcb}
+use Rattle.model.specs.Calls.{done, loggedIn, space}
+use Rattle.model.specs.Step.{step}
+use Rattle.table.specs.Own.{call13, call46}
+use Rattle.table.specs.Facts.{Ready}
+use Rattle.table.specs.Total.{ask, step-carried}
+
+pub record Erased (G : Geometry) (img : Bytes) : Type 0 where
+  pub long : length img ≡ imageBytes G
+  pub void : (e : ℕ) → e < G .entries → userOf (entryAt G img e) ≡ 229
+
+-- there are such disks: every byte E5H
+pub all-erased : {G : Geometry} (S : Sound G) (size : ℕ) → size ≡ imageBytes G → Erased G (replicate size 229)
+unfolding entryAt
+all-erased {G} S size is = record {
+  long = length-replicate size 229 ∙ is;
+  void = λ e h. getD-part (replicate size 229) (entryPlace G e) entryBytes (omega (arith, length-replicate {A = ℕ} size 229, entry-fits S e h)) 0 (omega arith)
+      ∙ getD-replicate size (entryPlace G e + 0) 229 0 (omega (arith, entry-fits S e h));
+}
+
+module _ (G : Geometry) (img : Bytes) (erased : Erased G img) where
+  pub erased-empty : (e : ℕ) → e < G .entries → empty (entryAt G img e) ≡ true
+  unfolding empty
+  erased-empty e h = eq-eqb _ _ (erased .void e h)
+
+  pub erased-unused : (e : ℕ) → e < G .entries → used (entryAt G img e) ≡ false
+  unfolding used
+  erased-unused e h = lt-leb (userOf (entryAt G img e)) 15 (omega (arith, erased .void e h))
+
+  erased-facts : Consistent G (entryAt G img)
+  erased-facts = record {
+    fine = λ e h u. not-both _ u (erased-unused e h);
+    other = λ e h u. erased-empty e h;
+    once-entry = λ b e j f k s t. not-both _ (s .uses) (erased-unused e (s .entry));
+    once-slot = λ b e j f k s t. not-both _ (s .uses) (erased-unused e (s .entry));
+    apart = λ e f h l u v s. not-both _ u (erased-unused e h);
+  }
+
+  pub erased-consistent : consistent G img ≡ true
+  unfolding consistent
+  erased-consistent = facts-consistent G (entryAt G img) erased-facts
+
+  erased-unlisted : (b : ℕ) → (b ≡ 0 → ⊥) → isListed G (entryAt G img) b ≡ false
+  erased-unlisted b real =
+      split (bool-cases (isListed G (entryAt G img) b))
+      (λ t. let s = listed-somewhere G (entryAt G img) b real t in not-both _ (s .stands .uses) (erased-unused (s .e) (s .stands .entry)))
+      (λ f. f)
+
+-- ---- the free blocks of a fresh map
+module _ (G : Geometry) (d : Rows) (b : ℕ) (below : b < G .blocks) where
+  fresh-area : b < G .area → isFree (freshMap G d) b ≡ false
+  unfolding isFree freshNote
+  fresh-area h = rw (fresh-at G d b below, lt-ltb b (G .area) h)
+
+  fresh-taken : G .area ≤ b → isListed G d b ≡ true → isFree (freshMap G d) b ≡ false
+  unfolding isFree freshNote
+  fresh-taken h t = rw (fresh-at G d b below, le-ltb b (G .area) h, t)
+
+  fresh-free : G .area ≤ b → isListed G d b ≡ false → isFree (freshMap G d) b ≡ true
+  unfolding isFree freshNote
+  fresh-free h f = rw (fresh-at G d b below, le-ltb b (G .area) h, f)
+
+-- where just the blocks below a are listed
+pub fresh-count : (G : Geometry) (d : Rows) (a : ℕ) → G .area ≤ a → a ≤ G .blocks
+    → ((b : ℕ) → G .area ≤ b → b < a → isListed G d b ≡ true) → ((b : ℕ) → a ≤ b → isListed G d b ≡ false)
+    → freeCount G (freshMap G d) ≡ G .blocks - a
+unfolding freeCount
+fresh-count G d a low high taken free =
+    count-from (isFree (freshMap G d)) a (G .blocks) high
+    (λ b h. split (lt-or-le b (G .area)) (λ w. fresh-area G d b (omega arith) w) (λ w. fresh-taken G d b (omega arith) w (taken b w h)))
+    (λ b h l. fresh-free G d b l (omega arith) (free b h))
+
+pub erased-count : {G : Geometry} (S : Sound G) (img : Bytes) → Erased G img → freeCount G (freshMap G (entryAt G img)) ≡ G .blocks - G .area
+erased-count {G} S img erased =
+    let some = S .area-some in
+    let room = S .area-below in
+    fresh-count G (entryAt G img) (G .area) (omega arith) (omega arith) (λ b h l. absurd (omega arith))
+    (λ b h. erased-unlisted G img erased b (λ z. omega arith))
+
+-- ---- a log-in, and the space after it
+-- what is lent with an image, and a session, that every call takes
+pub record Fitting (G : Geometry) (map fcb buffer : Bytes) (s : Session) : Type 0 where
+  pub map-long : length map ≡ G .blocks
+  pub fcb-long : length fcb ≡ fcbBytes
+  pub buffer-long : length buffer ≡ recordBytes
+  pub user-low : s .user ≤ 15
+  pub place-low : s .place ≤ G .entries
+
+module _ (G : Geometry) (img : Bytes) (long : length img ≡ imageBytes G) (right : consistent G img ≡ true)
+    (map fcb buffer : Bytes) (s : Session) (fit : Fitting G map fcb buffer s) where
+  login-ready : Ready G 13 (lend img map fcb buffer) s
+  unfolding usesFcb oneOf _or_
+  login-ready = record {
+    fits = record {
+      image-long = long;
+      map-long = fit .map-long;
+      fcb-long = fit .fcb-long;
+      buffer-long = fit .buffer-long;
+      user-low = fit .user-low;
+      place-low = fit .place-low;
+    };
+    drive = λ u. clash (sym u);
+    image-right = right;
+    map-right = λ ne. absurd (ne refl);
+  }
+
+  -- an image that is consistent can be logged in, whatever the map
+  pub login-step : (argument : ℕ) → step G (ask 13 argument) (lend img map fcb buffer) s ≡ done 0 s (lend img (freshMap G (entryAt G img)) fcb buffer)
+  unfolding loggedIn
+  login-step argument = step-carried G (ask 13 argument) (lend img map fcb buffer) s call13 login-ready tt
+
+  -- after it every call finds image and map right
+  pub logged-ready : (n : ℕ) → (usesFcb n ≡ true → getD fcb 0 0 ≤ 1) → Ready G n (lend img (freshMap G (entryAt G img)) fcb buffer) (ended s)
+  logged-ready n drive = record {
+    fits = record {
+      image-long = long;
+      map-long = length-fresh G (entryAt G img);
+      fcb-long = fit .fcb-long;
+      buffer-long = fit .buffer-long;
+      user-low = fit .user-low;
+      place-low = omega arith;
+    };
+    drive = drive;
+    image-right = right;
+    map-right = λ ne. fresh-right G (entryAt G img);
+  }
+
+  -- and 46 then answers eight times the free notes of the fresh map
+  pub space-step : (argument : ℕ) → step G (ask 46 argument) (lend img (freshMap G (entryAt G img)) fcb buffer) (ended s)
+      ≡ done 0 s (lend img (freshMap G (entryAt G img)) fcb (splice buffer 0 (threeBytes (G .perBlock * freeCount G (freshMap G (entryAt G img))))))
+  unfolding space usesFcb oneOf _or_
+  space-step argument =
+      step-carried G (ask 46 argument) (lend img (freshMap G (entryAt G img)) fcb buffer) (ended s) call46 (logged-ready 46 (λ u. clash (sym u))) tt
+
+-- a call after another: on what that left, with the session that it left
+abbrev pub next : Geometry → Asked → Outcome → Outcome
+next G asked o = step G asked (o .lent) (o .answer .session)
+
+-- 13 is accepted and makes the map the fresh one, and 46, straight after it, answers 0 with these three bytes
+pub record SpaceIs (G : Geometry) (img : Bytes) (bytes : Bytes) (map fcb buffer : Bytes) (s : Session) (x y : ℕ) : Type 0 where
+  pub login-a : step G (ask 13 x) (lend img map fcb buffer) s .answer .a ≡ 0
+  pub login-h : step G (ask 13 x) (lend img map fcb buffer) s .answer .h ≡ 0
+  pub login-map : step G (ask 13 x) (lend img map fcb buffer) s .lent .map ≡ freshMap G (entryAt G img)
+  pub space-a : next G (ask 46 y) (step G (ask 13 x) (lend img map fcb buffer) s) .answer .a ≡ 0
+  pub space-h : next G (ask 46 y) (step G (ask 13 x) (lend img map fcb buffer) s) .answer .h ≡ 0
+  pub space-bytes : part (next G (ask 46 y) (step G (ask 13 x) (lend img map fcb buffer) s) .lent .buffer) 0 3 ≡ bytes
+
+pub space-is : (G : Geometry) (img : Bytes) → length img ≡ imageBytes G → consistent G img ≡ true
+    → (map fcb buffer : Bytes) (s : Session) → Fitting G map fcb buffer s → (x y : ℕ)
+    → SpaceIs G img (threeBytes (G .perBlock * freeCount G (freshMap G (entryAt G img)))) map fcb buffer s x y
+unfolding aOf hOf
+space-is G img long right map fcb buffer s fit x y =
+    let one = login-step G img long right map fcb buffer s fit x in
+    let two = space-step G img long right map fcb buffer s fit y in
+    let room = fit .buffer-long in
+    record {
+      login-a = rw one;
+      login-h = rw one;
+      login-map = rw one;
+      space-a = rw (one, two);
+      space-h = rw (one, two);
+      space-bytes = rw (one, two) (part-splice-same buffer 0 (threeBytes (G .perBlock * freeCount G (freshMap G (entryAt G img)))) (omega arith));
+    }
+
+-- on an erased disk: 88H 07H 00H
+pub erased-space : (img : Bytes) → Erased eightInch img
+    → (map fcb buffer : Bytes) (s : Session) → Fitting eightInch map fcb buffer s → (x y : ℕ)
+    → SpaceIs eightInch img (136 ∷ 7 ∷ 0 ∷ []) map fcb buffer s x y
+erased-space img erased map fcb buffer s fit x y =
+    let n : freeCount eightInch (freshMap eightInch (entryAt eightInch img)) ≡ 241 = erased-count eight-sound img erased in
+    subst (λ (k : ℕ). SpaceIs eightInch img (threeBytes (8 * k)) map fcb buffer s x y) n
+    (space-is eightInch img (erased .long) (erased-consistent eightInch img erased) map fcb buffer s fit x y)

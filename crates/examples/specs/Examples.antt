@@ -1,0 +1,84 @@
+-- Document 01's checked examples, as one table: each says what the definitions give at the example's input.
+use mathlib.Core.Path.{_≡_}
+use mathlib.Core.Logic.{inl, inr}
+use mathlib.Core.Bool.{true, false}
+use mathlib.Core.List.{[], _∷_}
+use Prim.Native.Nat.{ℕ, _<_}
+use native.Mathlib.Omega.{arith}
+use lib.ListN.{length}
+use Rattle.format.specs.Diskette.{Bytes, imageBytes, eightInch, diskRecord, offsetOf}
+use Rattle.format.specs.Names.{nameRight}
+use Rattle.format.specs.Entries.{entryAt, slotCount, userOf, exOf, used, extentOf, named}
+use Rattle.format.specs.Consistent.{consistent}
+use Rattle.format.specs.Notes.{isListed}
+use Rattle.format.specs.Fcb.{fcbBytes, crOf}
+use Rattle.disk.specs.Eight.{eight-sound}
+use Rattle.model.specs.declared.Session.{Session}
+use Rattle.model.specs.Lent.{Lent}
+use Rattle.model.specs.Target.{isRandom}
+use Rattle.model.specs.Search.{patternOf, extentHit, hit}
+use Rattle.table.specs.Facts.{Ready}
+use Rattle.examples.specs.Places.{place-a, place-b, place-c, place-d}
+use Rattle.examples.specs.Erased.{Erased, Fitting, SpaceIs, erased-space}
+use Rattle.examples.specs.Numbers.{Gives, HasEntry, size-largest, position-256}
+use Rattle.examples.specs.Random.{RandomIs, Six, Last, random-six, random-last}
+use Rattle.examples.specs.Pattern.{AllAny, any-named, any-hit}
+use Rattle.examples.specs.Slots.{withSlot, slot-allowed, slot-refused}
+
+-- an image that is consistent, and a slot of one of its used entries
+pub record SlotOf (img : Bytes) (e j : ℕ) : Type 0 where
+  pub long : length img ≡ imageBytes eightInch
+  pub right : consistent eightInch img ≡ true
+  pub entry : e < eightInch .entries
+  pub slot : j < slotCount
+  pub uses : used (entryAt eightInch img e) ≡ true
+
+pub record Examples : Type 0 where
+  -- block 0 record 0 at 6,656; block 0 record 1 at 7,424; block 3 record 2 at 9,984; block 242 record 7 at 254,336
+  pub a : offsetOf eightInch (diskRecord eightInch 0 0) ≡ 6656
+  pub b : offsetOf eightInch (diskRecord eightInch 0 1) ≡ 7424
+  pub c : offsetOf eightInch (diskRecord eightInch 3 2) ≡ 9984
+  pub d : offsetOf eightInch (diskRecord eightInch 242 7) ≡ 254336
+  -- an empty disk, logged in: space bytes 88H 07H 00H
+  pub e : (img : Bytes) → Erased eightInch img → (map fcb buffer : Bytes) (s : Session) → Fitting eightInch map fcb buffer s → (x y : ℕ)
+      → SpaceIs eightInch img (136 ∷ 7 ∷ 0 ∷ []) map fcb buffer s x y
+  -- R = 262,143 is extent 2,047, record 127; 262,144 gives 6
+  pub f-last : (n argument : ℕ) (l : Lent) (s : Session) → isRandom n ≡ true → RandomIs (l .fcb) 255 255 3 → Last eightInch n argument l s
+  pub f-over : (n argument : ℕ) (l : Lent) (s : Session) → isRandom n ≡ true → Ready eightInch n l s → RandomIs (l .fcb) 0 0 4
+      → Six eightInch n argument l s
+  -- an entry of extent 2,047 with rc 128: size bytes 00H 00H 04H
+  pub g : (argument : ℕ) (l : Lent) (s : Session) → Ready eightInch 35 l s → nameRight false (l .fcb) 1 ≡ true → HasEntry eightInch l s 2047 128
+      → Gives eightInch 35 argument l s (0 ∷ 0 ∷ 4 ∷ [])
+  -- 36 at extent 1, cr 128: 256
+  pub h : (argument : ℕ) (l : Lent) (s : Session) → Ready eightInch 36 l s → extentOf (l .fcb) ≡ 1 → crOf (l .fcb) ≡ 128
+      → Gives eightInch 36 argument l s (0 ∷ 1 ∷ 0 ∷ [])
+  -- eleven 3FH match any name: in the name test, and in the pattern that 17 takes from an FCB, where byte 12 alone decides
+  pub i-name : (s : Bytes) (q : ℕ) → AllAny s q → (user : ℕ) (row : Bytes) → userOf row ≡ user → named true user s q row ≡ true
+  pub i-pattern : (fcb : Bytes) → length fcb ≡ fcbBytes → AllAny fcb 1 → (user : ℕ) (row : Bytes) → userOf row ≡ user
+      → hit user (patternOf fcb) row ≡ extentHit (exOf fcb) row
+  -- blocks 1 and 243 in a slot: not consistent; 2 and 242 allowed, where nothing lists them
+  pub j-1 : (img : Bytes) (e j : ℕ) → SlotOf img e j → consistent eightInch (withSlot eightInch img e j 1) ≡ false
+  pub j-243 : (img : Bytes) (e j : ℕ) → SlotOf img e j → consistent eightInch (withSlot eightInch img e j 243) ≡ false
+  pub j-2 : (img : Bytes) (e j : ℕ) → SlotOf img e j → isListed eightInch (entryAt eightInch img) 2 ≡ false
+      → consistent eightInch (withSlot eightInch img e j 2) ≡ true
+  pub j-242 : (img : Bytes) (e j : ℕ) → SlotOf img e j → isListed eightInch (entryAt eightInch img) 242 ≡ false
+      → consistent eightInch (withSlot eightInch img e j 242) ≡ true
+
+pub examples : Examples
+examples = record {
+  a = place-a;
+  b = place-b;
+  c = place-c;
+  d = place-d;
+  e = erased-space;
+  f-last = random-last eightInch;
+  f-over = random-six eightInch;
+  g = size-largest eightInch;
+  h = position-256 eightInch;
+  i-name = any-named;
+  i-pattern = any-hit;
+  j-1 = λ img e j p. slot-refused eight-sound img (p .long) e j 1 (p .entry) (p .slot) (p .uses) (λ z. omega arith) (inl (omega arith));
+  j-243 = λ img e j p. slot-refused eight-sound img (p .long) e j 243 (p .entry) (p .slot) (p .uses) (λ z. omega arith) (inr (omega arith));
+  j-2 = λ img e j p free. slot-allowed eight-sound img (p .long) e j 2 (p .entry) (p .slot) (p .right) free (omega arith) (omega arith);
+  j-242 = λ img e j p free. slot-allowed eight-sound img (p .long) e j 242 (p .entry) (p .slot) (p .right) free (omega arith) (omega arith);
+}

@@ -1,0 +1,74 @@
+-- Example f: the random record of 33 and 34.
+use mathlib.Core.Path.{_≡_, refl, sym, subst, _∙_}
+use mathlib.Core.Bool.{true}
+use Prim.Native.Nat.{ℕ, _+_, _*_, _%_}
+use native.Mathlib.Omega.{arith}
+use lib.Dec.{eqb}
+use lib.ListN.{getD}
+use borrow.Author.Tests.{lt-ltb, eqb-true}
+use Rattle.lists.specs.Cases.{split}
+use Rattle.lists.specs.Tests.{or-cases}
+use Rattle.format.specs.Diskette.{Bytes, Geometry}
+use Rattle.format.specs.Fcb.{randomOf}
+use Rattle.model.specs.declared.Session.{Session}
+use Rattle.model.specs.declared.Code.the-variants.{BadRecord}
+use Rattle.model.specs.declared.Verdict.the-variants.{Refused}
+use Rattle.model.specs.Codes.{aOf, hOf}
+use Rattle.model.specs.Lent.{Lent}
+use Rattle.model.specs.Target.{isRandom, targetExtent, targetRecord}
+use Rattle.model.specs.Table.{verdict}
+use Rattle.model.specs.Step.{refused, step}
+use Rattle.table.specs.First.{here}
+use Rattle.table.specs.Own.{call33, call34}
+use Rattle.table.specs.Facts.{Ready}
+use Rattle.table.specs.Accept.{random-extent}
+use Rattle.table.specs.Refuse.{random-over}
+use Rattle.table.specs.Total.{ask, step-refused}
+
+-- the FCB's r0, r1 and r2 are these
+pub record RandomIs (fcb : Bytes) (r0 r1 r2 : ℕ) : Type 0 where
+  pub low : getD fcb 33 0 ≡ r0
+  pub middle : getD fcb 34 0 ≡ r1
+  pub high : getD fcb 35 0 ≡ r2
+
+random-is : (fcb : Bytes) (r0 r1 r2 : ℕ) → RandomIs fcb r0 r1 r2 → randomOf fcb ≡ r0 + 256 * r1 + 65536 * r2
+unfolding randomOf
+random-is fcb r0 r1 r2 r = rw (r .low, r .middle, r .high)
+
+-- a call that the rows before its random record pass is refused with 6 and changes nothing
+pub record Six (G : Geometry) (n argument : ℕ) (l : Lent) (s : Session) : Type 0 where
+  pub refuses : step G (ask n argument) l s ≡ refused BadRecord s l
+  pub is-a : step G (ask n argument) l s .answer .a ≡ 6
+  pub is-h : step G (ask n argument) l s .answer .h ≡ 0
+
+six : (G : Geometry) (n argument : ℕ) (l : Lent) (s : Session) → step G (ask n argument) l s ≡ refused BadRecord s l → Six G n argument l s
+unfolding aOf hOf
+six G n argument l s q = record { refuses = q; is-a = rw q; is-h = rw q }
+
+pub random-six : (G : Geometry) (n argument : ℕ) (l : Lent) (s : Session) → isRandom n ≡ true → Ready G n l s → RandomIs (l .fcb) 0 0 4 → Six G n argument l s
+random-six G n argument l s which ready r =
+    let over = lt-ltb 262143 (randomOf (l .fcb)) (omega (arith, random-is (l .fcb) 0 0 4 r)) in
+    split (or-cases (eqb n 33) (eqb n 34) which)
+    (λ e. subst (λ (n : ℕ). Ready G n l s → Six G n argument l s) (sym (eqb-true n 33 e))
+    (λ p. six G 33 argument l s (step-refused G (ask 33 argument) l s call33 BadRecord p (here over refl))) ready)
+    (λ e. subst (λ (n : ℕ). Ready G n l s → Six G n argument l s) (sym (eqb-true n 34 e))
+    (λ p. six G 34 argument l s (step-refused G (ask 34 argument) l s call34 BadRecord p (here over refl))) ready)
+
+-- 262,143 is the last that is taken: record 127 of extent 2,047
+pub record Last (G : Geometry) (n argument : ℕ) (l : Lent) (s : Session) : Type 0 where
+  pub extent : targetExtent n (l .fcb) ≡ 2047
+  pub is-record : targetRecord n (l .fcb) ≡ 127
+  pub not-six : verdict G n argument l s ≡ Refused BadRecord → ⊥
+
+random-record : (n : ℕ) (fcb : Bytes) → isRandom n ≡ true → targetRecord n fcb ≡ randomOf fcb % 128
+unfolding targetRecord
+random-record n fcb h = rw h
+
+pub random-last : (G : Geometry) (n argument : ℕ) (l : Lent) (s : Session) → isRandom n ≡ true → RandomIs (l .fcb) 255 255 3 → Last G n argument l s
+random-last G n argument l s which r =
+    let is : randomOf (l .fcb) ≡ 262143 = random-is (l .fcb) 255 255 3 r in
+    record {
+      extent = random-extent n (l .fcb) which ∙ rw is;
+      is-record = random-record n (l .fcb) which ∙ rw is;
+      not-six = λ q. omega (arith, random-over G argument l s n q);
+    }

@@ -1,0 +1,144 @@
+-- Example j: which blocks a slot may list. A block is put into a slot of a used entry of a consistent image.
+use mathlib.Core.Path.{_≡_, sym, _∙_}
+use mathlib.Core.Logic.{_⊎_, inl, inr}
+use mathlib.Core.Bool.{true, false}
+use Prim.Native.Nat.{ℕ, _+_, _≤_, _<_}
+use native.Mathlib.Omega.{arith}
+use lib.ListN.{length, set, length-set}
+use lib.Seq.{getD-set-same, getD-set-other}
+use Rattle.lists.specs.Cases.{split, eq-or-ne, not-both, refute}
+use Rattle.format.specs.Diskette.{Bytes, Geometry, Sound, imageBytes}
+use Rattle.format.specs.Entries.{Rows, entryAt, withEntry, slotCount, slotOf, userOf, used}
+use Rattle.format.specs.Consistent.{consistent}
+use Rattle.format.specs.Notes.{isListed}
+use Rattle.names.specs.Laws.{like-intro, right-cong}
+use Rattle.rows.specs.Entries.{length-entryAt, entry-stored, entry-left}
+use Rattle.consistency.specs.Facts.{Fine, Stands, SameFile, Consistent}
+use Rattle.consistency.specs.Listed.{somewhere-listed}
+use Rattle.consistency.specs.Reflect.{consistent-facts, facts-consistent, numbers-elim, numbers-intro}
+use Rattle.fields.specs.Agree.{Agree, name-cong, numbers-cong, used-cong, empty-cong, same-file, same-name}
+
+-- the rows of two directories differ in slot j of entry e alone, which is v in the second
+record Put (G : Geometry) (d t : Rows) (e j v : ℕ) : Type 0 where
+  head : (f : ℕ) → f < G .entries → Agree (t f) (d f) 0 16
+  here : slotOf (t e) j ≡ v
+  elsewhere : (f k : ℕ) → f < G .entries → k < slotCount → ((f ≡ e) × (k ≡ j) → ⊥) → slotOf (t f) k ≡ slotOf (d f) k
+
+module _ (G : Geometry) (d t : Rows) (e j v : ℕ) (p : Put G d t e j v) where
+  same-user : (f : ℕ) → f < G .entries → userOf (t f) ≡ userOf (d f)
+  same-user f h = p .head f h 0 (omega arith) (omega arith)
+
+  still-used : (f : ℕ) → f < G .entries → used (t f) ≡ used (d f)
+  still-used f h = used-cong (t f) (d f) (same-user f h)
+
+  -- where a block stands in the second: at the slot that was put, or where it stood
+  stood : (b f k : ℕ) → Stands G t b f k → ((f ≡ e) × (k ≡ j) × (v ≡ b)) ⊎ Stands G d b f k
+  stood b f k s =
+      let old : ((f ≡ e) × (k ≡ j) → ⊥) → Stands G d b f k =
+      λ ne. record {
+        entry = s .entry;
+        place = s .place;
+        uses = sym (still-used f (s .entry)) ∙ s .uses;
+        is = sym (p .elsewhere f k (s .entry) (s .place) ne) ∙ s .is;
+        real = s .real;
+      } in
+      split (eq-or-ne f e)
+      (λ q. split (eq-or-ne k j)
+      (λ r. let is : slotOf (t e) j ≡ b = rw (q, r) at (s .is) in inl (q, r, sym (p .here) ∙ is))
+      (λ r. inr (old (λ w. r (w .1)))))
+      (λ q. inr (old (λ w. q (w .0))))
+
+  -- a block past the directory that stands nowhere may be put
+  module _ (c : Consistent G d) (below : e < G .entries) (unlisted : isListed G d v ≡ false) (low : G .area ≤ v) (high : v < G .blocks) where
+    nowhere : (f k : ℕ) → Stands G d v f k → ⊥
+    nowhere f k s = not-both _ (somewhere-listed G d v f k s) unlisted
+
+    put-slot : (f k : ℕ) → f < G .entries → k < slotCount → (slotOf (t f) k ≡ v) ⊎ (slotOf (t f) k ≡ slotOf (d f) k)
+    put-slot f k h l =
+        split (eq-or-ne f e)
+        (λ q. split (eq-or-ne k j) (λ r. inl (rw (q, r) (p .here))) (λ r. inr (p .elsewhere f k h l (λ w. r (w .1)))))
+        (λ q. inr (p .elsewhere f k h l (λ w. q (w .0))))
+
+    put-fine : (f : ℕ) → f < G .entries → used (t f) ≡ true → Fine G (t f)
+    put-fine f h u =
+        let old = c .fine f h (sym (still-used f h) ∙ u) in
+        record {
+          user = omega (arith, same-user f h, old .user);
+          name = right-cong false (t f) 1 (d f) 1 (name-cong (t f) (d f) (λ i a b. p .head f h i (omega arith) (omega arith))) ∙ old .name;
+          numbers = numbers-elim (t f) (numbers-cong (t f) (d f) (λ i a b. p .head f h i (omega arith) b) ∙ numbers-intro (d f) (old .numbers));
+          low = λ k l real. split (put-slot f k h l) (λ q. omega arith) (λ q. omega (arith, old .low k l (λ z. real (q ∙ z))));
+          high = λ k l real. split (put-slot f k h l) (λ q. omega arith) (λ q. omega (arith, old .high k l (λ z. real (q ∙ z))));
+        }
+
+    put-once : (b f k g m : ℕ) → Stands G t b f k → Stands G t b g m → (f ≡ g) × (k ≡ m)
+    put-once b f k g m s r =
+        split (stood b f k s)
+        (λ x. split (stood b g m r) (λ y. (x .0 ∙ sym (y .0), x .1 ∙ sym (y .1)))
+        (λ y. let z : Stands G d v g m = rw (x .2) y in absurd (nowhere g m z)))
+        (λ x. split (stood b g m r) (λ y. let z : Stands G d v f k = rw (y .2) x in absurd (nowhere f k z))
+        (λ y. (c .once-entry b f k g m x y, c .once-slot b f k g m x y)))
+
+    put-same : (f g : ℕ) → f < G .entries → g < G .entries → SameFile (t f) (t g) → SameFile (d f) (d g)
+    put-same f g h l s =
+        let a = same-file (t f) (d f) (λ i x y. p .head f h i x (omega arith)) in
+        let b = same-file (t g) (d g) (λ i x y. p .head g l i x (omega arith)) in
+        record {
+          user = sym (a .user) ∙ s .user ∙ b .user;
+          name = like-intro (d g) 1 (d f) 1
+              (λ i x. sym (same-name (t g) (d g) b i x) ∙ sym (same-name (t f) (t g) s i x) ∙ same-name (t f) (d f) a i x);
+          extent = sym (a .extent) ∙ s .extent ∙ b .extent;
+        }
+
+    put-facts : Consistent G t
+    put-facts = record {
+      fine = put-fine;
+      other = λ f h u. empty-cong (t f) (d f) (same-user f h) ∙ c .other f h (sym (still-used f h) ∙ u);
+      once-entry = λ b f k g m s r. put-once b f k g m s r .0;
+      once-slot = λ b f k g m s r. put-once b f k g m s r .1;
+      apart = λ f g h l u w s. c .apart f g h l (sym (still-used f h) ∙ u) (sym (still-used g l) ∙ w) (put-same f g h l s);
+    }
+
+-- ---- on an image
+-- v put into slot j of entry e
+unfoldable pub withSlot : Geometry → Bytes → ℕ → ℕ → ℕ → Bytes
+withSlot G img e j v = withEntry G img e (set (entryAt G img e) (16 + j) v)
+
+module _ {G : Geometry} (S : Sound G) (img : Bytes) (long : length img ≡ imageBytes G) (e j v : ℕ) (below : e < G .entries) (inside : j < slotCount) where
+  put-row : entryAt G (withSlot G img e j v) e ≡ set (entryAt G img e) (16 + j) v
+  unfolding withSlot
+  put-row =
+      entry-stored S img long e below (set (entryAt G img e) (16 + j) v) (length-set (entryAt G img e) (16 + j) v ∙ length-entryAt S img long e below)
+
+  put-left : (f : ℕ) → f < G .entries → (e ≡ f → ⊥) → entryAt G (withSlot G img e j v) f ≡ entryAt G img f
+  unfolding withSlot
+  put-left f h ne =
+      entry-left S img long e below (set (entryAt G img e) (16 + j) v) (length-set (entryAt G img e) (16 + j) v ∙ length-entryAt S img long e below) f h ne
+
+  put-image : Put G (entryAt G img) (entryAt G (withSlot G img e j v)) e j v
+  unfolding slotOf
+  put-image = record {
+    head = λ f h i a b. split (eq-or-ne e f)
+        (λ q. rw (← q, put-row) (getD-set-other (entryAt G img e) (16 + j) i v 0 (λ z. omega arith)))
+        (λ q. rw (put-left f h q));
+    here = rw put-row (getD-set-same (entryAt G img e) (16 + j) v 0 (omega (arith, length-entryAt S img long e below)));
+    elsewhere = λ f k h l ne. split (eq-or-ne e f)
+        (λ q. rw (← q, put-row) (getD-set-other (entryAt G img e) (16 + j) (16 + k) v 0 (λ z. ne (sym q, omega arith))))
+        (λ q. rw (put-left f h q));
+  }
+
+  -- a block past the directory that no entry lists may be put into a slot
+  pub slot-allowed : consistent G img ≡ true → isListed G (entryAt G img) v ≡ false → G .area ≤ v → v < G .blocks → consistent G (withSlot G img e j v) ≡ true
+  unfolding consistent
+  slot-allowed right unlisted low high =
+      facts-consistent G (entryAt G (withSlot G img e j v))
+      (put-facts G (entryAt G img) (entryAt G (withSlot G img e j v)) e j v put-image (consistent-facts G (entryAt G img) right) below unlisted low high)
+
+  -- a number of the directory's blocks, or past the last block, may not
+  pub slot-refused : used (entryAt G img e) ≡ true → (v ≡ 0 → ⊥) → (v < G .area) ⊎ (G .blocks ≤ v) → consistent G (withSlot G img e j v) ≡ false
+  unfolding consistent
+  slot-refused uses real out =
+      sym (refute _ (λ right.
+      let t : Rows = entryAt G (withSlot G img e j v) in
+      let f = consistent-facts G t right .fine e below (still-used G (entryAt G img) t e j v put-image e below ∙ uses) in
+      let is : slotOf (t e) j ≡ v = put-image .here in
+      split out (λ w. omega (arith, f .low j inside (λ z. real (sym is ∙ z)))) (λ w. omega (arith, f .high j inside (λ z. real (sym is ∙ z))))))

@@ -1,0 +1,88 @@
+-- What each accepted call does keeps image and map good.
+use mathlib.Core.Path.{_≡_, sym}
+use mathlib.Core.Bool.{true, false}
+use Prim.Native.Nat.{ℕ}
+use lib.Dec.{eqb}
+use Rattle.lists.specs.Cases.{split, bool-cases}
+use Rattle.format.specs.Diskette.{Bytes, Geometry, Sound}
+use Rattle.format.specs.Entries.{exOf}
+use Rattle.format.specs.Consistent.{consistent}
+use Rattle.model.specs.declared.Session.{Session}
+use Rattle.model.specs.Lent.{Lent, Outcome, rowsOf}
+use Rattle.model.specs.Entering.{madeRow}
+use Rattle.model.specs.Table.{askedEntry}
+use Rattle.model.specs.Calls.{loggedIn, freed, userSet, openedAt, opened, closedAt, closed, foundAt, searched, deletes, deleted, createdAt, created, renamed, sized, positioned, space}
+use Rattle.rows.specs.Find.{no-file-says, empty-says}
+use Rattle.fields.specs.Fine.{fine-made}
+use Rattle.fields.specs.Making.{length-madeRow, user-made, name-made, slot-made, extent-made}
+use Rattle.fields.specs.Naming.{named-intro, file-intro}
+use Rattle.names.specs.Laws.{like-intro}
+use Rattle.table.specs.Own.{Call, call13, call15, call16, call17, call18, call19, call20, call21, call22, call23, call32, call33, call34, call35, call36, call46, call98}
+use Rattle.table.specs.Facts.{Fits, Closes, Makes, Renames, Own}
+use Rattle.table.specs.Accept.{accepted}
+use Rattle.table.specs.Carried.{carriedBy}
+use Rattle.invariant.specs.Good.{Good, good-consistent}
+use Rattle.invariant.specs.Updates.{good-fresh, good-freed, good-made, good-erased, good-renamed}
+use Rattle.invariant.specs.RecordCalls.{good-present, good-read, good-write}
+
+-- image and map of an outcome are good
+abbrev pub GoodOutcome : Geometry → Outcome → Type 0
+GoodOutcome G o = Good G (o .lent .image) (o .lent .map)
+
+module _ {G : Geometry} (S : Sound G) (l : Lent) (s : Session) (f : Fits G l s) where
+  -- ---- call by call
+  -- 13 asks no more than a consistent image
+  pub logged-in-good : consistent G (l .image) ≡ true → GoodOutcome G (loggedIn G s l)
+  unfolding loggedIn
+  logged-in-good t = good-fresh G (l .image) (f .image-long) t
+
+  module _ (g : Good G (l .image) (l .map)) where
+    closed-good : Closes G l s → GoodOutcome G (closed G s l)
+    unfolding closed closedAt
+    closed-good c = rw (c .entry .is) (good-present S 16 l s g f (c .entry .place) (c .entry .is))
+
+    deleted-good : GoodOutcome G (deleted G s l)
+    unfolding deleted
+    deleted-good = good-erased S (l .image) (l .map) g (deletes G s l)
+
+    created-good : Makes G l s → GoodOutcome G (created G s l)
+    unfolding created createdAt askedEntry
+    created-good m =
+        let t : ℕ = m .entry .place in
+        let row : Bytes = madeRow (s .user) (l .fcb) in
+        let found = empty-says G (rowsOf G l) t (m .entry .is) in
+        rw (m .entry .is)
+        (good-made S (l .image) (l .map) g t (found .below) (found .holds) row (length-madeRow (s .user) (l .fcb))
+        (fine-made G (s .user) (l .fcb) (f .user-low) (m .name) (m .ex)) (λ j h. slot-made (s .user) (l .fcb) j) (s .user) (l .fcb) 1 (exOf (l .fcb))
+        (file-intro (s .user) (l .fcb) 1 (exOf (l .fcb)) row
+        (named-intro false (s .user) (l .fcb) 1 row (user-made (s .user) (l .fcb)) (like-intro (l .fcb) 1 row 1 (λ i b. sym (name-made (s .user) (l .fcb) i b))))
+        (extent-made (s .user) (l .fcb)))
+        (no-file-says G (rowsOf G l) (s .user) (l .fcb) 1 (exOf (l .fcb)) (m .new)))
+
+    renamed-good : Renames G l s → GoodOutcome G (renamed G s l)
+    unfolding renamed
+    renamed-good r = good-renamed S (l .image) (l .map) g (s .user) (f .user-low) (l .fcb) (r .new-name) (r .new)
+
+    user-good : (argument : ℕ) → GoodOutcome G (userSet G s l argument)
+    unfolding userSet
+    user-good argument = split (bool-cases (eqb argument 255)) (λ t. rw t g) (λ t. rw t g)
+
+    pub carried-good : (argument : ℕ) {n : ℕ} (c : Call n) → Own G l s argument c → GoodOutcome G (carriedBy G argument l s c)
+    unfolding opened openedAt searched foundAt sized positioned space freed
+    carried-good argument call13 o = logged-in-good (good-consistent G (l .image) (l .map) g)
+    carried-good argument call15 o = g
+    carried-good argument call16 o = closed-good o
+    carried-good argument call17 o = g
+    carried-good argument call18 o = g
+    carried-good argument call19 o = deleted-good
+    carried-good argument call20 o = good-read S 20 l s g f o
+    carried-good argument call21 o = good-write S 21 l s g f o
+    carried-good argument call22 o = created-good o
+    carried-good argument call23 o = renamed-good o
+    carried-good argument call32 o = user-good argument
+    carried-good argument call33 o = good-read S 33 l s g f o
+    carried-good argument call34 o = good-write S 34 l s g f o
+    carried-good argument call35 o = g
+    carried-good argument call36 o = g
+    carried-good argument call46 o = g
+    carried-good argument call98 o = good-freed G (l .image) (l .map) g

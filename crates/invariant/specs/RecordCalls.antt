@@ -1,0 +1,253 @@
+-- The record calls keep image and map good: a move closes the present extent and may make an entry; a write may take a block.
+use mathlib.Core.Path.{_≡_, ap, sym, _∙_, subst}
+use mathlib.Core.Bool.{true, false}
+use Prim.Native.Nat.{ℕ, _≤_, _<_}
+use native.Mathlib.Omega.{arith}
+use lib.ListN.{length}
+use Rattle.lists.specs.Cases.{split, eq-or-ne, not-both}
+use borrow.Author.Tests.{eq-eqb}
+use Rattle.format.specs.Diskette.{Bytes, Geometry, Sound, recordBytes}
+use Rattle.format.specs.Entries.{entryAt, slotCount, slotOf, extentOf, used, empty, isFile, findEmpty}
+use Rattle.format.specs.Notes.{noteAt, freeNote, pendingFor, findFree}
+use Rattle.format.specs.declared.Found.the-variants.{At, Nothing}
+use Rattle.model.specs.declared.Session.{Session}
+use Rattle.model.specs.Lent.{Lent, rowsOf}
+use Rattle.model.specs.Entering.{entered, nextRow}
+use Rattle.model.specs.Closing.{closedImage, closedMap}
+use Rattle.model.specs.Target.{extents, targetExtent, targetRecord, targetSlot, crAfter, presentEntry, stays, targetEntry, blockThere, plan, moved, made, nextMade, haveRead, haveWritten, writtenMap}
+use Rattle.model.specs.declared.Plan.{Plan}
+use Rattle.model.specs.Calls.{readAt, reading, read, writtenAt, writing, written}
+use Rattle.names.specs.Laws.{like-trans, like-intro}
+use Rattle.consistency.specs.Facts.{Fine}
+use Rattle.consistency.specs.Reflect.{used-full}
+use Rattle.notes.specs.Free.{free-is, free-spare}
+use Rattle.rows.specs.Entries.{length-entryAt, entry-stored}
+use Rattle.rows.specs.Find.{file-says, no-file-says, empty-says}
+use Rattle.fields.specs.Agree.{isFile-cong, used-cong}
+use Rattle.fields.specs.Images.{row-closedImage-other}
+use Rattle.fields.specs.Fine.{fine-next}
+use Rattle.fields.specs.Making.{length-nextRow, user-next, name-next, slot-next, extent-next}
+use Rattle.fields.specs.Entering.{slot-entered}
+use Rattle.fields.specs.Naming.{named-intro, file-intro, file-user, file-like, file-used}
+use Rattle.fields.specs.Target.{map-written-kept, targetSlot-below}
+use Rattle.current.specs.Current.{SlotOk, slot-same, slot-pending, Current, fcb-says, current-says, current-file, current-slot}
+use Rattle.table.specs.Facts.{Fits, Reads, Writes}
+use Rattle.table.specs.Plans.{Block, there, free, There, Planned, stay, move, make, planned-read, planned-write}
+use Rattle.invariant.specs.Good.{Good}
+use Rattle.invariant.specs.Close.{pending-spare}
+use Rattle.invariant.specs.Updates.{good-taken, good-record, good-made}
+use Rattle.invariant.specs.CloseGood.{pending-block, current-below, current-used, closed-file, closed-free, good-closed}
+
+-- block b serves a write for slot j: it is past the directory, and free where the FCB has none in its slot
+pub record BlockFor (G : Geometry) (map fcb : Bytes) (j b : ℕ) : Type 0 where
+  pub past : G .area ≤ b
+  pub below : b < G .blocks
+  pub unless : slotOf fcb j ≡ 0 → noteAt map b ≡ freeNote
+
+-- a record of a used entry's block is written, with the FCB come to that entry
+pub good-written : {G : Geometry} (S : Sound G) (l : Lent) → Good G (l .image) (l .map) → length (l .buffer) ≡ recordBytes
+    → (t j b r cr : ℕ) → t < G .entries → j < slotCount → used (entryAt G (l .image) t) ≡ true → BlockFor G (l .map) (l .fcb) j b
+    → Good G (haveWritten G t j b r cr l .image) (haveWritten G t j b r cr l .map)
+unfolding haveWritten writtenMap
+good-written {G} S l g full t j b r cr ht hj u k =
+    split (eq-or-ne (slotOf (l .fcb) j) 0)
+    (λ z. rw (eq-eqb (slotOf (l .fcb) j) 0 z)
+    (good-record S (l .image) _ (good-taken G (l .image) (l .map) g b t j (k .below) (k .unless z) ht hj u) b r (k .past) (k .below) (l .buffer) full))
+    (λ n. subst (Good G _) (sym (map-written-kept (l .map) (l .fcb) t j b n)) (good-record S (l .image) (l .map) g b r (k .past) (k .below) (l .buffer) full))
+
+-- ---- the block that is there, by the plan
+module _ (G : Geometry) (n user : ℕ) (l : Lent) where
+  pub stay-block : stays n (l .fcb) ≡ true → blockThere G n user l ≡ slotOf (l .fcb) (targetSlot G n (l .fcb))
+  unfolding blockThere
+  stay-block t = rw t
+
+  pub move-block : (t : ℕ) → stays n (l .fcb) ≡ false → targetEntry G n user l ≡ At t → blockThere G n user l ≡ slotOf (rowsOf G l t) (targetSlot G n (l .fcb))
+  unfolding blockThere
+  move-block t f q = rw (f, q)
+
+  pub make-block : stays n (l .fcb) ≡ false → targetEntry G n user l ≡ Nothing → blockThere G n user l ≡ 0
+  unfolding blockThere
+  make-block f q = rw (f, q)
+
+-- a block in a slot of a used entry is past the directory
+row-serves : (G : Geometry) (r : Bytes) → Fine G r → (map fcb : Bytes) (j b : ℕ) → j < slotCount → slotOf r j ≡ b → (b ≡ 0 → ⊥) → (slotOf fcb j ≡ 0 → ⊥)
+    → BlockFor G map fcb j b
+row-serves G r fine map fcb j b h q real n = record {
+  past = subst (λ (x : ℕ). G .area ≤ x) q (fine .low j h (λ z. real (sym q ∙ z)));
+  below = subst (λ (x : ℕ). x < G .blocks) q (fine .high j h (λ z. real (sym q ∙ z)));
+  unless = λ z. absurd (n z);
+}
+
+module _ {G : Geometry} (S : Sound G) (n : ℕ) (l : Lent) (s : Session) (g : Good G (l .image) (l .map)) (f : Fits G l s) (e : ℕ)
+    (at : presentEntry G (s .user) l ≡ At e) where
+  -- ---- the FCB's own entry
+  pub present-current : Current G (rowsOf G l) (l .map) (s .user) (l .fcb) e
+  unfolding presentEntry
+  present-current = current-says G (rowsOf G l) (l .map) (s .user) (l .fcb) e at
+
+  pub present-below : e < G .entries
+  present-below = current-below S (l .image) (l .map) g (s .user) (f .user-low) (l .fcb) e present-current
+
+  pub present-used : used (rowsOf G l e) ≡ true
+  present-used = current-used S (l .image) (l .map) g (s .user) (f .user-low) (l .fcb) e present-current
+
+  pub slot-below : targetSlot G n (l .fcb) < slotCount
+  slot-below = targetSlot-below S n (l .fcb) (fcb-says (l .fcb) (present-current .right) .cr)
+
+  -- ---- a close, and a move
+  pub good-present : Good G (closedImage G (l .image) e (l .fcb)) (closedMap (rowsOf G l e) (l .fcb) (l .map))
+  good-present = good-closed S (l .image) (l .map) g (s .user) (f .user-low) (l .fcb) e present-current
+
+  pub good-moved : (t : ℕ) → Good G (moved G n l e t .image) (moved G n l e t .map)
+  unfolding moved
+  good-moved t = good-present
+
+  -- ---- the block of a write
+  -- a free block serves for any slot, as long as its note stays
+  free-serves : (map fcb : Bytes) (j b : ℕ) → findFree G (l .map) ≡ At b → noteAt map b ≡ freeNote → BlockFor G map fcb j b
+  free-serves map fcb j b q z =
+      let h = free-is G (l .map) b q in
+      record { past = free-spare G (rowsOf G l) b (noteAt (l .map) b) (g .inv .map b (h .below)) (h .free) .past; below = h .below; unless = λ y. z }
+
+  -- it stays free over a close
+  still-free : (b : ℕ) → findFree G (l .map) ≡ At b → noteAt (closedMap (rowsOf G l e) (l .fcb) (l .map)) b ≡ freeNote
+  still-free b q =
+      let h = free-is G (l .map) b q in closed-free S (l .image) (l .map) g (s .user) (f .user-low) (l .fcb) e present-current b (h .below) (h .free)
+
+  -- a block in the FCB's slot is the entry's, or pending for it
+  own-serves : (j b : ℕ) → j < slotCount → slotOf (l .fcb) j ≡ b → (b ≡ 0 → ⊥) → BlockFor G (l .map) (l .fcb) j b
+  own-serves j b h q real = go (current-slot G (rowsOf G l) (l .map) (s .user) (l .fcb) e present-current j h)
+    where
+      go : SlotOk (l .map) e (rowsOf G l e) (l .fcb) j → BlockFor G (l .map) (l .fcb) j b
+      go (slot-same p) =
+          row-serves G (rowsOf G l e) (g .inv .dir .fine e present-below present-used) (l .map) (l .fcb) j b h (sym p ∙ q) real (λ z. real (sym q ∙ z))
+      go (slot-pending y p) =
+          let noted : noteAt (l .map) b ≡ pendingFor e j = ap (λ (x : ℕ). noteAt (l .map) x) (sym q) ∙ p in
+          let below : b < G .blocks = subst (λ (x : ℕ). b < x) (g .map-long) (pending-block (l .map) b e j noted) in
+          record {
+            past = pending-spare G (rowsOf G l) b e j (noteAt (l .map) b) (g .inv .map b below) noted .past;
+            below = below;
+            unless = λ z. absurd (real (sym q ∙ z));
+          }
+
+  -- ---- a write in the present extent, and in another one
+  pub good-stay : (b : ℕ) → stays n (l .fcb) ≡ true → Block G n (s .user) l b → Good G (writtenAt G s l n e b l .lent .image) (writtenAt G s l n e b l .lent .map)
+  unfolding writtenAt
+  good-stay b t k =
+      good-written S l g (f .buffer-long) e (targetSlot G n (l .fcb)) b (targetRecord n (l .fcb)) (crAfter n (l .fcb)) present-below slot-below present-used (serves k)
+    where
+      serves : Block G n (s .user) l b → BlockFor G (l .map) (l .fcb) (targetSlot G n (l .fcb)) b
+      serves (there q real) = own-serves (targetSlot G n (l .fcb)) b slot-below (sym (stay-block G n (s .user) l t) ∙ q) real
+      serves (free z q) = free-serves (l .map) (l .fcb) (targetSlot G n (l .fcb)) b q (free-is G (l .map) b q .free)
+
+  module _ (t : ℕ) (target : targetEntry G n (s .user) l ≡ At t) where
+    pub target-file : isFile (s .user) (l .fcb) 1 (targetExtent n (l .fcb)) (rowsOf G l t) ≡ true
+    unfolding targetEntry
+    target-file = file-says G (rowsOf G l) (s .user) (l .fcb) 1 (targetExtent n (l .fcb)) t target .holds
+
+    pub target-below : t < G .entries
+    unfolding targetEntry
+    target-below = file-says G (rowsOf G l) (s .user) (l .fcb) 1 (targetExtent n (l .fcb)) t target .below
+
+    pub target-used : used (rowsOf G l t) ≡ true
+    target-used = file-used (s .user) (l .fcb) 1 (targetExtent n (l .fcb)) (rowsOf G l t) target-file (f .user-low)
+
+    pub good-move : (b : ℕ) → stays n (l .fcb) ≡ false → Block G n (s .user) l b
+        → Good G (writtenAt G s l n t b (moved G n l e t) .lent .image) (writtenAt G s l n t b (moved G n l e t) .lent .map)
+    unfolding writtenAt moved
+    good-move b go k =
+        good-written S (moved G n l e t) (good-moved t) (f .buffer-long) t (targetSlot G n (l .fcb)) b (targetRecord n (l .fcb)) (crAfter n (l .fcb)) target-below slot-below
+        (used-cong (entryAt G (closedImage G (l .image) e (l .fcb)) t) (rowsOf G l t)
+        (closed-file S (l .image) (l .map) g (s .user) (f .user-low) (l .fcb) e present-current t target-below .user) ∙ target-used) (serves k)
+      where
+        same : slotOf (entered (l .fcb) (rowsOf G l t)) (targetSlot G n (l .fcb)) ≡ slotOf (rowsOf G l t) (targetSlot G n (l .fcb))
+        same = slot-entered (l .fcb) (rowsOf G l t) (let q : length (l .fcb) ≡ 36 = f .fcb-long in omega arith) (targetSlot G n (l .fcb)) slot-below
+
+        serves : Block G n (s .user) l b
+            → BlockFor G (closedMap (rowsOf G l e) (l .fcb) (l .map)) (entered (l .fcb) (rowsOf G l t)) (targetSlot G n (l .fcb)) b
+        serves (there q real) =
+            let own : slotOf (rowsOf G l t) (targetSlot G n (l .fcb)) ≡ b = sym (move-block G n (s .user) l t go target) ∙ q in
+            row-serves G (rowsOf G l t) (g .inv .dir .fine t target-below target-used) (closedMap (rowsOf G l e) (l .fcb) (l .map)) (entered (l .fcb) (rowsOf G l t))
+            (targetSlot G n (l .fcb)) b slot-below own real (λ z. real (sym own ∙ sym same ∙ z))
+        serves (free z q) = free-serves (closedMap (rowsOf G l e) (l .fcb) (l .map)) (entered (l .fcb) (rowsOf G l t)) (targetSlot G n (l .fcb)) b q (still-free b q)
+
+  -- ---- a move that makes an entry for the target's extent
+  module _ (t : ℕ) (room : findEmpty G (rowsOf G l) ≡ At t) (none : targetEntry G n (s .user) l ≡ Nothing) (low : targetExtent n (l .fcb) < extents) where
+    room-below : t < G .entries
+    room-below = empty-says G (rowsOf G l) t room .below
+
+    -- an empty entry is another than the present one
+    elsewhere : t ≡ e → ⊥
+    elsewhere q =
+        not-both (empty (rowsOf G l t)) (empty-says G (rowsOf G l) t room .holds)
+        (used-full (rowsOf G l t) (subst (λ (x : ℕ). used (rowsOf G l x) ≡ true) (sym q) present-used))
+
+    long : length (rowsOf G l e) ≡ 32
+    long = length-entryAt S (l .image) (g .image-long) e present-below
+
+    pub next-file : isFile (s .user) (l .fcb) 1 (targetExtent n (l .fcb)) (nextRow (rowsOf G l e) (targetExtent n (l .fcb))) ≡ true
+    next-file =
+        let ext : ℕ = targetExtent n (l .fcb) in
+        let row : Bytes = nextRow (rowsOf G l e) ext in
+        let is = current-file G (rowsOf G l) (l .map) (s .user) (l .fcb) e present-current .holds in
+        file-intro (s .user) (l .fcb) 1 ext row
+        (named-intro false (s .user) (l .fcb) 1 row (user-next (rowsOf G l e) ext long ∙ file-user (s .user) (l .fcb) 1 (extentOf (l .fcb)) (rowsOf G l e) is)
+        (like-trans (l .fcb) 1 (rowsOf G l e) 1 row 1 (file-like (s .user) (l .fcb) 1 (extentOf (l .fcb)) (rowsOf G l e) is)
+        (like-intro (rowsOf G l e) 1 row 1 (λ i b. sym (name-next (rowsOf G l e) ext long i b)))))
+        (extent-next (rowsOf G l e) ext long)
+
+    pub good-next : Good G (made G n l e t .image) (made G n l e t .map)
+    unfolding made nextMade targetEntry
+    good-next =
+        let ext : ℕ = targetExtent n (l .fcb) in
+        let row : Bytes = nextRow (rowsOf G l e) ext in
+        good-made S (closedImage G (l .image) e (l .fcb)) (closedMap (rowsOf G l e) (l .fcb) (l .map)) good-present t room-below
+        (ap empty (row-closedImage-other S (l .image) (g .image-long) e present-below (l .fcb) t room-below (λ q. elsewhere (sym q))) ∙ empty-says G (rowsOf G l) t room .holds) row (length-nextRow (rowsOf G l e) ext long)
+        (fine-next G (rowsOf G l e) ext long (g .inv .dir .fine e present-below present-used) low) (λ j h. slot-next (rowsOf G l e) ext long j)
+        (s .user) (l .fcb) 1 ext next-file
+        (λ k h. isFile-cong (s .user) (l .fcb) 1 ext (entryAt G (closedImage G (l .image) e (l .fcb)) k) (rowsOf G l k)
+        (closed-file S (l .image) (l .map) g (s .user) (f .user-low) (l .fcb) e present-current k h) ∙ no-file-says G (rowsOf G l) (s .user) (l .fcb) 1 ext none k h)
+
+    -- the entry that was made
+    pub next-used : used (entryAt G (made G n l e t .image) t) ≡ true
+    unfolding made nextMade
+    next-used =
+        let row : Bytes = nextRow (rowsOf G l e) (targetExtent n (l .fcb)) in
+        let full : length row ≡ 32 = length-nextRow (rowsOf G l e) (targetExtent n (l .fcb)) long in
+        ap used (entry-stored S (closedImage G (l .image) e (l .fcb)) (good-present .image-long) t room-below row full)
+        ∙ file-used (s .user) (l .fcb) 1 (targetExtent n (l .fcb)) row next-file (f .user-low)
+
+    pub good-make : (b : ℕ) → stays n (l .fcb) ≡ false → Block G n (s .user) l b
+        → Good G (writtenAt G s l n t b (made G n l e t) .lent .image) (writtenAt G s l n t b (made G n l e t) .lent .map)
+    unfolding writtenAt made
+    good-make b go k =
+        good-written S (made G n l e t) good-next (f .buffer-long) t (targetSlot G n (l .fcb)) b (targetRecord n (l .fcb)) (crAfter n (l .fcb)) room-below slot-below next-used (serves k)
+      where
+        serves : Block G n (s .user) l b → BlockFor G (made G n l e t .map) (made G n l e t .fcb) (targetSlot G n (l .fcb)) b
+        serves (there q real) = absurd (real (sym q ∙ make-block G n (s .user) l go none))
+        serves (free z q) = free-serves (made G n l e t .map) (made G n l e t .fcb) (targetSlot G n (l .fcb)) b q (still-free b q)
+
+-- ---- any plan of a record call
+module _ {G : Geometry} (S : Sound G) (n : ℕ) (l : Lent) (s : Session) (g : Good G (l .image) (l .map)) (f : Fits G l s) (low : targetExtent n (l .fcb) < extents) where
+  read-plan : (B : ℕ → Type 0) (p : Plan) → Planned G n (s .user) l B p → Good G (reading G s l n p .lent .image) (reading G s l n p .lent .map)
+  unfolding readAt haveRead
+  read-plan B p (stay e b at t target k) = g
+  read-plan B p (move e t b at go target k) = good-moved S n l s g f e at t
+  read-plan B p (make e t b at go none room k) = good-next S n l s g f e at t room none low
+
+  write-plan : (p : Plan) → Planned G n (s .user) l (Block G n (s .user) l) p → Good G (writing G s l n p .lent .image) (writing G s l n p .lent .map)
+  write-plan p (stay e b at t target k) = good-stay S n l s g f e at b t k
+  write-plan p (move e t b at go target k) = good-move S n l s g f e at t target b go k
+  write-plan p (make e t b at go none room k) = good-make S n l s g f e at t room none low b go k
+
+-- 20, 33
+pub good-read : {G : Geometry} (S : Sound G) (n : ℕ) (l : Lent) (s : Session) → Good G (l .image) (l .map) → Fits G l s → Reads G l s n
+    → Good G (read G s l n .lent .image) (read G s l n .lent .map)
+unfolding read
+good-read {G} S n l s g f r = read-plan S n l s g f (r .extent) (There G n (s .user) l) (plan G n (s .user) l) (planned-read G n l s r)
+
+-- 21, 34
+pub good-write : {G : Geometry} (S : Sound G) (n : ℕ) (l : Lent) (s : Session) → Good G (l .image) (l .map) → Fits G l s → Writes G l s n
+    → Good G (written G s l n .lent .image) (written G s l n .lent .map)
+unfolding written
+good-write {G} S n l s g f w = write-plan S n l s g f (w .extent) (plan G n (s .user) l) (planned-write G n l s w)

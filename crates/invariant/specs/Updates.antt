@@ -1,0 +1,145 @@
+-- What the calls make of image and map, one update at a time, keeps them good.
+use mathlib.Core.Path.{_≡_, refl, ap, sym, _∙_, subst}
+use mathlib.Core.Bool.{Bool, true, false}
+use Prim.Native.Nat.{ℕ, _*_, _%_, _≤_, _<_}
+use lib.ListN.{length}
+use Rattle.lists.specs.Cases.{not-both}
+use Rattle.format.specs.Diskette.{Bytes, Geometry, Sound, recordBytes, imageBytes, withRecord}
+use Rattle.format.specs.Names.{nameRight}
+use Rattle.format.specs.Entries.{entryAt, withEntry, entryBytes, slotCount, slotOf, used, empty, named, isFile}
+use Rattle.format.specs.Consistent.{consistent}
+use Rattle.format.specs.Notes.{noteAt, freeNote, pendingFor, withNote, freshMap, freedMap, releasedMap}
+use Rattle.model.specs.Entering.{renamedRow}
+use Rattle.model.specs.Target.{placeIn}
+use Rattle.model.specs.Calls.{changedRows, erasedRow}
+use Rattle.names.specs.Laws.{like-sym, like-trans, like-intro}
+use Rattle.consistency.specs.Facts.{Fine, SameFile}
+use Rattle.notes.specs.Changes.{length-note, note-same, note-other}
+use Rattle.notes.specs.Right.{length-fresh, fresh-at, freed-fresh}
+use Rattle.notes.specs.FreeingLaws.{length-released, released-at}
+use Rattle.rows.specs.Entries.{block-past, length-entryAt, entry-kept, length-withEntry, entry-stored, entry-left}
+use Rattle.disk.specs.Records.{length-withRecord}
+use Rattle.fields.specs.Agree.{isFile-cong}
+use Rattle.fields.specs.Fine.{fine-renamed}
+use Rattle.fields.specs.Making.{length-renamedRow, user-renamed, name-renamed, extent-renamed, slot-renamed}
+use Rattle.fields.specs.Changing.{length-changedRows, row-picked, row-unpicked, length-erasedRow, empty-erased}
+use Rattle.fields.specs.Naming.{named-user, named-like, named-used, named-intro}
+use Rattle.fields.specs.Target.{place-below}
+use Rattle.invariant.specs.Steps.{fresh-inv, take-inv, keep-inv, make-inv}
+use Rattle.invariant.specs.Change.{RenamedTo, erase-inv, rename-inv}
+use Rattle.invariant.specs.Good.{Good, directory-of, good-consistent, good-right}
+
+-- ---- the map alone
+module _ (G : Geometry) (img : Bytes) where
+  -- 13: any consistent image, with the fresh map
+  pub good-fresh : length img ≡ imageBytes G → consistent G img ≡ true → Good G img (freshMap G (entryAt G img))
+  good-fresh long t = record {
+    image-long = long;
+    map-long = length-fresh G (entryAt G img);
+    inv = fresh-inv G (entryAt G img) (λ b. noteAt (freshMap G (entryAt G img)) b) (directory-of G img t) (λ b h. fresh-at G (entryAt G img) b h);
+  }
+
+  module _ (map : Bytes) (g : Good G img map) where
+    -- 98
+    pub good-freed : Good G img (freedMap G map)
+    good-freed =
+        subst (Good G img) (sym (freed-fresh G (entryAt G img) map (good-right G img map g))) (good-fresh (g .image-long) (good-consistent G img map g))
+
+    -- a write that takes a free block for slot j of the used entry t
+    pub good-taken : (b t j : ℕ) → b < G .blocks → noteAt map b ≡ freeNote → t < G .entries → j < slotCount → used (entryAt G img t) ≡ true
+        → Good G img (withNote map b (pendingFor t j))
+    good-taken b t j low free ht hj u = record {
+      image-long = g .image-long;
+      map-long = length-note map b (pendingFor t j) ∙ g .map-long;
+      inv = take-inv G (entryAt G img) (λ c. noteAt map c) (λ c. noteAt (withNote map b (pendingFor t j)) c) (g .inv) b t j low free ht hj u
+          (note-same map b (pendingFor t j) (rw (g .map-long) low)) (λ c h q. note-other map b (pendingFor t j) c q);
+    }
+
+-- ---- the image
+module _ {G : Geometry} (S : Sound G) (img map : Bytes) (g : Good G img map) where
+  whole : (k : ℕ) → k < G .entries → length (entryAt G img k) ≡ entryBytes
+  whole k l = length-entryAt S img (g .image-long) k l
+
+  -- a record of a block past the directory
+  pub good-record : (b r : ℕ) → G .area ≤ b → b < G .blocks → (bytes : Bytes) → length bytes ≡ recordBytes → Good G (withRecord G img (placeIn G b r) bytes) map
+  unfolding placeIn
+  good-record b r past below bytes full =
+      let p : placeIn G b r < G .perBlock * G .blocks = place-below S b r below in
+      record {
+        image-long = length-withRecord S img (g .image-long) (placeIn G b r) p bytes full ∙ g .image-long;
+        map-long = g .map-long;
+        inv = keep-inv S (entryAt G img) (entryAt G (withRecord G img (placeIn G b r) bytes)) (λ c. noteAt map c) (λ c. noteAt map c) (g .inv)
+            (λ k l. entry-kept S img (g .image-long) (placeIn G b r) (block-past G b (r % G .perBlock) past) p bytes full k l) (λ c h. refl);
+      }
+
+  -- a row without blocks in an empty entry, of a file and extent that no entry has
+  module _ (t : ℕ) (below : t < G .entries) (was : empty (entryAt G img t) ≡ true) (row : Bytes) (full : length row ≡ entryBytes) (fine : Fine G row)
+      (bare : (j : ℕ) → j < slotCount → slotOf row j ≡ 0) (user : ℕ) (s : Bytes) (q ext : ℕ) (is : isFile user s q ext row ≡ true)
+      (new : (k : ℕ) → k < G .entries → isFile user s q ext (entryAt G img k) ≡ false) where
+    pub good-made : Good G (withEntry G img t row) map
+    good-made =
+        let here : entryAt G (withEntry G img t row) t ≡ row = entry-stored S img (g .image-long) t below row full in
+        record {
+          image-long = length-withEntry S img (g .image-long) t below row full ∙ g .image-long;
+          map-long = g .map-long;
+          inv = make-inv S (entryAt G img) (entryAt G (withEntry G img t row)) (λ c. noteAt map c) (g .inv) t below was
+              (λ k l n. entry-left S img (g .image-long) t below row full k l (λ z. n (sym z))) (subst (Fine G) (sym here) fine)
+              (λ j l. ap (λ (r : Bytes). slotOf r j) here ∙ bare j l)
+              (λ k l u f. not-both (isFile user s q ext (entryAt G img k))
+              (sym (isFile-cong user s q ext row (entryAt G img k) (subst (λ (r : Bytes). SameFile r (entryAt G img k)) here f)) ∙ is) (new k l));
+        }
+
+  -- 19: the rows that a test picks become empty, and their blocks free
+  pub good-erased : (picks : Bytes → Bool) → Good G (changedRows G picks erasedRow img) (releasedMap G (entryAt G img) (λ (e : ℕ). picks (entryAt G img e)) map)
+  good-erased picks =
+      let keeps : (r : Bytes) → length r ≡ entryBytes → length (erasedRow r) ≡ entryBytes = λ r h. length-erasedRow r ∙ h in
+      record {
+        image-long = length-changedRows S picks erasedRow keeps img (g .image-long) ∙ g .image-long;
+        map-long = length-released G (entryAt G img) (λ (e : ℕ). picks (entryAt G img e)) map;
+        inv = erase-inv S (entryAt G img) (entryAt G (changedRows G picks erasedRow img)) (λ c. noteAt map c)
+            (λ c. noteAt (releasedMap G (entryAt G img) (λ (e : ℕ). picks (entryAt G img e)) map) c) (g .inv) (λ (e : ℕ). picks (entryAt G img e))
+            (λ k l p. row-unpicked S picks erasedRow keeps img (g .image-long) k l p)
+            (λ k l p. ap empty (row-picked S picks erasedRow keeps img (g .image-long) k l p) ∙ empty-erased (entryAt G img k) (whole k l))
+            (λ b h. released-at G (entryAt G img) (λ (e : ℕ). picks (entryAt G img e)) map b h);
+      }
+
+  -- 23: the rows of one file get a name that no entry of the user has
+  module _ (user : ℕ) (low : user ≤ 15) (fcb : Bytes) (right : nameRight false fcb 17 ≡ true)
+      (new : (k : ℕ) → k < G .entries → named false user fcb 17 (entryAt G img k) ≡ false) where
+    renamed-to : (k : ℕ) → k < G .entries → named false user fcb 1 (entryAt G img k) ≡ true → RenamedTo G (entryAt G img k) (renamedRow fcb (entryAt G img k))
+    renamed-to k l p = record {
+      fine = fine-renamed G (entryAt G img k) fcb (whole k l) (g .inv .dir .fine k l (named-used false user fcb 1 (entryAt G img k) p low)) right;
+      user = user-renamed fcb (entryAt G img k) (whole k l);
+      extent = extent-renamed fcb (entryAt G img k) (whole k l);
+      slot = slot-renamed fcb (entryAt G img k) (whole k l);
+    }
+
+    -- a row of the renamed file's user and name has the new name
+    clashes : (k f : ℕ) → k < G .entries → f < G .entries → named false user fcb 1 (entryAt G img k) ≡ true
+        → SameFile (renamedRow fcb (entryAt G img k)) (entryAt G img f) → ⊥
+    clashes k f l h p s =
+        not-both (named false user fcb 17 (entryAt G img f))
+        (named-intro false user fcb 17 (entryAt G img f)
+        (sym (s .user) ∙ user-renamed fcb (entryAt G img k) (whole k l) ∙ named-user false user fcb 1 (entryAt G img k) p)
+        (like-trans fcb 17 (renamedRow fcb (entryAt G img k)) 1 (entryAt G img f) 1
+        (like-intro fcb 17 (renamedRow fcb (entryAt G img k)) 1 (λ i b. sym (name-renamed fcb (entryAt G img k) (whole k l) i b)))
+        (like-sym (entryAt G img f) 1 (renamedRow fcb (entryAt G img k)) 1 (s .name))))
+        (new f h)
+
+    pub good-renamed : Good G (changedRows G (named false user fcb 1) (renamedRow fcb) img) map
+    good-renamed =
+        let picks : Bytes → Bool = named false user fcb 1 in
+        let keeps : (r : Bytes) → length r ≡ entryBytes → length (renamedRow fcb r) ≡ entryBytes = λ r h. length-renamedRow fcb r h in
+        let here : (k : ℕ) → k < G .entries → picks (entryAt G img k) ≡ true → entryAt G (changedRows G picks (renamedRow fcb) img) k ≡ renamedRow fcb (entryAt G img k) =
+        λ k l p. row-picked S picks (renamedRow fcb) keeps img (g .image-long) k l p in
+        record {
+          image-long = length-changedRows S picks (renamedRow fcb) keeps img (g .image-long) ∙ g .image-long;
+          map-long = g .map-long;
+          inv = rename-inv S (entryAt G img) (entryAt G (changedRows G picks (renamedRow fcb) img)) (λ c. noteAt map c) (g .inv)
+              (λ (e : ℕ). picks (entryAt G img e)) (λ k l p. row-unpicked S picks (renamedRow fcb) keeps img (g .image-long) k l p)
+              (λ k l p. named-used false user fcb 1 (entryAt G img k) p low)
+              (λ k l p. subst (RenamedTo G (entryAt G img k)) (sym (here k l p)) (renamed-to k l p))
+              (λ k f l h p q. like-trans (entryAt G img f) 1 fcb 1 (entryAt G img k) 1
+              (like-sym fcb 1 (entryAt G img f) 1 (named-like false user fcb 1 (entryAt G img f) q)) (named-like false user fcb 1 (entryAt G img k) p))
+              (λ k f l h p q u s. clashes k f l h p (subst (λ (r : Bytes). SameFile r (entryAt G img f)) (here k l p) s));
+        }

@@ -1,0 +1,27 @@
+-- The map becomes what the definition says of a directory with these marks, and the answer is that of a call done.
+use Rattle.format.specs.Diskette.{eightInch}
+use Rattle.model.specs.Lent.{lend}
+use Rattle.format.specs.Entries.{entryAt}
+use Rattle.plain.specs.Plain.{logged-in}
+use borrow.Author.Needs.{needs}
+use Rattle.plain.proofs.log_in.Statement.{statement}
+use Rattle.plain.proofs.log_in.Tie as tie
+
+make-fresh-requires : tie.Need-make-fresh-requires
+make-fresh-requires c κs = search needs
+
+done-requires : tie.Need-done-requires
+done-requires c κs = search needs
+
+same-length : tie.Need-same-length
+same-length c = search needs
+
+returns : tie.Need-returns
+returns c =
+    let a = c .before .before .before .before .before .before .before .args in
+    λ argument image fcb buffer marked. logged-in eightInch argument (lend image (a .map .now) fcb buffer) (a .session)
+    (c .done .result) (c .before .before .before .make-fresh .last .0) (c .done .ensures)
+    (c .before .before .before .make-fresh .ensures (entryAt eightInch image) marked)
+
+pub log-in-spec : {M : Type 1} → statement M
+log-in-spec = tie.close (tie.spec make-fresh-requires done-requires same-length returns)

@@ -1,0 +1,71 @@
+-- What calls 13, 32, 36, 46 and 98 come to: an answer, and what became of the buffer that each changes.
+use mathlib.Core.Path.{_≡_, refl, ap, _∙_}
+use mathlib.Core.Bool.{true, false, not}
+use Prim.Native.Nat.{ℕ, _+_, _*_, _<_, _≤_}
+use lib.Dec.{eqb}
+use borrow.Author.Tests.{eq-eqb, ne-eqb, le-leb, lt-leb}
+use Rattle.lists.specs.Splice.{splice}
+use Rattle.lists.specs.Tests.{or-left, or-right, or-then}
+use Rattle.format.specs.Diskette.{Bytes, Geometry}
+use Rattle.format.specs.Entries.{extentOf}
+use Rattle.format.specs.Notes.{freshMap, freedMap, freeCount}
+use Rattle.format.specs.Fcb.{crOf}
+use Rattle.model.specs.declared.Session.{Session}
+use Rattle.model.specs.declared.Answer.{Answer}
+use Rattle.model.specs.declared.Code.the-variants.{Accepted, Failed}
+use Rattle.model.specs.Lent.{Lent, rowsOf, outcome, answerOf, ended, withUser}
+use Rattle.model.specs.Entering.{threeBytes}
+use Rattle.model.specs.Target.{extentRecords}
+use Rattle.model.specs.Table.{positionRight}
+use Rattle.model.specs.Calls.{loggedIn, freed, userSet, positioned, space}
+use Rattle.table.specs.First.{Decides, here}
+use Rattle.table.specs.Own.{call13, call32, call36, call46, call98, ownRows}
+use Rattle.table.specs.OwnStep.{ownStep, carries-own}
+
+module _ (G : Geometry) (argument : ℕ) (l : Lent) (s : Session) where
+  -- ---- 13
+  pub logged-in : (r : Answer) (map : Bytes) → r ≡ answerOf (Accepted 0) (ended s) → map ≡ freshMap G (rowsOf G l)
+      → outcome r (l .image) map (l .fcb) (l .buffer) ≡ ownStep G argument l s call13
+  unfolding loggedIn
+  logged-in r map a m = carries-own G argument l s call13 _ tt (rw (a, m))
+
+  -- ---- 98
+  pub pending-freed : (r : Answer) (map : Bytes) → r ≡ answerOf (Accepted 0) (ended s) → map ≡ freedMap G (l .map)
+      → outcome r (l .image) map (l .fcb) (l .buffer) ≡ ownStep G argument l s call98
+  unfolding freed
+  pending-freed r map a m = carries-own G argument l s call98 _ tt (rw (a, m))
+
+  -- ---- 46
+  pub space-told : (r : Answer) (buffer : Bytes) → r ≡ answerOf (Accepted 0) (ended s)
+      → buffer ≡ splice (l .buffer) 0 (threeBytes (G .perBlock * freeCount G (l .map)))
+      → outcome r (l .image) (l .map) (l .fcb) buffer ≡ ownStep G argument l s call46
+  unfolding space
+  space-told r buffer a b = carries-own G argument l s call46 _ tt (rw (a, b))
+
+  -- ---- 36
+  pub position-refused : positionRight (l .fcb) ≡ false → Decides Failed (ownRows G argument l s call36)
+  position-refused h = here (ap not h) refl
+
+  pub position-told : (r : Answer) (fcb : Bytes) → positionRight (l .fcb) ≡ true → r ≡ answerOf (Accepted 0) (ended s)
+      → fcb ≡ splice (l .fcb) 33 (threeBytes (extentRecords * extentOf (l .fcb) + crOf (l .fcb)))
+      → outcome r (l .image) (l .map) fcb (l .buffer) ≡ ownStep G argument l s call36
+  unfolding positioned
+  position-told r fcb h a f = carries-own G argument l s call36 _ (ap not h, tt) (rw (a, f))
+
+  -- ---- 32: the user is asked for, refused, set
+  pub user-told : (r : Answer) → argument ≡ 255 → r ≡ answerOf (Accepted (s .user)) (ended s)
+      → outcome r (l .image) (l .map) (l .fcb) (l .buffer) ≡ ownStep G argument l s call32
+  unfolding userSet
+  user-told r h a =
+      let t : eqb argument 255 ≡ true = eq-eqb _ _ h in
+      carries-own G argument l s call32 _ (ap not (or-left _ _ t), tt) (rw (a, t))
+
+  pub user-refused : (argument ≡ 255 → ⊥) → 15 < argument → Decides Failed (ownRows G argument l s call32)
+  user-refused n h = here (ap not (or-then _ _ (ne-eqb _ _ n) ∙ lt-leb argument 15 h)) refl
+
+  pub user-set : (r : Answer) (t : Session) → (argument ≡ 255 → ⊥) → argument ≤ 15 → r ≡ answerOf (Accepted 0) (ended t) → t ≡ withUser s argument
+      → outcome r (l .image) (l .map) (l .fcb) (l .buffer) ≡ ownStep G argument l s call32
+  unfolding userSet
+  user-set r t n h a q =
+      let f : eqb argument 255 ≡ false = ne-eqb _ _ n in
+      carries-own G argument l s call32 _ (ap not (or-right _ _ (le-leb argument 15 h)), tt) (rw (a, q, f))

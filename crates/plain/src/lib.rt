@@ -1,0 +1,91 @@
+// The calls that look for no entry: 13 log in, 32 user number, 36 random record, 46 space, 98 free blocks. Each is handed only what
+// it reads or changes; what it promises holds whatever the other buffers are.
+ghost use mathlib.Core.Path.{_≡_};
+ghost use Prim.Native.Nat.{ℕ};
+ghost use lib.ListN.{length};
+ghost use Rattle.format.specs.Diskette.{Bytes, eightInch, recordBytes};
+ghost use Rattle.format.specs.Entries.{entryAt};
+ghost use Rattle.format.specs.Marks.{Marked, markCount};
+ghost use Rattle.format.specs.Fcb.{fcbBytes};
+ghost use Rattle.model.specs.Lent.{lend, outcome};
+ghost use Rattle.model.specs.Table.{positionRight};
+ghost use Rattle.table.specs.Own.{call13, call32, call36, call46, call98};
+ghost use Rattle.table.specs.OwnStep.{ownStep};
+use model::Answer;
+use model::Code;
+use model::Session;
+
+// 13: the map becomes the fresh map of the directory whose listed blocks are marked.
+pub fn log_in(map: &mut [u16], marks: &[u8], session: Session) -> Answer
+    requires { ⌜ (length (now map) ≡ eightInch .blocks) × (length (now marks) ≡ markCount) ⌝ }
+    ensures { λ r. ⌜ ((argument : ℕ) (image fcb buffer : Bytes) → Marked eightInch (entryAt eightInch image) (now (marks .entry))
+        → outcome r image (now (map .exit)) fcb buffer
+        ≡ ownStep eightInch argument (lend image (now (map .entry)) fcb buffer) session call13) ⌝ }
+{
+    notes::make_fresh(map, marks);
+    answers::done(0, session)
+}
+
+// 32: argument 255 returns the user, another sets it.
+pub fn user_number(argument: u8, session: Session) -> Answer
+    ensures { λ r. ⌜ ((image map fcb buffer : Bytes) → outcome r image map fcb buffer
+        ≡ ownStep eightInch argument (lend image map fcb buffer) session call32) ⌝ }
+{
+    if argument == 255 {
+        let user = session.user;
+        return answers::done(user, session);
+    }
+    if 15 < argument {
+        return answers::refuse(Code::Failed, session);
+    }
+    answers::done(0, answers::set_user(session, argument))
+}
+
+// Whether ex, s2 and cr are in range.
+fn position_right(fcb: &[u8]) -> bool
+    requires { ⌜ length (now fcb) ≡ fcbBytes ⌝ }
+    ensures { λ r. ⌜ r ≡ positionRight (now (fcb .entry)) ⌝ }
+{
+    if 31 < fcb[12] {
+        return false;
+    }
+    if 63 < fcb[14] {
+        return false;
+    }
+    fcb[32] <= 128
+}
+
+// 36: r0 to r2 become the record that the FCB stands at.
+pub fn random_record(fcb: &mut [u8], session: Session) -> Answer
+    requires { ⌜ length (now fcb) ≡ fcbBytes ⌝ }
+    ensures { λ r. ⌜ ((argument : ℕ) (image map buffer : Bytes) → outcome r image map (now (fcb .exit)) buffer
+        ≡ ownStep eightInch argument (lend image map (now (fcb .entry)) buffer) session call36) ⌝ }
+{
+    if !position_right(fcb) {
+        return answers::refuse(Code::Failed, session);
+    }
+    let n = format::EXTENT_RECORDS * rows::extent(fcb) + lists::wide(fcb[32]);
+    entering::put_three(fcb, 33, n);
+    answers::done(0, session)
+}
+
+// 46: the records of the free blocks into the buffer's first three bytes.
+pub fn free_space(map: &[u16], buffer: &mut [u8], session: Session) -> Answer
+    requires { ⌜ (length (now map) ≡ eightInch .blocks) × (length (now buffer) ≡ recordBytes) ⌝ }
+    ensures { λ r. ⌜ ((argument : ℕ) (image fcb : Bytes) → outcome r image (now (map .entry)) fcb (now (buffer .exit))
+        ≡ ownStep eightInch argument (lend image (now (map .entry)) fcb (now (buffer .entry))) session call46) ⌝ }
+{
+    let n = format::RECORDS_PER_BLOCK * notes::free_count(map);
+    entering::put_three(buffer, 0, n);
+    answers::done(0, session)
+}
+
+// 98: every pending note becomes free.
+pub fn free_blocks(map: &mut [u16], session: Session) -> Answer
+    requires { ⌜ length (now map) ≡ eightInch .blocks ⌝ }
+    ensures { λ r. ⌜ ((argument : ℕ) (image fcb buffer : Bytes) → outcome r image (now (map .exit)) fcb buffer
+        ≡ ownStep eightInch argument (lend image (now (map .entry)) fcb buffer) session call98) ⌝ }
+{
+    notes::free_pending(map);
+    answers::done(0, session)
+}

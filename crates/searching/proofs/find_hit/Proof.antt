@@ -1,0 +1,76 @@
+-- The loop's invariant: what is first from e on is first from the start on, since no entry passed before e.
+use mathlib.Core.Path.{_≡_, refl, _∙_}
+use mathlib.Core.Bool.{Bool}
+use Prim.Native.Nat.{ℕ, _-_}
+use native.Mathlib.Omega.{arith}
+use borrow.Author.Needs.{needs}
+use Rattle.lists.specs.Below.{firstIn, first-turn}
+use Rattle.format.specs.Diskette.{eightInch}
+use Rattle.format.specs.Entries.{entryAt}
+use Rattle.format.specs.FoundLaws.{look-hit, look-end}
+use Rattle.model.specs.Search.{findHit}
+use Rattle.searching.specs.Searches.{hitTest}
+use Rattle.searching.proofs.find_hit.Statement.{statement}
+use Rattle.searching.proofs.find_hit.Tie as tie
+
+abbrev Inv-loop : tie.InvT-loop
+Inv-loop image user pattern from e₀ e =
+    firstIn (hitTest (entryAt eightInch image) user pattern) e (eightInch .entries)
+    ≡ firstIn (hitTest (entryAt eightInch image) user pattern) from (eightInch .entries)
+
+abbrev μ-loop : tie.MeasureT-loop
+μ-loop image user pattern from e₀ e = eightInch .entries - e
+
+-- the test at each entry
+abbrev test : tie.Start Inv-loop μ-loop → ℕ → Bool
+test c = let a = c .args in hitTest (entryAt eightInch (a .image .now)) (a .user) (a .pattern .now)
+
+loop-holds : tie.Need-loop-holds Inv-loop μ-loop
+loop-holds c = refl
+
+row-requires : tie.Need-row-requires Inv-loop μ-loop
+row-requires c κs = search needs
+
+hit-requires : tie.Need-hit-requires Inv-loop μ-loop
+hit-requires c κs = search needs
+
+returns : tie.Need-returns Inv-loop μ-loop
+unfolding findHit
+returns c =
+    let l = c .before .before .before .before in
+    let m = l .before .before .before in
+    look-hit (test m) (m .args .from) (eightInch .entries) (l .loop .e) (l .loop .inv) (omega arith) (cc)
+
+add-e : tie.Need-add-e Inv-loop μ-loop
+add-e c = omega arith
+
+loop-less : tie.Need-loop-less Inv-loop μ-loop
+loop-less c = omega arith
+
+loop-again : tie.Need-loop-again Inv-loop μ-loop
+loop-again c =
+    let l = c .before .before .before .before in
+    let m = l .before .before .before in
+    first-turn (test m) (l .loop .e) (eightInch .entries) (omega arith) (cc) ∙ l .loop .inv
+
+returns-2 : tie.Need-returns-2 Inv-loop μ-loop
+unfolding findHit
+returns-2 c =
+    let l = c .before in
+    let m = l .before .before .before in
+    look-end (test m) (m .args .from) (eightInch .entries) (l .loop .e) (l .loop .inv) (omega arith)
+
+pub find-hit-spec : {M : Type 1} → statement M
+find-hit-spec =
+    tie.close
+    (tie.spec
+    Inv-loop
+    μ-loop
+    loop-holds
+    row-requires
+    hit-requires
+    returns
+    add-e
+    loop-less
+    loop-again
+    returns-2)

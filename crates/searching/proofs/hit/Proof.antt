@@ -1,0 +1,52 @@
+-- User, extent, name: the first that fails decides, and where the first two hold the name does.
+use mathlib.Core.Path.{_≡_, sym, _∙_}
+use mathlib.Core.Bool.{true, false}
+use borrow.Author.Needs.{needs}
+use borrow.Author.Tests.{ne-eqb, not-true, not-false}
+use Rattle.lists.specs.Tests.{and-fails-left, and-fails-right}
+use Rattle.format.specs.Entries.{named}
+use Rattle.model.specs.Search.{hit}
+use Rattle.searching.specs.Searches.{hit-by-name}
+use Rattle.searching.proofs.hit.Statement.{statement}
+use Rattle.searching.proofs.hit.Tie as tie
+
+shared-slice-read-if1 : tie.Need-shared-slice-read-if1
+shared-slice-read-if1 c = search needs
+
+returns : tie.Need-returns
+unfolding hit named
+returns c = sym (and-fails-left _ _ (and-fails-left _ _ (ne-eqb _ _ (c .if1 .taken))))
+
+shared-slice-read-extent-hit : tie.Need-shared-slice-read-extent-hit
+shared-slice-read-extent-hit c = search needs
+
+extent-hit-requires : tie.Need-extent-hit-requires
+extent-hit-requires c κs = search needs
+
+returns-2 : tie.Need-returns-2
+unfolding hit
+returns-2 c =
+    let t : c .before .extent-hit .result ≡ false = not-true _ (c .if2 .taken) in
+    sym (and-fails-right _ _ (sym (c .before .extent-hit .ensures) ∙ t))
+
+name-like-requires : tie.Need-name-like-requires
+name-like-requires c κs = search needs
+
+returns-3 : tie.Need-returns-3
+returns-3 c =
+    let b = c .before .before in
+    let a = b .before .before .before .before .before .before .args in
+    let t : b .extent-hit .result ≡ true = not-false _ (c .before .if2 .left) in
+    rw (hit-by-name (a .user) (a .pattern .now) (a .row .now) (b .before .before .if1 .left) (sym (b .extent-hit .ensures) ∙ t)) (c .name-like .ensures)
+
+pub hit-spec : {M : Type 1} → statement M
+hit-spec =
+    tie.close
+    (tie.spec
+    shared-slice-read-if1
+    returns
+    shared-slice-read-extent-hit
+    extent-hit-requires
+    returns-2
+    name-like-requires
+    returns-3)

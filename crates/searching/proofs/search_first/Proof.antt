@@ -1,0 +1,61 @@
+-- An FCB that may not be searched for is refused; otherwise the search goes on from entry 0.
+use mathlib.Core.Path.{sym, _∙_}
+use borrow.Author.Tests.{not-true, not-false}
+use Rattle.format.specs.Diskette.{Bytes, eightInch}
+use Rattle.model.specs.declared.Code.the-variants.{BadName}
+use Rattle.model.specs.Lent.{Lent, lend}
+use Rattle.model.specs.Search.{patternOf}
+use Rattle.table.specs.Own.{call17}
+use Rattle.table.specs.OwnStep.{refuses-own}
+use Rattle.searching.specs.Searches.{first-refused, first-searched}
+use borrow.Author.Needs.{needs}
+use Rattle.searching.proofs.search_first.Statement.{statement}
+use Rattle.searching.proofs.search_first.Tie as tie
+
+pattern-right-requires : tie.Need-pattern-right-requires
+pattern-right-requires c κs = search needs
+
+refuse-requires : tie.Need-refuse-requires
+refuse-requires c κs = search needs
+
+returns : tie.Need-returns
+returns c =
+    let a = c .before .before .before .before .before .before .args in
+    let l : Bytes → Lent = λ map. lend (a .image .now) map (a .fcb .now) (a .buffer .now) in
+    λ argument map. refuses-own eightInch argument (l map) (a .session) call17 BadName (c .refuse .result)
+    (first-refused eightInch (a .session) (l map) argument (sym (c .before .before .pattern-right .ensures) ∙ not-true _ (c .before .if1 .taken)))
+    (c .refuse .ensures)
+
+slice-aggregate-get : tie.Need-slice-aggregate-get
+slice-aggregate-get c = search needs
+
+get-requires : tie.Need-get-requires
+get-requires c κs = search needs
+
+first-match-requires : tie.Need-first-match-requires
+first-match-requires c κs = search needs
+
+same-length : tie.Need-same-length
+same-length c = search needs
+
+returns-2 : tie.Need-returns-2
+unfolding patternOf
+returns-2 c =
+    let b = c .before .before .before .before .before .before .before in
+    let a = b .before .before .before .before .before .args in
+    λ argument map. let l : Lent = lend (a .image .now) map (a .fcb .now) (a .buffer .now) in
+    c .before .before .first-match .ensures map (a .fcb .now)
+    ∙ rw (c .before .before .before .before .before .get .ensures) (first-searched eightInch (a .session) l argument (sym (b .before .pattern-right .ensures) ∙ not-false _ (b .if1 .left)))
+
+pub search-first-spec : {M : Type 1} → statement M
+search-first-spec =
+    tie.close
+    (tie.spec
+    pattern-right-requires
+    refuse-requires
+    returns
+    slice-aggregate-get
+    get-requires
+    first-match-requires
+    same-length
+    returns-2)

@@ -1,0 +1,42 @@
+-- Without a search on it is refused; otherwise the search goes on from the session's place.
+use mathlib.Core.Path.{_∙_}
+use Rattle.format.specs.Diskette.{Bytes, eightInch}
+use Rattle.model.specs.declared.Code.the-variants.{Failed}
+use Rattle.model.specs.Lent.{Lent, lend}
+use Rattle.table.specs.Own.{call18}
+use Rattle.table.specs.OwnStep.{refuses-own}
+use Rattle.searching.specs.Searches.{next-refused, next-searched}
+use borrow.Author.Needs.{needs}
+use Rattle.searching.proofs.search_next.Statement.{statement}
+use Rattle.searching.proofs.search_next.Tie as tie
+
+refuse-requires : tie.Need-refuse-requires
+refuse-requires c κs = search needs
+
+returns : tie.Need-returns
+returns c =
+    let a = c .before .before .before .before .before .args in
+    let l : Bytes → Bytes → Lent = λ map fcb. lend (a .image .now) map fcb (a .buffer .now) in
+    λ argument map fcb. refuses-own eightInch argument (l map fcb) (a .session) call18 Failed (c .refuse .result)
+    (next-refused eightInch (a .session) (l map fcb) argument (c .before .if1 .taken)) (c .refuse .ensures)
+
+cast-place : tie.Need-cast-place
+cast-place c = search needs
+
+first-match-requires : tie.Need-first-match-requires
+first-match-requires c κs = search needs
+
+same-length : tie.Need-same-length
+same-length c = search needs
+
+returns-2 : tie.Need-returns-2
+returns-2 c =
+    let b = c .before .before .before .before .before .before in
+    let a = b .before .before .before .before .args in
+    λ argument map fcb. let l : Lent = lend (a .image .now) map fcb (a .buffer .now) in
+    c .before .before .first-match .ensures map fcb ∙ next-searched eightInch (a .session) l argument (b .if1 .left)
+
+pub search-next-spec : {M : Type 1} → statement M
+search-next-spec =
+    tie.close
+    (tie.spec refuse-requires returns cast-place first-match-requires same-length returns-2)

@@ -1,0 +1,112 @@
+-- What calls 17 and 18 share: the search from a place on, which is over or finds a match. And the first entry that a pattern hits.
+use mathlib.Core.Path.{_≡_, refl, sym, ap, _∙_}
+use mathlib.Core.Bool.{Bool, true, false, cond, not}
+use Prim.Native.Nat.{ℕ, _+_, _/_}
+use lib.Dec.{eqb, leb, ltb}
+use lib.ListN.{getD}
+use borrow.Author.Tests.{eq-eqb, ne-eqb, le-ltb, lt-ltb, le-leb, lt-leb}
+use Rattle.lists.specs.Cases.{split, bool-cases, lt-or-le}
+use Rattle.lists.specs.Tests.{_and_, _or_, and-then, and-first, and-left, and-right}
+use Rattle.format.specs.Diskette.{Bytes, Geometry, recordAt}
+use Rattle.format.specs.Names.{nameLike, nameRight}
+use Rattle.format.specs.Entries.{Rows, userOf, exOf, named, entriesPerRecord}
+use Rattle.format.specs.Found.{numberOf, isFound}
+use Rattle.format.specs.FoundLaws.{FirstAt, first-says}
+use Rattle.format.specs.declared.Found.{Found}
+use Rattle.format.specs.declared.Found.the-variants.{At, Nothing}
+use Rattle.model.specs.declared.Session.{Session}
+use Rattle.model.specs.declared.Answer.{Answer}
+use Rattle.model.specs.declared.Code.the-variants.{Accepted, Failed, BadName, SearchOver}
+use Rattle.model.specs.Lent.{Lent, Outcome, rowsOf, outcome, answerOf, ended, searching, searchOn}
+use Rattle.model.specs.Search.{patternOf, extentHit, hit, findHit}
+use Rattle.model.specs.Calls.{entryNumber, foundAt, searched}
+use Rattle.model.specs.Step.{refused}
+use Rattle.table.specs.First.{_&_, Decides, here, later}
+use Rattle.table.specs.Own.{call17, call18, ownRows}
+use Rattle.table.specs.OwnStep.{ownStep, own-refused, own-carried}
+
+-- among the user's rows whose extent is asked for, the name decides
+pub hit-by-name : (user : ℕ) (pattern row : Bytes) → userOf row ≡ user → extentHit (getD pattern 11 0) row ≡ true
+    → hit user pattern row ≡ nameLike true pattern 0 row 1
+unfolding hit named
+hit-by-name user pattern row h t = and-first _ _ t ∙ and-then _ _ (eq-eqb _ _ h)
+
+-- the test of the look-up, at an entry
+abbrev pub hitTest : Rows → ℕ → Bytes → ℕ → Bool
+hitTest d user pattern e = hit user pattern (d e)
+
+pub hit-says : (G : Geometry) (d : Rows) (user : ℕ) (pattern : Bytes) (i e : ℕ) → findHit G d user pattern i ≡ At e
+    → FirstAt (hitTest d user pattern) i (G .entries) e
+unfolding findHit
+hit-says G d user pattern i e q = first-says (hitTest d user pattern) i (G .entries) e q
+
+-- the name rule for a pattern, and byte 12 in range or 3FH
+unfoldable pub patternRight : Bytes → Bool
+patternRight fcb = nameRight true fcb 1 and (leb (exOf fcb) 31 or eqb (exOf fcb) 63)
+
+-- byte 12 as the table tests it
+pub byte-asked : (x : ℕ) → (ltb 31 x and not (eqb x 63)) ≡ not (leb x 31 or eqb x 63)
+unfolding _and_ _or_
+byte-asked x =
+    split (lt-or-le 31 x)
+    (λ h. rw (lt-ltb 31 x h, lt-leb x 31 h))
+    (λ h. rw (le-ltb 31 x h, le-leb x 31 h))
+
+module _ (G : Geometry) (s : Session) (l : Lent) where
+  -- the search from a place on: over where nothing matches
+  unfoldable pub searchedFrom : Bytes → ℕ → Outcome
+  searchedFrom pattern place =
+      cond (isFound (findHit G (rowsOf G l) (s .user) pattern place)) (searched G s l pattern place) (refused SearchOver s l)
+
+  from-found : (pattern : Bytes) (place : ℕ) → isFound (findHit G (rowsOf G l) (s .user) pattern place) ≡ true
+      → searched G s l pattern place ≡ searchedFrom pattern place
+  unfolding searchedFrom
+  from-found pattern place t = rw t
+
+  from-missing : (pattern : Bytes) (place : ℕ) → isFound (findHit G (rowsOf G l) (s .user) pattern place) ≡ false
+      → refused SearchOver s l ≡ searchedFrom pattern place
+  unfolding searchedFrom
+  from-missing pattern place f = rw f
+
+  -- nothing matches: an answer that changed nothing
+  pub answers-over : (pattern : Bytes) (place : ℕ) (r : Answer) → findHit G (rowsOf G l) (s .user) pattern place ≡ Nothing
+      → r ≡ answerOf SearchOver (ended s) → outcome r (l .image) (l .map) (l .fcb) (l .buffer) ≡ searchedFrom pattern place
+  answers-over pattern place r q a =
+      ap (λ (x : Answer). outcome x (l .image) (l .map) (l .fcb) (l .buffer)) a ∙ from-missing pattern place (ap isFound q)
+
+  -- the match at e, answered
+  pub answers-found : (pattern : Bytes) (place e : ℕ) (r : Answer) (after : Session) (buffer : Bytes)
+      → findHit G (rowsOf G l) (s .user) pattern place ≡ At e
+      → r ≡ answerOf (Accepted (entryNumber e)) after → after ≡ searching s pattern (e + 1) → buffer ≡ recordAt G (l .image) (e / entriesPerRecord)
+      → outcome r (l .image) (l .map) (l .fcb) buffer ≡ searchedFrom pattern place
+  unfolding searched foundAt
+  answers-found pattern place e r after buffer q a n b =
+      rw (a, n, b) (ap (λ (f : Found). foundAt G s l pattern (numberOf (G .entries) f)) (sym q) ∙ from-found pattern place (ap isFound q))
+
+  -- ---- 17
+  pub first-refused : (argument : ℕ) → patternRight (l .fcb) ≡ false → Decides BadName (ownRows G argument l s call17)
+  unfolding patternRight
+  first-refused argument h =
+      split (bool-cases (nameRight true (l .fcb) 1))
+      (λ t. later (ap not t) (here (byte-asked (exOf (l .fcb)) ∙ ap not (sym (and-then _ _ t) ∙ h)) refl))
+      (λ f. here (ap not f) refl)
+
+  pub first-searched : (argument : ℕ) → patternRight (l .fcb) ≡ true → searchedFrom (patternOf (l .fcb)) 0 ≡ ownStep G argument l s call17
+  unfolding patternRight
+  first-searched argument h =
+      let n = ap not (and-left _ _ h) in
+      let x = byte-asked (exOf (l .fcb)) ∙ ap not (and-right _ _ h) in
+      sym (split (bool-cases (isFound (findHit G (rowsOf G l) (s .user) (patternOf (l .fcb)) 0)))
+      (λ t. own-carried G argument l s call17 (n & x & ap not t & tt) ∙ from-found (patternOf (l .fcb)) 0 t)
+      (λ f. own-refused G argument l s call17 SearchOver (later n (later x (here (ap not f) refl))) ∙ from-missing (patternOf (l .fcb)) 0 f))
+
+  -- ---- 18
+  pub next-refused : (argument : ℕ) → s .on ≡ 0 → Decides Failed (ownRows G argument l s call18)
+  next-refused argument h = let o : searchOn s ≡ false = rw h in here (ap not o) refl
+
+  pub next-searched : (argument : ℕ) → (s .on ≡ 0 → ⊥) → searchedFrom (s .pattern) (s .place) ≡ ownStep G argument l s call18
+  next-searched argument h =
+      let o : searchOn s ≡ true = rw (ne-eqb (s .on) 0 h) in
+      sym (split (bool-cases (isFound (findHit G (rowsOf G l) (s .user) (s .pattern) (s .place))))
+      (λ t. own-carried G argument l s call18 (ap not o & ap not t & tt) ∙ from-found (s .pattern) (s .place) t)
+      (λ f. own-refused G argument l s call18 SearchOver (later (ap not o) (here (ap not f) refl)) ∙ from-missing (s .pattern) (s .place) f))

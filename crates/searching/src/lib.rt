@@ -1,0 +1,126 @@
+// The searches: a row against a pattern, the first entry that a pattern hits, and calls 17 and 18. Each call is handed only what it
+// reads or changes; what it promises holds whatever the other buffers are.
+ghost use mathlib.Core.Path.{_≡_};
+ghost use Prim.Native.Nat.{ℕ, _≤_};
+ghost use lib.ListN.{length};
+ghost use Rattle.format.specs.Diskette.{Bytes, eightInch, recordBytes, imageBytes};
+ghost use Rattle.format.specs.Entries.{entryBytes, entryAt};
+ghost use Rattle.format.specs.Fcb.{fcbBytes};
+ghost use Rattle.model.specs.Lent.{lend, outcome};
+ghost use Rattle.model.specs.Search.{patternBytes, extentHit, hit, findHit};
+ghost use Rattle.table.specs.Own.{call17, call18};
+ghost use Rattle.table.specs.OwnStep.{ownStep};
+ghost use Rattle.searching.specs.Searches.{patternRight, searchedFrom};
+use format::ENTRIES;
+use format::ENTRIES_PER_RECORD;
+use format::Found;
+use model::Answer;
+use model::Code;
+use model::Session;
+
+// Whether byte 12 of a pattern asks for a row's extent: 3FH for any, another value for the same ex where s2 is 0.
+fn extent_hit(x: u8, row: &[u8]) -> bool
+    requires { ⌜ entryBytes ≤ length (now row) ⌝ }
+    ensures { λ r. ⌜ r ≡ extentHit x (now (row .entry)) ⌝ }
+{
+    if x == 63 {
+        return true;
+    }
+    if row[12] != x {
+        return false;
+    }
+    row[14] == 0
+}
+
+// Whether a row is the user's and matches a pattern. The name is compared last: it takes longest.
+pub fn hit(user: u8, pattern: &[u8], row: &[u8]) -> bool
+    requires { ⌜ (patternBytes ≤ length (now pattern)) × (entryBytes ≤ length (now row)) ⌝ }
+    ensures { λ r. ⌜ r ≡ hit user (now (pattern .entry)) (now (row .entry)) ⌝ }
+{
+    if row[0] != user {
+        return false;
+    }
+    if !extent_hit(pattern[11], row) {
+        return false;
+    }
+    names::name_like(true, pattern, 0, row, 1)
+}
+
+// The first entry from a place on that a pattern hits.
+pub fn find_hit(image: &[u8], user: u8, pattern: &[u8], from: usize) -> Found
+    requires { ⌜ (length (now image) ≡ imageBytes eightInch) × (patternBytes ≤ length (now pattern)) ⌝ }
+    ensures { λ r. ⌜ r ≡ findHit eightInch (entryAt eightInch (now (image .entry))) user (now (pattern .entry)) from ⌝ }
+{
+    let mut e = from;
+    while e < ENTRIES {
+        if hit(user, pattern, rows::row(image, e)) {
+            return Found::At(e);
+        }
+        e += 1;
+    }
+    Found::Nothing
+}
+
+// The first match from a place on: its directory record goes into the buffer, and the search goes on one past it. Without a match the
+// search is over.
+fn first_match(
+    image: &[u8],
+    pattern: [u8; 12],
+    from: usize,
+    buffer: &mut [u8],
+    session: Session,
+) -> Answer
+    requires { ⌜ (length (now image) ≡ imageBytes eightInch) × (length (now buffer) ≡ recordBytes) ⌝ }
+    ensures { λ r. ⌜ ((map fcb : Bytes) → outcome r (now (image .entry)) map fcb (now (buffer .exit))
+        ≡ searchedFrom eightInch session (lend (now (image .entry)) map fcb (now (buffer .entry))) pattern from) ⌝ }
+{
+    let user = session.user;
+    let Found::At(e) = find_hit(image, user, &pattern, from) else {
+        return answers::refuse(Code::SearchOver, session);
+    };
+    disk::read_record(image, e / ENTRIES_PER_RECORD, buffer);
+    let next = answers::search_from(session, pattern, (e + 1) as u16);
+    answers::answer(Code::Accepted((e % ENTRIES_PER_RECORD) as u8), next)
+}
+
+// Whether an FCB's name and byte 12 may be searched for.
+fn pattern_right(fcb: &[u8]) -> bool
+    requires { ⌜ length (now fcb) ≡ fcbBytes ⌝ }
+    ensures { λ r. ⌜ r ≡ patternRight (now (fcb .entry)) ⌝ }
+{
+    if !names::name_right(true, fcb, 1) {
+        return false;
+    }
+    if fcb[12] <= 31 {
+        return true;
+    }
+    fcb[12] == 63
+}
+
+// 17: the first entry that the FCB's name and byte 12 match.
+pub fn search_first(image: &[u8], fcb: &[u8], buffer: &mut [u8], session: Session) -> Answer
+    requires { ⌜ (length (now image) ≡ imageBytes eightInch) × (length (now fcb) ≡ fcbBytes) × (length (now buffer) ≡ recordBytes) ⌝ }
+    ensures { λ r. ⌜ ((argument : ℕ) (map : Bytes) → outcome r (now (image .entry)) map (now (fcb .entry)) (now (buffer .exit))
+        ≡ ownStep eightInch argument (lend (now (image .entry)) map (now (fcb .entry)) (now (buffer .entry))) session call17) ⌝ }
+{
+    if !pattern_right(fcb) {
+        return answers::refuse(Code::BadName, session);
+    }
+    let mut pattern = [0u8; 12];
+    lists::get(fcb, 1, &mut pattern);
+    first_match(image, pattern, 0, buffer, session)
+}
+
+// 18: the next entry that the session's pattern matches.
+pub fn search_next(image: &[u8], buffer: &mut [u8], session: Session) -> Answer
+    requires { ⌜ (length (now image) ≡ imageBytes eightInch) × (length (now buffer) ≡ recordBytes) ⌝ }
+    ensures { λ r. ⌜ ((argument : ℕ) (map fcb : Bytes) → outcome r (now (image .entry)) map fcb (now (buffer .exit))
+        ≡ ownStep eightInch argument (lend (now (image .entry)) map fcb (now (buffer .entry))) session call18) ⌝ }
+{
+    if session.on == 0 {
+        return answers::refuse(Code::Failed, session);
+    }
+    let pattern = session.pattern;
+    let place = session.place as usize;
+    first_match(image, pattern, place, buffer, session)
+}
