@@ -101,12 +101,12 @@ fn erase_entry(image: &mut [u8], map: &mut [u16], e: usize, user: u8, fcb: &[u8]
     requires { ⌜ (length (now image) ≡ imageBytes eightInch) × (length (now map) ≡ eightInch .blocks) × (e < eightInch .entries) × (length (now fcb) ≡ fcbBytes) ⌝ }
     ensures { λ r. ⌜ Erased eightInch (named true user (now (fcb .entry)) 1) (now (image .entry)) (now (map .entry)) e (now (image .exit)) (now (map .exit)) r ⌝ }
 {
-    let at = rows::entry_place(e);
     let r = rows::row(image, e);
     if !rows::is_named(true, user, fcb, 1, r) {
         return 0;
     }
     notes::free_slots(map, rows::slots(r));
+    let at = rows::entry_place(e);
     image[at] = 0xE5;
     1
 }

@@ -13,9 +13,6 @@ use Rattle.fields.specs.Changing.{erased-in-place}
 use Rattle.families.proofs.erase_entry.Statement.{statement}
 use Rattle.families.proofs.erase_entry.Tie as tie
 
-entry-place-requires : tie.Need-entry-place-requires
-entry-place-requires c κs = search needs
-
 row-requires : tie.Need-row-requires
 row-requires c κs = search needs
 
@@ -28,7 +25,7 @@ same-length c = search needs
 returns : tie.Need-returns
 unfolding changedRow
 returns c =
-    let s = c .before .before .before .before .before .before .before .before in
+    let s = c .before .before .before .before .before .before .before in
     let z : c .before .is-named .result ≡ false = not-true _ (c .if1 .taken) in
     let f : named true (s .args .user) (s .args .fcb .now) 1 (entryAt eightInch (s .args .image .now) (s .args .e)) ≡ false = cc in
     record { image = rw f; notes = rw f; marked = rw f }
@@ -38,6 +35,9 @@ slots-requires c κs = search needs
 
 free-slots-requires : tie.Need-free-slots-requires
 free-slots-requires c κs = search needs
+
+entry-place-requires : tie.Need-entry-place-requires
+entry-place-requires c κs = search needs
 
 slice-write-image : tie.Need-slice-write-image
 slice-write-image c = search needs
@@ -51,13 +51,13 @@ same-length-3 c = search needs
 returns-2 : tie.Need-returns-2
 unfolding changedRow
 returns-2 c =
-    let u = c .before .before .before .before .before in
-    let s = u .before .before .before .before .before .before .before .before in
+    let u = c .before .before .before .before .before .before in
+    let s = u .before .before .before .before .before .before .before in
     let z : u .before .is-named .result ≡ true = not-false _ (u .if1 .left) in
     let t : named true (s .args .user) (s .args .fcb .now) 1 (entryAt eightInch (s .args .image .now) (s .args .e)) ≡ true = cc in
     let m = s .args .image .now in
     record {
-      image = rw t (ap (λ (k : ℕ). set m k 229) (u .before .before .before .before .entry-place .ensures .0)
+      image = rw t (ap (λ (k : ℕ). set m k 229) (c .entry-place .ensures .0)
           ∙ sym (erased-in-place eight-sound m (s .pre .0) (s .args .e) (s .pre .2)));
       notes = rw t (cc);
       marked = rw t;
@@ -67,13 +67,13 @@ pub erase-entry-spec : {M : Type 1} → statement M
 erase-entry-spec =
     tie.close
     (tie.spec
-    entry-place-requires
     row-requires
     is-named-requires
     same-length
     returns
     slots-requires
     free-slots-requires
+    entry-place-requires
     slice-write-image
     same-length-2
     same-length-3
