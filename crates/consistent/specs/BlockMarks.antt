@@ -20,7 +20,7 @@ use Rattle.format.specs.Diskette.{Bytes, Geometry}
 use Rattle.format.specs.Entries.{Rows, slotCount, slotOf, used}
 use Rattle.format.specs.Consistent.{slotRight, slotsRight, slotsInAll, listed, listedOnce}
 use Rattle.format.specs.Notes.{isListed}
-use Rattle.format.specs.Marks.{markCount, Marked}
+use Rattle.facts.specs.Marks.{markCount, Marked}
 use Rattle.consistency.specs.Listed.{listed-used, listed-unused}
 
 -- no block past the directory has this number

@@ -14,7 +14,7 @@ use Rattle.format.specs.Diskette.{Bytes, Geometry}
 use Rattle.format.specs.Names.{nameRight}
 use Rattle.format.specs.Entries.{Rows, slotCount, slotOf, empty, used}
 use Rattle.format.specs.Consistent.{numbersRight, slotsRight, entryRight, slotsInAll, listedOnce, alone, consistentRows}
-use Rattle.format.specs.Marks.{markCount, UsersMarked}
+use Rattle.facts.specs.Marks.{markCount, UsersMarked}
 use Rattle.consistency.specs.Listed.{listed-unused}
 use Rattle.consistency.specs.Reflect.{used-full, empty-right, alone-intro, same-used-left}
 use Rattle.consistent.specs.BlockMarks.{BlockMarks, markSlots, slotsFree, marks-skip, marks-row, slots-right}

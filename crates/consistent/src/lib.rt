@@ -7,7 +7,7 @@ ghost use Rattle.format.specs.Diskette.{eightInch, imageBytes};
 ghost use Rattle.format.specs.Names.{nameBytes};
 ghost use Rattle.format.specs.Entries.{entryBytes, slotCount, entryAt, slotOf, used};
 ghost use Rattle.format.specs.Consistent.{sameFile, alone, consistent};
-ghost use Rattle.format.specs.Marks.{markCount, Marked, UsersMarked};
+ghost use Rattle.facts.specs.Marks.{markCount, Marked, UsersMarked};
 ghost use Rattle.consistent.specs.BlockMarks.{startMarks, numberFree, markNumber, markSlots, slotsFree};
 ghost use Rattle.consistent.specs.Key.{keyCount, nameSum, keyOf};
 ghost use Rattle.consistent.specs.Chain.{Lasts, Links};

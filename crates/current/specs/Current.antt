@@ -13,8 +13,8 @@ use Rattle.format.specs.Names.{nameRight}
 use Rattle.format.specs.Entries.{Rows, slotCount, slotsOf, slotOf, extentOf, findFile}
 use Rattle.format.specs.Notes.{pendingFor, noteAt}
 use Rattle.format.specs.Fcb.{crOf, fcbRight, slotFits, slotsFit, current}
-use Rattle.format.specs.SlotLaws.{getD-slotsOf}
-use Rattle.format.specs.FoundLaws.{FirstAt, at-not-nothing, at-once, found-cases}
+use Rattle.facts.specs.Slots.{getD-slotsOf}
+use Rattle.facts.specs.Found.{FirstAt, at-not-nothing, at-once, found-cases}
 use Rattle.format.specs.declared.Found.the-variants.{At, Nothing}
 use Rattle.rows.specs.Find.{fileTest, file-says}
 use Rattle.consistency.specs.Facts.{Numbers}

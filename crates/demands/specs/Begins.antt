@@ -13,7 +13,7 @@ use Rattle.format.specs.Names.{nameRight}
 use Rattle.format.specs.Entries.{entryAt, exOf, extentOf, readOnly, empty, used, isFile, findEmpty}
 use Rattle.format.specs.Notes.{freeNote, noteAt, freshNote, freshMap, isListed, findFree}
 use Rattle.format.specs.Fcb.{fcbBytes, crOf, fcbRight}
-use Rattle.format.specs.FoundLaws.{FoundAt, found-cases, at-not-nothing}
+use Rattle.facts.specs.Found.{FoundAt, found-cases, at-not-nothing}
 use Rattle.format.specs.Found.{numberOf}
 use Rattle.format.specs.declared.Found.{Found}
 use Rattle.format.specs.declared.Found.the-variants.{At}

@@ -9,7 +9,7 @@ use Rattle.format.specs.Diskette.{Bytes, eightInch, recordBytes}
 use Rattle.format.specs.Names.{nameRight}
 use Rattle.format.specs.Entries.{exOf}
 use Rattle.format.specs.Fcb.{crOf}
-use Rattle.format.specs.FoundLaws.{FoundAt}
+use Rattle.facts.specs.Found.{FoundAt}
 use Rattle.disk.specs.Eight.{eight-sound}
 use Rattle.model.specs.declared.Asked.{Asked}
 use Rattle.model.specs.Naming.{names}

@@ -9,7 +9,7 @@ use Rattle.lists.specs.Tests.{_or_}
 use Rattle.format.specs.Diskette.{Bytes, Geometry, Sound}
 use Rattle.format.specs.Entries.{entryAt, exOf}
 use Rattle.format.specs.Fcb.{crOf, current}
-use Rattle.format.specs.FoundLaws.{FoundAt}
+use Rattle.facts.specs.Found.{FoundAt}
 use Rattle.format.specs.declared.Found.the-variants.{At}
 use Rattle.rows.specs.Entries.{entry-stored}
 use Rattle.rows.specs.Find.{file-says, empty-says}

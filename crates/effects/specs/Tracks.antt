@@ -11,7 +11,7 @@ use Rattle.lists.specs.Tests.{_and_, _or_, and-then}
 use Rattle.lists.specs.Below.{anyBelow, any-cong}
 use Rattle.format.specs.Diskette.{Bytes, Geometry}
 use Rattle.format.specs.Entries.{Rows, slotCount, slotsOf, used}
-use Rattle.format.specs.SlotLaws.{getD-slotsOf}
+use Rattle.facts.specs.Slots.{getD-slotsOf}
 use Rattle.format.specs.Notes.{recordedNote, pendingFor, isPending, noteAt, freshNote, settledNote, heldFor, listedBy, releasedNote, isListed}
 use Rattle.notes.specs.Numbers.{pending-is, pending-entry, settled-not}
 use Rattle.notes.specs.Right.{NoteOk, ok-area, ok-recorded, ok-free, ok-pending, ok-settles, fresh-settled}

@@ -16,7 +16,7 @@ use Rattle.format.specs.Entries.{rcOf, userOf, extentOf, countIn, named, findNa
 use Rattle.format.specs.Consistent.{consistentRows, consistent}
 use Rattle.format.specs.Fcb.{crOf}
 use Rattle.format.specs.Found.{isFound}
-use Rattle.format.specs.FoundLaws.{FoundAt, is-found, not-found, none-says}
+use Rattle.facts.specs.Found.{FoundAt, is-found, not-found, none-says}
 use Rattle.model.specs.declared.Session.{Session}
 use Rattle.model.specs.Codes.{aOf, hOf}
 use Rattle.model.specs.Lent.{Lent, lend, rowsOf}

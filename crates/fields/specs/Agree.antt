@@ -13,7 +13,7 @@ use Rattle.format.specs.Names.{nameBytes, sevenBits}
 use Rattle.format.specs.Entries.{Rows, userOf, slotOf, slotsOf, slotCount, empty, used, readOnly, extentOf, covers, named, isFile, findFile}
 use Rattle.format.specs.Found.{foundBelow}
 use Rattle.format.specs.Consistent.{numbersRight, sameFile}
-use Rattle.format.specs.SlotLaws.{length-slotsOf, getD-slotsOf}
+use Rattle.facts.specs.Slots.{length-slotsOf, getD-slotsOf}
 use Rattle.format.specs.Fcb.{randomOf, fcbRight, fitting, current}
 use Rattle.format.specs.declared.Found.{Found}
 use Rattle.format.specs.declared.Found.the-variants.{At, Nothing}

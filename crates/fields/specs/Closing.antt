@@ -17,7 +17,7 @@ use Rattle.lists.specs.Fold.{foldBelow, fold-keeps}
 use Rattle.format.specs.Diskette.{Bytes, Geometry}
 use Rattle.format.specs.Names.{sevenBits, nameRight}
 use Rattle.format.specs.Entries.{Rows, rcOf, slotOf, slotsOf, slotCount, empty, used, readOnly, extentOf, countIn}
-use Rattle.format.specs.SlotLaws.{length-slotsOf, getD-slotsOf}
+use Rattle.facts.specs.Slots.{length-slotsOf, getD-slotsOf}
 use Rattle.format.specs.Notes.{noteAt, withNote, recordedNote}
 use Rattle.format.specs.Fcb.{randomOf, fcbRight, current}
 use Rattle.model.specs.Closing.{takesSlot, mergedSlot, mergedSlots, countsMore, closedCount, closedRow, closeChanges, closedNote, closedMap, closedFcb}

@@ -3,8 +3,5 @@ pub mod Names
 pub mod Entries
 pub mod Consistent
 pub mod Notes
-pub mod Marks
 pub mod Fcb
 pub mod Found
-pub mod FoundLaws
-pub mod SlotLaws

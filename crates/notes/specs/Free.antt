@@ -6,7 +6,7 @@ use native.Mathlib.Omega.{arith}
 use borrow.Author.Tests.{eq-eqb, ne-eqb, eqb-true, eqb-false}
 use Rattle.format.specs.Diskette.{Bytes, Geometry}
 use Rattle.format.specs.Entries.{Rows}
-use Rattle.format.specs.FoundLaws.{first-says, first-is-at, none-says, none-is}
+use Rattle.facts.specs.Found.{first-says, first-is-at, none-says, none-is}
 use Rattle.format.specs.Notes.{freeNote, noteAt, mapRight, isFree, findFree}
 use Rattle.format.specs.declared.Found.the-variants.{At, Nothing}
 use Rattle.notes.specs.Right.{NoteOk, ok-area, ok-recorded, ok-free, ok-pending, Spare, map-ok}

@@ -17,7 +17,7 @@ use Rattle.format.specs.Entries.{Rows, used, slotCount, slotsOf}
 use Rattle.format.specs.Consistent.{listed, slotsInAll}
 use Rattle.consistency.specs.Facts.{Stands}
 use Rattle.consistency.specs.Listed.{stands-at, stands-place, stands-listed}
-use Rattle.format.specs.SlotLaws.{getD-slotsOf}
+use Rattle.facts.specs.Slots.{getD-slotsOf}
 use Rattle.format.specs.Notes.{freeNote, noteAt, withNote, pendingEntry, heldFor, listedBy, releasedNote, releasedMap}
 use Rattle.notes.specs.Numbers.{settled-not}
 use Rattle.notes.specs.Changes.{length-note, note-same, note-other}

@@ -11,7 +11,7 @@ use Rattle.lists.specs.Tests.{_and_, _or_, and-then, and-fails-left}
 use Rattle.lists.specs.Seen.{bit, bit-zero, bit-one, bit-set}
 use Rattle.format.specs.Diskette.{Bytes, Geometry}
 use Rattle.format.specs.Entries.{Rows, used}
-use Rattle.format.specs.Marks.{Marked, UsersMarked}
+use Rattle.facts.specs.Marks.{Marked, UsersMarked}
 use Rattle.format.specs.Notes.{freeNote, areaNote, recordedNote, isPending, pendingEntry, isListed, heldByUsed, heldFor, noteRight, freshNote}
 use Rattle.notes.specs.Freeing.{marksPick}
 

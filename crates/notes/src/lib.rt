@@ -4,7 +4,7 @@ ghost use Prim.Native.Nat.{_<_, _≤_};
 ghost use lib.ListN.{length, getD};
 ghost use Rattle.format.specs.Diskette.{eightInch};
 ghost use Rattle.format.specs.Entries.{Rows, slotCount};
-ghost use Rattle.format.specs.Marks.{Marked, UsersMarked, markCount};
+ghost use Rattle.facts.specs.Marks.{Marked, UsersMarked, markCount};
 ghost use Rattle.format.specs.Notes.{noteAt, pendingFor, withNote, findFree, freeCount, settledNote, freedMap, freshNote, freshMap, heldFor, noteRight, mapRight};
 ghost use Rattle.notes.specs.Freeing.{unlistedSlot, unlistedMap, unheldNote, unheldMap, marksPick, freedEntry};
 use format::Found;

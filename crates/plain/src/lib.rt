@@ -5,7 +5,7 @@ ghost use Prim.Native.Nat.{ℕ};
 ghost use lib.ListN.{length};
 ghost use Rattle.format.specs.Diskette.{Bytes, eightInch, recordBytes};
 ghost use Rattle.format.specs.Entries.{entryAt};
-ghost use Rattle.format.specs.Marks.{Marked, markCount};
+ghost use Rattle.facts.specs.Marks.{Marked, markCount};
 ghost use Rattle.format.specs.Fcb.{fcbBytes};
 ghost use Rattle.model.specs.Lent.{lend, outcome};
 ghost use Rattle.model.specs.Table.{positionRight};

@@ -9,7 +9,7 @@ use Rattle.format.specs.Diskette.{Bytes, Geometry}
 use Rattle.format.specs.Names.{nameLike}
 use Rattle.format.specs.Entries.{Rows, userOf, covers, empty, named, isFile, findFile, findNamed, findEmpty}
 use Rattle.format.specs.declared.Found.the-variants.{At, Nothing}
-use Rattle.format.specs.FoundLaws.{FirstAt, first-says, first-is-at, none-says, none-is}
+use Rattle.facts.specs.Found.{FirstAt, first-says, first-is-at, none-says, none-is}
 
 -- among the user's rows that cover the extent, the name decides
 pub file-by-name : (user : ℕ) (s : Bytes) (q ext : ℕ) (row : Bytes) → userOf row ≡ user → covers row ext ≡ true → isFile user s q ext row ≡ nameLike false s q row 1

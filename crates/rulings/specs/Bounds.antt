@@ -10,7 +10,7 @@ use Rattle.format.specs.Diskette.{Bytes, Geometry, Sound}
 use Rattle.format.specs.Entries.{slotCount, slotOf, userOf, findFile}
 use Rattle.format.specs.Consistent.{consistent}
 use Rattle.format.specs.Notes.{noteAt, pendingFor}
-use Rattle.format.specs.FoundLaws.{FoundAt, found-cases}
+use Rattle.facts.specs.Found.{FoundAt, found-cases}
 use Rattle.format.specs.declared.Found.the-variants.{At}
 use Rattle.model.specs.declared.Verdict.{Verdict}
 use Rattle.model.specs.declared.Verdict.the-variants.{Passed, Refused}

@@ -11,7 +11,7 @@ use Rattle.format.specs.Diskette.{Bytes, Geometry}
 use Rattle.format.specs.Entries.{Rows, extentOf, readOnly, findEmpty}
 use Rattle.format.specs.Notes.{findFree}
 use Rattle.format.specs.Found.{isFound}
-use Rattle.format.specs.FoundLaws.{at-once, at-not-nothing, found-cases}
+use Rattle.facts.specs.Found.{at-once, at-not-nothing, found-cases}
 use Rattle.format.specs.declared.Found.{Found}
 use Rattle.format.specs.declared.Found.the-variants.{At, Nothing}
 use Rattle.model.specs.declared.Code.{Code}

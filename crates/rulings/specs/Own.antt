@@ -11,7 +11,7 @@ use Rattle.lists.specs.Tests.{_and_, _or_, and-fails-left, and-fails-right, and
 use Rattle.format.specs.Diskette.{Bytes, Geometry}
 use Rattle.format.specs.Fcb.{randomOf}
 use Rattle.format.specs.Found.{isFound}
-use Rattle.format.specs.FoundLaws.{is-found, found-so}
+use Rattle.facts.specs.Found.{is-found, found-so}
 use Rattle.model.specs.declared.Session.{Session}
 use Rattle.model.specs.declared.Verdict.{Verdict}
 use Rattle.model.specs.declared.Verdict.the-variants.{Passed, Refused}

@@ -11,7 +11,7 @@ use Rattle.format.specs.Diskette.{Bytes, Geometry, recordAt}
 use Rattle.format.specs.Names.{nameLike, nameRight}
 use Rattle.format.specs.Entries.{Rows, userOf, exOf, named, entriesPerRecord}
 use Rattle.format.specs.Found.{numberOf, isFound}
-use Rattle.format.specs.FoundLaws.{FirstAt, first-says}
+use Rattle.facts.specs.Found.{FirstAt, first-says}
 use Rattle.format.specs.declared.Found.{Found}
 use Rattle.format.specs.declared.Found.the-variants.{At, Nothing}
 use Rattle.model.specs.declared.Session.{Session}

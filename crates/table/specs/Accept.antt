@@ -12,7 +12,7 @@ use Rattle.format.specs.Consistent.{consistent}
 use Rattle.format.specs.Notes.{findFree}
 use Rattle.format.specs.Fcb.{randomOf}
 use Rattle.format.specs.Found.{isFound}
-use Rattle.format.specs.FoundLaws.{FoundAt, not-found}
+use Rattle.facts.specs.Found.{FoundAt, not-found}
 use Rattle.model.specs.declared.Session.{Session}
 use Rattle.model.specs.declared.Code.the-variants.{NotListed}
 use Rattle.model.specs.declared.Verdict.the-variants.{Passed}

@@ -7,7 +7,7 @@ use borrow.Author.Tests.{eq-eqb, ne-eqb}
 use Rattle.lists.specs.Cases.{split, eq-or-ne}
 use Rattle.format.specs.Diskette.{Bytes, Geometry}
 use Rattle.format.specs.Entries.{findEmpty}
-use Rattle.format.specs.FoundLaws.{FoundAt}
+use Rattle.facts.specs.Found.{FoundAt}
 use Rattle.format.specs.declared.Found.{Found}
 use Rattle.format.specs.declared.Found.the-variants.{At}
 use Rattle.model.specs.declared.Session.{Session}

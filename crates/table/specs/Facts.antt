@@ -10,7 +10,7 @@ use Rattle.format.specs.Entries.{exOf, s2Of, named, readOnly, findNamed, findEm
 use Rattle.format.specs.Consistent.{consistent}
 use Rattle.format.specs.Notes.{mapRight, findFree}
 use Rattle.format.specs.Fcb.{fcbBytes, crOf}
-use Rattle.format.specs.FoundLaws.{FoundAt}
+use Rattle.facts.specs.Found.{FoundAt}
 use Rattle.format.specs.declared.Found.the-variants.{Nothing}
 use Rattle.model.specs.declared.Session.{Session}
 use Rattle.model.specs.Lent.{Lent, rowsOf, searchOn}

@@ -9,7 +9,7 @@ use Rattle.lists.specs.Tests.{and-left, and-right}
 use Rattle.format.specs.Diskette.{Geometry}
 use Rattle.format.specs.Entries.{findEmpty}
 use Rattle.format.specs.Notes.{findFree}
-use Rattle.format.specs.FoundLaws.{FoundAt, at-not-nothing}
+use Rattle.facts.specs.Found.{FoundAt, at-not-nothing}
 use Rattle.format.specs.declared.Found.{Found}
 use Rattle.format.specs.declared.Found.the-variants.{At, Nothing}
 use Rattle.model.specs.declared.Session.{Session}

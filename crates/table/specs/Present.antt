@@ -12,7 +12,7 @@ use Rattle.format.specs.Diskette.{Bytes, Geometry}
 use Rattle.format.specs.Entries.{Rows, entryAt, userOf, exOf, s2Of, empty, slotsOf, extentOf, covers, named, isFile, findFile}
 use Rattle.format.specs.Consistent.{numbersRight, entryRight, consistentRows, consistent}
 use Rattle.format.specs.Fcb.{fcbRight, slotsFit, fitting, current}
-use Rattle.format.specs.FoundLaws.{at-not-nothing, at-once, FoundAt, FirstAt, first-says}
+use Rattle.facts.specs.Found.{at-not-nothing, at-once, FoundAt, FirstAt, first-says}
 use Rattle.format.specs.declared.Found.{Found}
 use Rattle.format.specs.declared.Found.the-variants.{At, Nothing}
 use Rattle.model.specs.Lent.{Lent, rowsOf}

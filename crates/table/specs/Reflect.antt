@@ -15,7 +15,7 @@ use Rattle.format.specs.Entries.{named, readOnly, findNamed}
 use Rattle.format.specs.Consistent.{consistent}
 use Rattle.format.specs.Notes.{mapRight}
 use Rattle.format.specs.Found.{isFound}
-use Rattle.format.specs.FoundLaws.{FoundAt, is-found, found-so, not-found, none-says, none-is}
+use Rattle.facts.specs.Found.{FoundAt, is-found, found-so, not-found, none-says, none-is}
 use Rattle.format.specs.declared.Found.{Found}
 use Rattle.format.specs.declared.Found.the-variants.{At, Nothing}
 use Rattle.model.specs.declared.Session.{Session}

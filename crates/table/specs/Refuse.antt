@@ -15,7 +15,7 @@ use Rattle.format.specs.Consistent.{consistent}
 use Rattle.format.specs.Notes.{mapRight}
 use Rattle.format.specs.Fcb.{randomOf}
 use Rattle.format.specs.Found.{isFound}
-use Rattle.format.specs.FoundLaws.{not-found}
+use Rattle.facts.specs.Found.{not-found}
 use Rattle.format.specs.declared.Found.{Found}
 use Rattle.format.specs.declared.Found.the-variants.{Nothing}
 use Rattle.model.specs.declared.Session.{Session}

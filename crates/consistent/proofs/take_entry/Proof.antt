@@ -1,6 +1,6 @@
 -- Each return is one of the laws of an entry: it is empty, its row is wrong, a slot is wrong, or being alone decides.
 use Rattle.consistent.specs.Pass.{rowRight, empty-fits, row-fails, slots-fail, alone-decides, passed-empty, passed-used, row-used}
-use Rattle.format.specs.Marks.{markCount}
+use Rattle.facts.specs.Marks.{markCount}
 use Rattle.format.specs.Consistent.{alone}
 use Rattle.format.specs.Entries.{slotCount, slotOf, entryAt, empty}
 use Rattle.format.specs.Diskette.{eightInch}

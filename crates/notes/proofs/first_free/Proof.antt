@@ -5,7 +5,7 @@ use native.Mathlib.Omega.{arith}
 use borrow.Author.Tests.{eq-eqb, ne-eqb}
 use Rattle.lists.specs.Below.{firstIn, first-turn}
 use Rattle.format.specs.Diskette.{eightInch}
-use Rattle.format.specs.FoundLaws.{look-hit, look-end}
+use Rattle.facts.specs.Found.{look-hit, look-end}
 use Rattle.format.specs.Notes.{isFree, findFree}
 use Rattle.notes.proofs.first_free.Statement.{statement}
 use Rattle.notes.proofs.first_free.Tie as tie

@@ -7,7 +7,7 @@ use borrow.Author.Needs.{needs}
 use Rattle.lists.specs.Tab.{Filled, filled-none, filled-all}
 use Rattle.format.specs.Diskette.{eightInch}
 use Rattle.format.specs.Entries.{Rows}
-use Rattle.format.specs.Marks.{Marked}
+use Rattle.facts.specs.Marks.{Marked}
 use Rattle.format.specs.Notes.{freshNote, freshMap}
 use Rattle.notes.specs.Changes.{filled-note}
 use Rattle.notes.proofs.make_fresh.Statement.{statement}

@@ -8,7 +8,7 @@ use borrow.Author.Tests.{not-true, not-false}
 use Rattle.lists.specs.Below.{allBelow, all-none, all-more, all-fails, all-done}
 use Rattle.format.specs.Diskette.{eightInch}
 use Rattle.format.specs.Entries.{Rows}
-use Rattle.format.specs.Marks.{Marked, UsersMarked}
+use Rattle.facts.specs.Marks.{Marked, UsersMarked}
 use Rattle.format.specs.Notes.{noteAt, noteRight, mapRight}
 use Rattle.notes.proofs.map_right.Statement.{statement}
 use Rattle.notes.proofs.map_right.Tie as tie

@@ -7,7 +7,7 @@ use borrow.Author.Needs.{needs}
 use Rattle.lists.specs.Below.{firstIn, first-turn}
 use Rattle.format.specs.Diskette.{eightInch}
 use Rattle.format.specs.Entries.{entryAt, findFile}
-use Rattle.format.specs.FoundLaws.{look-hit, look-end}
+use Rattle.facts.specs.Found.{look-hit, look-end}
 use Rattle.rows.specs.Find.{fileTest}
 use Rattle.rows.proofs.find_file.Statement.{statement}
 use Rattle.rows.proofs.find_file.Tie as tie

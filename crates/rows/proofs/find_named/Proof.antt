@@ -7,7 +7,7 @@ use borrow.Author.Needs.{needs}
 use Rattle.lists.specs.Below.{firstIn, first-turn}
 use Rattle.format.specs.Diskette.{eightInch}
 use Rattle.format.specs.Entries.{entryAt, findNamed}
-use Rattle.format.specs.FoundLaws.{look-hit, look-end}
+use Rattle.facts.specs.Found.{look-hit, look-end}
 use Rattle.rows.specs.Find.{namedTest}
 use Rattle.rows.proofs.find_named.Statement.{statement}
 use Rattle.rows.proofs.find_named.Tie as tie

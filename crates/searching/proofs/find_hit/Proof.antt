@@ -7,7 +7,7 @@ use borrow.Author.Needs.{needs}
 use Rattle.lists.specs.Below.{firstIn, first-turn}
 use Rattle.format.specs.Diskette.{eightInch}
 use Rattle.format.specs.Entries.{entryAt}
-use Rattle.format.specs.FoundLaws.{look-hit, look-end}
+use Rattle.facts.specs.Found.{look-hit, look-end}
 use Rattle.model.specs.Search.{findHit}
 use Rattle.searching.specs.Searches.{hitTest}
 use Rattle.searching.proofs.find_hit.Statement.{statement}
