@@ -2,17 +2,16 @@
 -- pending for the marked entries becomes free.
 use mathlib.Core.Path.{_≡_, sym, ap, _∙_}
 use mathlib.Core.Bool.{Bool, true, cond}
-use Prim.Native.Nat.{ℕ, _+_, _≤_, _<_}
+use Prim.Native.Nat.{ℕ, _+_, _<_}
 use native.Mathlib.Omega.{arith}
 use lib.ListN.{length, set}
-use borrow.Author.Tests.{eqb-true, le-leb}
 use Rattle.lists.specs.Cases.{split, bool-cases, cond-either}
-use Rattle.lists.specs.Tests.{and-left, and-fails-left}
+use Rattle.lists.specs.Tests.{and-fails-left}
 use Rattle.lists.specs.Seen.{bit, bit-set}
 use Rattle.lists.specs.Fold.{foldBelow, fold-none, fold-more}
 use Rattle.lists.specs.Tab.{Filled, filled-none, filled-more, tab-cong}
 use Rattle.format.specs.Diskette.{Bytes, Geometry, Sound, imageBytes}
-use Rattle.format.specs.Entries.{Rows, entryBytes, entryAt, slotsOf, userOf, used, named}
+use Rattle.format.specs.Entries.{Rows, entryBytes, entryAt, slotsOf, used}
 use Rattle.format.specs.Notes.{noteAt, freeNote, pendingEntry, heldFor, mapRight, releasedMap}
 use Rattle.model.specs.Calls.{changedRow, changedRows, erasedRow}
 use Rattle.fields.specs.Changing.{length-changed, row-to-come, length-erasedRow}
@@ -20,11 +19,6 @@ use Rattle.notes.specs.Numbers.{settled-not, pending-entry}
 use Rattle.notes.specs.Right.{NoteOk, ok-area, ok-recorded, ok-free, ok-pending, map-ok}
 use Rattle.notes.specs.Freeing.{unlistedMap, unheldNote, unheldMap, marksPick}
 use Rattle.notes.specs.FreeingLaws.{Freed, inEntries, entries-none, entries-kept, entries-more, entries-released, free-unheld}
-
--- the rows of a user are used
-pub named-used : (wild : Bool) (user : ℕ) (s : Bytes) (q : ℕ) (row : Bytes) → user ≤ 15 → named wild user s q row ≡ true → used row ≡ true
-unfolding named used
-named-used wild user s q row h t = let e : userOf row ≡ user = eqb-true _ _ (and-left _ _ t) in le-leb (userOf row) 15 (omega arith)
 
 -- ---- what is pending, in a right map, is pending for entries that there are
 module _ (G : Geometry) (d : Rows) (p q : ℕ → Bool) (same : (e : ℕ) → e < G .entries → p e ≡ q e) where

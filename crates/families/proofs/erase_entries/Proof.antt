@@ -8,7 +8,8 @@ use borrow.Author.Needs.{needs}
 use Rattle.format.specs.Diskette.{eightInch}
 use Rattle.format.specs.Entries.{named}
 use Rattle.disk.specs.Eight.{eight-sound}
-use Rattle.families.specs.Erasing.{Erasing, erasing-none, erasing-more, erasing-image, erasing-map, named-used}
+use Rattle.fields.specs.Naming.{named-used}
+use Rattle.families.specs.Erasing.{Erasing, erasing-none, erasing-more, erasing-image, erasing-map}
 use Rattle.families.proofs.erase_entries.Statement.{statement}
 use Rattle.families.proofs.erase_entries.Tie as tie
 
@@ -70,7 +71,7 @@ returns c =
       erasing-image eight-sound _ _ _ (s .pre .0) (s .pre .1) (l .loop .image) (l .loop .map) (l .loop .picked) i,
       c .before .before .free-held .ensures
           ∙ erasing-map eight-sound _ _ _ (s .pre .0) (s .pre .1) (l .loop .image) (l .loop .map) (l .loop .picked)
-          (λ e h t. named-used true (s .args .user) (s .args .fcb .now) 1 _ (s .pre .3) t) (s .pre .4) i,
+          (λ e h t. named-used true (s .args .user) (s .args .fcb .now) 1 _ t (s .pre .3)) (s .pre .4) i,
     )
 
 pub erase-entries-spec : {M : Type 1} → statement M
