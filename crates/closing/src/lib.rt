@@ -38,7 +38,7 @@ fn merged_slot(es: [u8; 16], fs: [u8; 16], j: usize) -> u8
 }
 
 // The slots after a close.
-pub fn merge(es: [u8; 16], fs: [u8; 16]) -> [u8; 16]
+fn merge(es: [u8; 16], fs: [u8; 16]) -> [u8; 16]
     ensures { λ r. ⌜ r ≡ mergedSlots es fs ⌝ }
 {
     let mut r = [0u8; 16];
@@ -51,7 +51,7 @@ pub fn merge(es: [u8; 16], fs: [u8; 16]) -> [u8; 16]
 }
 
 // The entry's count after a close: it stays unless the FCB's is larger.
-pub fn closed_count(row: &[u8], fcb: &[u8]) -> u8
+fn closed_count(row: &[u8], fcb: &[u8]) -> u8
     requires { ⌜ (entryBytes ≤ length (now row)) × (entryBytes ≤ length (now fcb)) ⌝ }
     ensures { λ r. ⌜ r ≡ closedCount (now (row .entry)) (now (fcb .entry)) ⌝ }
 {
@@ -62,7 +62,7 @@ pub fn closed_count(row: &[u8], fcb: &[u8]) -> u8
 }
 
 // The entry's row after a close.
-pub fn closed_row(row: [u8; 32], fcb: &[u8]) -> [u8; 32]
+fn closed_row(row: [u8; 32], fcb: &[u8]) -> [u8; 32]
     requires { ⌜ length (now fcb) ≡ fcbBytes ⌝ }
     ensures { λ r. ⌜ r ≡ closedRow row (now (fcb .entry)) ⌝ }
 {
@@ -88,7 +88,7 @@ fn record_block(map: &mut [u16], es: [u8; 16], fs: [u8; 16], j: usize)
 }
 
 // The blocks that the entry takes become recorded.
-pub fn record_blocks(map: &mut [u16], es: [u8; 16], fs: [u8; 16])
+fn record_blocks(map: &mut [u16], es: [u8; 16], fs: [u8; 16])
     ensures { λ _. ⌜ now (map .exit) ≡ foldBelow (closedNote es fs) (now (map .entry)) slotCount ⌝ }
 {
     let mut j = 0;
@@ -110,7 +110,7 @@ pub fn close_entry(image: &mut [u8], map: &mut [u16], e: usize, fcb: &[u8])
 }
 
 // f5' and f6' in the FCB are cleared.
-pub fn clear_attributes(fcb: &mut [u8])
+fn clear_attributes(fcb: &mut [u8])
     requires { ⌜ length (now fcb) ≡ fcbBytes ⌝ }
     ensures { λ _. ⌜ now (fcb .exit) ≡ closedFcb (now (fcb .entry)) ⌝ }
 {
