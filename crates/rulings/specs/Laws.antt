@@ -10,6 +10,7 @@ use Rattle.lists.specs.Tests.{_and_, and-right, and-fails-left, and-fails-right
 use Rattle.format.specs.Diskette.{Bytes, Geometry}
 use Rattle.format.specs.Entries.{Rows, extentOf, readOnly, findEmpty}
 use Rattle.format.specs.Notes.{findFree}
+use Rattle.format.specs.Fcb.{current}
 use Rattle.format.specs.Found.{isFound}
 use Rattle.facts.specs.Found.{at-once, at-not-nothing, found-cases}
 use Rattle.format.specs.declared.Found.{Found}
@@ -21,12 +22,14 @@ use Rattle.model.specs.declared.Plan.the-variants.{Make}
 use Rattle.model.specs.Lent.{Lent, rowsOf}
 use Rattle.model.specs.Target.{extents, targetExtent, targetRecord, targetSlot, presentEntry, stays, targetEntry, blockThere, countThere, recordThere, targetBlock, readOnlyThere, planFrom, plan}
 use Rattle.model.specs.Table.{Row, firstRow}
-use Rattle.fields.specs.Target.{moves-extent}
+use Rattle.current.specs.Current.{fcb-says, current-says}
+use Rattle.fields.specs.Target.{record-below, moves-extent}
 use Rattle.table.specs.First.{_&_, NoneHolds, Decides, here, later, none-passed, decides-refused}
 use Rattle.table.specs.Present.{current-elim, file-extent, target-present}
 use Rattle.rulings.specs.declared.Ruling.{Ruling}
 use Rattle.rulings.specs.declared.Ruling.the-variants.{Refuse, Follow}
-use Rattle.targets.specs.Target.{overLast, missingCode, arrivedSlot, arrivedCount, goTo}
+use Rattle.targets.specs.declared.Target.{Target}
+use Rattle.targets.specs.Target.{TargetOf, overLast, missingCode, arrivedSlot, arrivedCount, goTo}
 use Rattle.rulings.specs.Ruling.{rulingOf, readRows, writeRows, readRuling, writeRuling, readTo, guarded, readOnlyFound, blockFor, withBlock, writeNew, writeTo}
 
 -- ---- the ruling of a list of rows
@@ -187,6 +190,12 @@ module _ (G : Geometry) (n user : ℕ) (l : Lent) where
           pub write-found : writeRuling G n user l
               ≡ writeTo G (rowsOf G l) (l .map) (l .fcb) (missingCode n NoEntry) e (targetSlot G n (l .fcb)) (targetEntry G n user l)
           write-found = found-cases (targetEntry G n user l) (λ t q. write-there t q ∙ rw q) (λ q. write-made q ∙ rw q)
+
+-- ---- what code needs of the FCB's entry before it goes on
+-- the target's record is one of an extent's
+pub target-low : (G : Geometry) (d : Rows) (map : Bytes) (user : ℕ) (fcb : Bytes) (e n : ℕ) (t : Target)
+    → current G d map user fcb ≡ At e → TargetOf n fcb t → t .at < 128
+target-low G d map user fcb e n t q is = rw (is .at) (record-below n fcb (fcb-says fcb (current-says G d map user fcb e q .right) .cr))
 
 -- ---- the parts, from what the callees have answered
 module _ (d : Rows) (fcb : Bytes) (e t ext j r : ℕ) where

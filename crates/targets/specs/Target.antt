@@ -13,6 +13,7 @@ use Rattle.model.specs.declared.Plan.the-variants.{Stay, Move}
 use Rattle.model.specs.Target.{extents, isRandom, targetExtent, targetRecord, crAfter}
 use Rattle.targets.specs.declared.Target.{Target}
 
+-- t is the target of call n, with cr afterwards
 pub record TargetOf (n : ℕ) (fcb : Bytes) (t : Target) : Type 0 where
   pub extent : t .extent ≡ targetExtent n fcb
   pub at : t .at ≡ targetRecord n fcb

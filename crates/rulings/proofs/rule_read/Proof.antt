@@ -7,13 +7,12 @@ use Rattle.format.specs.Entries.{entryAt, findFile}
 use Rattle.format.specs.declared.Found.the-variants.{At}
 use Rattle.format.specs.Fcb.{current}
 use Rattle.model.specs.Lent.{lend}
-use Rattle.model.specs.Target.{targetExtent, targetRecord, targetSlot, presentEntry, targetEntry}
+use Rattle.model.specs.Target.{targetExtent, targetSlot, presentEntry, targetEntry}
 use Rattle.rows.specs.Find.{file-says}
-use Rattle.current.specs.Current.{Current, current-says, fcb-says}
-use Rattle.fields.specs.Target.{record-below}
+use Rattle.current.specs.Current.{current-says}
 use Rattle.rulings.specs.declared.Ruling.the-variants.{Refuse}
 use Rattle.targets.specs.Target.{overLast}
-use Rattle.rulings.specs.Laws.{read-over, read-stale, read-missing, read-found}
+use Rattle.rulings.specs.Laws.{target-low, read-over, read-stale, read-missing, read-found}
 use borrow.Author.Needs.{needs}
 use Rattle.rulings.proofs.rule_read.Statement.{statement}
 use Rattle.rulings.proofs.rule_read.Tie as tie
@@ -45,24 +44,11 @@ entry : (c : tie.After-known-told) → let a = c .before .before .before .before
     current eightInch (entryAt eightInch (a .image .now)) (a .map .now) (a .user) (a .fcb .now) ≡ At (c .before .e .given .0 .0)
 entry c = sym (c .before .before .before .current-entry .ensures) ∙ c .before .e .given .1
 
-present : (c : tie.After-known-told) → let a = c .before .before .before .before .before .before .before .before .before .args in
-    Current eightInch (entryAt eightInch (a .image .now)) (a .map .now) (a .user) (a .fcb .now) (c .before .e .given .0 .0)
-present c =
-    let a = c .before .before .before .before .before .before .before .before .before .args in
-    current-says eightInch (entryAt eightInch (a .image .now)) (a .map .now) (a .user) (a .fcb .now) (c .before .e .given .0 .0) (entry c)
-
 target : (c : tie.After-target-entry) → let a = c .before .before .before .before .before .before .before .before .before .before .args in
     c .target-entry .result ≡ findFile eightInch (entryAt eightInch (a .image .now)) (a .user) (a .fcb .now) 1 (targetExtent (a .number) (a .fcb .now))
 target c =
     let a = c .before .before .before .before .before .before .before .before .before .before .args in
     c .target-entry .ensures ∙ ap (findFile eightInch (entryAt eightInch (a .image .now)) (a .user) (a .fcb .now) 1) (c .before .before .before .before .before .before .before .before .before .before .pre .2 .extent)
-
--- the target's record is one of an extent's
-record-low : (c : tie.After-known-told) → c .before .before .before .before .before .before .before .before .before .args .target .at < 128
-record-low c =
-    let s = c .before .before .before .before .before .before .before .before .before in
-    let q : s .args .target .at ≡ targetRecord (s .args .number) (s .args .fcb .now) = s .pre .2 .at in
-    rw q (record-below (s .args .number) (s .args .fcb .now) (fcb-says (s .args .fcb .now) (present c .right) .cr))
 
 returns-2 : tie.Need-returns-2
 unfolding presentEntry
@@ -71,7 +57,9 @@ returns-2 c =
     sym (read-stale eightInch (a .number) (a .user) (lend (a .image .now) (a .map .now) (a .fcb .now) buffer) (in-range (c .before .before)) (sym (c .before .before .current-entry .ensures) ∙ c .enum-told .given .1))
 
 target-entry-requires : tie.Need-target-entry-requires
-target-entry-requires c κs = let f = present c .found in search needs
+target-entry-requires c κs =
+    let a = c .before .before .before .before .before .before .before .before .before .args in
+    let q = current-says eightInch (entryAt eightInch (a .image .now)) (a .map .now) (a .user) (a .fcb .now) (c .before .e .given .0 .0) (entry c) .found in search needs
 
 enum-known-t : tie.Need-enum-known-t
 enum-known-t c = search needs
@@ -90,7 +78,10 @@ returns-3 c =
     ∙ sym (read-missing eightInch (a .number) (a .user) (lend (a .image .now) (a .map .now) (a .fcb .now) buffer) (in-range (c .before .before .before .before .before .before .before)) (c .before .before .before .before .before .e .given .0 .0) (entry (c .before .before .before .before)) (sym (target (c .before .before .before)) ∙ c .before .enum-told2 .given .1))
 
 slot-for-requires : tie.Need-slot-for-requires
-slot-for-requires c κs = record-low (c .before .before .before .before)
+slot-for-requires c κs =
+    let s = c .before .before .before .before .before .before .before .before .before .before .before .before .before in let a = s .args in
+    target-low eightInch (entryAt eightInch (a .image .now)) (a .map .now) (a .user) (a .fcb .now) (c .before .before .before .before .before .e .given .0 .0) (a .number) (a .target)
+    (entry (c .before .before .before .before)) (s .pre .2)
 
 read-to-requires : tie.Need-read-to-requires
 read-to-requires c κs =

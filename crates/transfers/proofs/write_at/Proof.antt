@@ -1,8 +1,8 @@
 -- The row is taken before the record is written; each callee's result is a part of the definition.
 use Rattle.model.specs.Target.{haveWritten}
 use borrow.Author.Needs.{needs}
-use Rattle.records.proofs.write_at.Statement.{statement}
-use Rattle.records.proofs.write_at.Tie as tie
+use Rattle.transfers.proofs.write_at.Statement.{statement}
+use Rattle.transfers.proofs.write_at.Tie as tie
 
 copy-row-requires : tie.Need-copy-row-requires
 copy-row-requires c κs = search needs

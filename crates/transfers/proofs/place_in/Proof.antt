@@ -3,8 +3,8 @@ use mathlib.Core.Path.{refl}
 use native.Mathlib.Omega.{arith}
 use Rattle.model.specs.Target.{placeIn}
 use borrow.Author.Needs.{needs}
-use Rattle.records.proofs.place_in.Statement.{statement}
-use Rattle.records.proofs.place_in.Tie as tie
+use Rattle.transfers.proofs.place_in.Statement.{statement}
+use Rattle.transfers.proofs.place_in.Tie as tie
 
 mul-result : tie.Need-mul-result
 mul-result c = search needs

@@ -1,8 +1,8 @@
 -- The record is copied, and cr set.
 use Rattle.model.specs.Target.{haveRead}
 use borrow.Author.Needs.{needs}
-use Rattle.records.proofs.read_at.Statement.{statement}
-use Rattle.records.proofs.read_at.Tie as tie
+use Rattle.transfers.proofs.read_at.Statement.{statement}
+use Rattle.transfers.proofs.read_at.Tie as tie
 
 place-in-requires : tie.Need-place-in-requires
 place-in-requires c κs = search needs

@@ -1,8 +1,8 @@
 -- The three bytes that the definition sets, the count computed before the slot changes.
 use Rattle.model.specs.Target.{writtenFcb, writtenCount}
 use borrow.Author.Needs.{needs}
-use Rattle.records.proofs.set_written.Statement.{statement}
-use Rattle.records.proofs.set_written.Tie as tie
+use Rattle.transfers.proofs.set_written.Statement.{statement}
+use Rattle.transfers.proofs.set_written.Tie as tie
 
 slice-aggregate-count-in : tie.Need-slice-aggregate-count-in
 slice-aggregate-count-in c = search needs

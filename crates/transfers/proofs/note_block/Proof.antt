@@ -3,8 +3,8 @@ use borrow.Author.Tests.{eq-eqb, ne-eqb}
 use Rattle.model.specs.Target.{writtenMap}
 use Rattle.format.specs.Entries.{slotOf}
 use borrow.Author.Needs.{needs}
-use Rattle.records.proofs.note_block.Statement.{statement}
-use Rattle.records.proofs.note_block.Tie as tie
+use Rattle.transfers.proofs.note_block.Statement.{statement}
+use Rattle.transfers.proofs.note_block.Tie as tie
 
 add-if1 : tie.Need-add-if1
 add-if1 c = search needs

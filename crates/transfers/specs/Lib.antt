@@ -1,0 +1,1 @@
+-- This crate states no laws of its own.
