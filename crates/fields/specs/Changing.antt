@@ -1,18 +1,19 @@
 -- An image in which the rows that a test picks are changed (19, 23): its rows, its records and its bytes; and the row of a delete.
-use mathlib.Core.Path.{_≡_, refl, sym, _∙_}
+use mathlib.Core.Path.{_≡_, refl, sym, ap, _∙_}
 use mathlib.Core.Logic.{_⊎_}
 use mathlib.Core.Bool.{Bool, true, false, cond}
 use Prim.Native.Nat.{ℕ, _+_, _≤_, _<_}
 use native.Mathlib.Omega.{arith}
-use lib.ListN.{length, getD, length-set}
+use lib.ListN.{length, getD, set, length-set}
 use lib.Seq.{getD-set-same, getD-set-other}
 use borrow.Author.Tests.{eq-eqb}
 use Rattle.lists.specs.Cases.{split, bool-cases, lt-or-le}
-use Rattle.lists.specs.Fold.{fold-builds}
+use Rattle.lists.specs.Splice.{splice-set}
+use Rattle.lists.specs.Fold.{foldBelow, fold-builds}
 use Rattle.format.specs.Diskette.{Bytes, Geometry, Sound, imageBytes, recordAt}
 use Rattle.format.specs.Entries.{entryBytes, entryPlace, entryAt, withEntry, userOf, empty, used}
 use Rattle.disk.specs.Places.{blockRecords}
-use Rattle.rows.specs.Entries.{areaRecords, length-entryAt, length-withEntry, entry-stored, entry-left, entry-byte-left, record-kept}
+use Rattle.rows.specs.Entries.{areaRecords, entry-fits, length-entryAt, length-withEntry, entry-stored, entry-left, entry-byte-left, record-kept}
 use Rattle.model.specs.Calls.{changedRow, changedRows, erasedRow}
 use Rattle.fields.specs.Agree.{Agree}
 
@@ -73,9 +74,19 @@ module _ {G : Geometry} (S : Sound G) (picks : Bytes → Bool) (change : Bytes �
       rw q
       (split (bool-cases (picks (entryAt G img n))) (λ t. rw t (so-changed n out h t s)) (λ f. rw f (so-kept n out h f s)))
 
+  so-far : (n : ℕ) → n ≤ G .entries → So n (foldBelow (changedRow G picks change) img n)
+  so-far n h = fold-builds So (changedRow G picks change) img n so-none (λ k out l s. so-next k out (omega arith) s)
+
   so-all : So (G .entries) (changedRows G picks change img)
   unfolding changedRows
-  so-all = fold-builds So (changedRow G picks change) img (G .entries) so-none (λ n out h s. so-next n out h s)
+  so-all = so-far (G .entries) (omega arith)
+
+  -- the image after the first n rows: its length, and the rows that are still to come
+  pub length-changed : (n : ℕ) → n ≤ G .entries → length (foldBelow (changedRow G picks change) img n) ≡ length img
+  length-changed n h = so-far n h .size ∙ sym long
+
+  pub row-to-come : (n e : ℕ) → n ≤ e → e < G .entries → entryAt G (foldBelow (changedRow G picks change) img n) e ≡ entryAt G img e
+  row-to-come n e h l = so-far n (omega arith) .left e h l
 
   pub length-changedRows : length (changedRows G picks change img) ≡ length img
   length-changedRows = so-all .size ∙ sym long
@@ -102,6 +113,15 @@ module _ {G : Geometry} (S : Sound G) (picks : Bytes → Bool) (change : Bytes �
   byte-changedRows i o = so-all .byte i o
 
 -- ---- 19: byte 0 to E5H only
+-- in the image, one byte
+pub erased-in-place : {G : Geometry} (S : Sound G) (img : Bytes) → length img ≡ imageBytes G → (e : ℕ) → e < G .entries
+    → withEntry G img e (erasedRow (entryAt G img e)) ≡ set img (entryPlace G e) 229
+unfolding withEntry entryAt erasedRow
+erased-in-place {G} S img long e h =
+    let f : entryPlace G e + entryBytes ≤ imageBytes G = entry-fits S e h in
+    let q : entryPlace G e + 0 ≡ entryPlace G e = omega arith in
+    splice-set img (entryPlace G e) entryBytes 0 229 (omega arith) (omega arith) ∙ ap (λ (k : ℕ). set img k 229) q
+
 module _ (row : Bytes) where
   pub length-erasedRow : length (erasedRow row) ≡ length row
   unfolding erasedRow

@@ -14,17 +14,26 @@ use Rattle.format.specs.Consistent.{numbersRight}
 use Rattle.model.specs.Calls.{sizeOf, largerSize, fileSize}
 
 module _ (d : Rows) (picks : Bytes → Bool) where
+  -- a turn at an entry that is not picked, and at one that is
+  pub larger-miss : (size e : ℕ) → picks (d e) ≡ false → largerSize d picks size e ≡ size
+  unfolding largerSize
+  larger-miss size e f = rw f
+
+  pub larger-hit : (size e : ℕ) → picks (d e) ≡ true → largerSize d picks size e ≡ max size (sizeOf (d e))
+  unfolding largerSize
+  larger-hit size e t = rw t
+
   -- the largest so far
   upTo : ℕ → ℕ
   upTo n = foldBelow (largerSize d picks) 0 n
 
   next-hit : (n : ℕ) → picks (d n) ≡ true → upTo (suc n) ≡ max (upTo n) (sizeOf (d n))
-  unfolding upTo foldBelow largerSize
-  next-hit n t = rw t
+  unfolding upTo foldBelow
+  next-hit n t = larger-hit (upTo n) n t
 
   next-miss : (n : ℕ) → picks (d n) ≡ false → upTo (suc n) ≡ upTo n
-  unfolding upTo foldBelow largerSize
-  next-miss n f = rw f
+  unfolding upTo foldBelow
+  next-miss n f = larger-miss (upTo n) n f
 
   up-covers : (n e : ℕ) → e < n → picks (d e) ≡ true → sizeOf (d e) ≤ upTo n
   up-covers zero e h t = absurd (omega arith)

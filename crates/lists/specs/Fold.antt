@@ -1,5 +1,5 @@
 -- A value carried through the numbers below a bound: what a loop has made after its turns.
-use mathlib.Core.Path.{_≡_, refl}
+use mathlib.Core.Path.{_≡_, refl, ap, sym, _∙_}
 use Prim.Native.Nat.{ℕ, zero, suc, _+_, _≤_, _<_}
 use native.Mathlib.Numerals.{add-one}
 use native.Mathlib.Omega.{arith}
@@ -17,6 +17,10 @@ module _ {A : Type 0} where
   pub fold-next : (f : A → ℕ → A) (a : A) (n : ℕ) → foldBelow f a (n + 1) ≡ f (foldBelow f a n) n
   unfolding foldBelow
   fold-next f a n = rw add-one
+
+  -- a turn of the loop, and its end
+  pub fold-more : (f : A → ℕ → A) (a x y : A) (n : ℕ) → x ≡ foldBelow f a n → y ≡ f x n → y ≡ foldBelow f a (n + 1)
+  fold-more f a x y n e h = h ∙ ap (λ (z : A). f z n) e ∙ sym (fold-next f a n)
 
   pub fold-done : (f : A → ℕ → A) (a x : A) (i n : ℕ) → i ≤ n → n ≤ i → x ≡ foldBelow f a i → x ≡ foldBelow f a n
   fold-done f a x i n l h e = let q : i ≡ n = omega arith in rw q at e

@@ -6,9 +6,9 @@ use Prim.Native.Nat.{ℕ, _+_, _-_, _≤_, _<_}
 use native.Mathlib.Nat.{zero-add}
 use native.Mathlib.Numerals.{add-one}
 use native.Mathlib.Omega.{arith}
-use lib.ListN.{set, length, take, drop, getD, length-append, length-take, length-drop, List·getD-append, replicate, length-replicate, getD-replicate}
-use lib.Seq.{drop-length, paste, paste-suc, take-length, length-take-le, getD-take, getD-drop, getD-append-add, take-at, drop-at, ext-getD}
-use Rattle.lists.specs.Cases.{split, lt-or-le}
+use lib.ListN.{set, length, length-set, take, drop, getD, length-append, length-take, length-drop, List·getD-append, replicate, length-replicate, getD-replicate}
+use lib.Seq.{getD-set-same, getD-set-other, drop-length, paste, paste-suc, take-length, length-take-le, getD-take, getD-drop, getD-append-add, take-at, drop-at, ext-getD}
+use Rattle.lists.specs.Cases.{split, lt-or-le, eq-or-ne}
 
 -- the n elements of xs from `at` on
 unfoldable pub part : List ℕ → ℕ → ℕ → List ℕ
@@ -113,6 +113,26 @@ splice-same xs at n fits =
     (λ c. let q : at + (k - at) ≡ k = omega arith in
     getD-splice-at xs at (part xs at n) room k b (omega arith) ∙ getD-part xs at n fits (k - at) (omega arith) ∙ ap (λ (i : ℕ). getD xs i 0) q)
     (λ c. getD-splice-out xs at (part xs at n) room k (inr (omega arith)))))
+
+-- a part put back with one element changed
+pub splice-set : (xs : List ℕ) (at n i v : ℕ) → at + n ≤ length xs → i < n → splice xs at (set (part xs at n) i v) ≡ set xs (at + i) v
+splice-set xs at n i v fits below =
+    let p : List ℕ = set (part xs at n) i v in
+    let w : length (part xs at n) ≡ n = length-part xs at n fits in
+    let m : length p ≡ n = length-set (part xs at n) i v ∙ w in
+    let room : at + length p ≤ length xs = omega arith in
+    let l : length (splice xs at p) ≡ length xs = length-splice xs at p room in
+    ext-getD 0 (splice xs at p) (set xs (at + i) v) (l ∙ sym (length-set xs (at + i) v))
+    (λ k h. split (eq-or-ne k (at + i))
+    (λ q. rw q (getD-splice-in xs at p room i (omega arith) ∙ getD-set-same (part xs at n) i v 0 (omega arith)
+    ∙ sym (getD-set-same xs (at + i) v 0 (omega arith))))
+    (λ q. split (lt-or-le k at) (λ b. getD-splice-out xs at p room k (inl b))
+    (λ b. split (lt-or-le k (at + n))
+    (λ c. let z : at + (k - at) ≡ k = omega arith in
+    getD-splice-at xs at p room k b (omega arith) ∙ getD-set-other (part xs at n) i (k - at) v 0 (λ y. q (omega arith))
+    ∙ getD-part xs at n fits (k - at) (omega arith) ∙ ap (λ (j : ℕ). getD xs j 0) z)
+    (λ c. getD-splice-out xs at p room k (inr (omega arith))))
+    ∙ sym (getD-set-other xs (at + i) k v 0 q)))
 
 -- a splice over the whole of a list
 pub splice-whole : (xs ys : List ℕ) → length xs ≡ length ys → splice xs 0 ys ≡ ys

@@ -1,0 +1,41 @@
+-- The row is taken as a part of the image; the name decides, then the larger of the two.
+use mathlib.Core.Path.{_≡_, sym, _∙_}
+use mathlib.Core.Bool.{true, false}
+use native.Mathlib.Omega.{arith}
+use borrow.Author.Needs.{needs}
+use borrow.Author.Tests.{not-true, not-false}
+use Rattle.format.specs.Diskette.{eightInch}
+use Rattle.format.specs.Entries.{entryAt}
+use Rattle.model.specs.Calls.{sizeOf}
+use Rattle.fields.specs.Size.{larger-miss, larger-hit}
+use Rattle.files.proofs.larger_size.Statement.{statement}
+use Rattle.files.proofs.larger_size.Tie as tie
+
+row-requires : tie.Need-row-requires
+row-requires c κs = search needs
+
+is-named-requires : tie.Need-is-named-requires
+is-named-requires c κs = search needs
+
+returns : tie.Need-returns
+returns c = let z : c .before .is-named .result ≡ false = not-true _ (c .if1 .taken) in sym (larger-miss _ _ _ _ (cc))
+
+size-of-requires : tie.Need-size-of-requires
+size-of-requires c κs = search needs
+
+returns-2 : tie.Need-returns-2
+returns-2 c = let s = c .before .before .before .before .before .before .before in
+    let z : c .before .before .before .is-named .result ≡ true = not-false _ (c .before .before .if1 .left) in
+    let q : sizeOf (entryAt eightInch (s .args .image .now) (s .args .e)) ≡ c .before .size-of .result = cc in
+    sym (larger-hit _ _ _ _ (cc) ∙ omega arith)
+
+returns-3 : tie.Need-returns-3
+returns-3 c = let s = c .before .before .before .before .before .before .before in
+    let z : c .before .before .before .is-named .result ≡ true = not-false _ (c .before .before .if1 .left) in
+    let q : sizeOf (entryAt eightInch (s .args .image .now) (s .args .e)) ≡ c .before .size-of .result = cc in
+    sym (larger-hit _ _ _ _ (cc) ∙ omega arith)
+
+pub larger-size-spec : {M : Type 1} → statement M
+larger-size-spec =
+    tie.close
+    (tie.spec row-requires is-named-requires returns size-of-requires returns-2 returns-3)

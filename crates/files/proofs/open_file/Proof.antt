@@ -1,0 +1,101 @@
+-- Each answer is that of the row that decides; where none holds, the FCB takes the entry found.
+use mathlib.Core.Path.{_≡_, sym, ap, _∙_}
+use mathlib.Core.List.{[]}
+use Prim.Native.Nat.{_<_}
+use borrow.Author.Needs.{needs}
+use borrow.Author.Tests.{not-true, not-false}
+use Rattle.format.specs.Diskette.{Bytes, eightInch}
+use Rattle.format.specs.declared.Found.the-variants.{At}
+use Rattle.model.specs.Lent.{lend}
+use Rattle.model.specs.Table.{askedEntry}
+use Rattle.model.specs.Entering.{entered}
+use Rattle.files.specs.Asked.{asked-below}
+use Rattle.files.specs.Steps.{open-wrong, open-missed, open-done}
+use Rattle.files.proofs.open_file.Statement.{statement}
+use Rattle.files.proofs.open_file.Tie as tie
+
+asks-right-requires : tie.Need-asks-right-requires
+asks-right-requires c κs = search needs
+
+refuse-requires : tie.Need-refuse-requires
+refuse-requires c κs = search needs
+
+same-length : tie.Need-same-length
+same-length c = search needs
+
+returns : tie.Need-returns
+returns c = λ map buffer.
+    open-wrong eightInch _ _ _ (sym (c .before .before .asks-right .ensures) ∙ not-true _ (c .before .if1 .taken)) (c .refuse .ensures)
+
+find-asked-requires : tie.Need-find-asked-requires
+find-asked-requires c κs = search needs
+
+enum-known-e : tie.Need-enum-known-e
+enum-known-e c = search needs
+
+enum-told : tie.Need-enum-told
+enum-told c = search needs
+
+refuse-requires-2 : tie.Need-refuse-requires-2
+refuse-requires-2 c κs = search needs
+
+same-length-2 : tie.Need-same-length-2
+same-length-2 c = search needs
+
+returns-2 : tie.Need-returns-2
+returns-2 c = λ map buffer.
+    let u = c .before .before .before .before .before in
+    open-missed eightInch _ _ _ (sym (u .before .asks-right .ensures) ∙ not-false _ (u .if1 .left))
+    (sym (c .before .before .before .find-asked .ensures map buffer) ∙ c .before .enum-told .given .1) (c .refuse2 .ensures)
+
+-- the entry found is the one that is asked for
+asked : (c : tie.After-known-told) (map buffer : Bytes) →
+    let a = c .before .before .before .before .before .before .before .before .before .before .args in
+    askedEntry eightInch (lend (a .image .now) map (a .fcb .now) buffer) (a .session .user) ≡ At (c .before .e .given .0 .0)
+asked c map buffer = sym (c .before .before .before .find-asked .ensures map buffer) ∙ c .before .e .given .1
+
+low : (c : tie.After-known-told) → c .before .e .given .0 .0 < eightInch .entries
+low c = asked-below eightInch _ _ _ (asked c [] [])
+
+copy-row-requires : tie.Need-copy-row-requires
+copy-row-requires c κs = let l = low (c .before) in search needs
+
+enter-requires : tie.Need-enter-requires
+enter-requires c κs = search needs
+
+cast-done : tie.Need-cast-done
+cast-done c = search needs
+
+done-requires : tie.Need-done-requires
+done-requires c κs = search needs
+
+same-length-3 : tie.Need-same-length-3
+same-length-3 c = search needs
+
+returns-3 : tie.Need-returns-3
+returns-3 c = λ map buffer.
+    let k = c .before .before .before .before .before .before in
+    let u = k .before .before .before .before .before in
+    open-done eightInch _ _ _ _ _ (sym (u .before .asks-right .ensures) ∙ not-false _ (u .if1 .left)) (asked k map buffer) (c .done .ensures)
+    (c .before .before .before .enter .ensures ∙ ap (entered _) (c .before .before .before .before .copy-row .ensures))
+
+pub open-file-spec : {M : Type 1} → statement M
+open-file-spec =
+    tie.close
+    (tie.spec
+    asks-right-requires
+    refuse-requires
+    same-length
+    returns
+    find-asked-requires
+    enum-known-e
+    enum-told
+    refuse-requires-2
+    same-length-2
+    returns-2
+    copy-row-requires
+    enter-requires
+    cast-done
+    done-requires
+    same-length-3
+    returns-3)

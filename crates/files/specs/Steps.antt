@@ -1,0 +1,84 @@
+-- Calls 15, 22 and 35: the answer that each of their rows gives, and what is left where none of them holds.
+use mathlib.Core.Path.{_≡_, refl, ap}
+use mathlib.Core.Bool.{true, false, not}
+use Prim.Native.Nat.{ℕ}
+use Rattle.lists.specs.Splice.{splice}
+use Rattle.format.specs.Diskette.{Bytes, Geometry}
+use Rattle.format.specs.Names.{nameRight}
+use Rattle.format.specs.Entries.{withEntry, named, findNamed, findEmpty}
+use Rattle.format.specs.Found.{isFound}
+use Rattle.format.specs.declared.Found.{Found}
+use Rattle.format.specs.declared.Found.the-variants.{At, Nothing}
+use Rattle.model.specs.declared.Session.{Session}
+use Rattle.model.specs.declared.Answer.{Answer}
+use Rattle.model.specs.declared.Code.the-variants.{Accepted, BadName, Failed, Exists}
+use Rattle.model.specs.Lent.{Lent, rowsOf, outcome, answerOf, ended}
+use Rattle.model.specs.Entering.{copied, entered, madeRow, threeBytes}
+use Rattle.model.specs.Table.{askedEntry, anyNamed}
+use Rattle.model.specs.Calls.{entryNumber, fileSize, openedAt, opened, createdAt, created, sized}
+use Rattle.table.specs.First.{_&_, here, later}
+use Rattle.table.specs.Own.{call15, call22, call35}
+use Rattle.table.specs.OwnStep.{ownStep, refuses-own, carries-own}
+use Rattle.files.specs.Asked.{asksRight, asked-wrong, asked-right}
+
+-- the test of a row that asks for an entry, by what was looked up
+found-row : (f : Found) (e : ℕ) → f ≡ At e → not (isFound f) ≡ false
+found-row f e q = rw q
+
+missed-row : (f : Found) → f ≡ Nothing → not (isFound f) ≡ true
+missed-row f q = rw q
+
+module _ (G : Geometry) (l : Lent) (s : Session) (r : Answer) where
+  -- ---- 15
+  pub open-wrong : asksRight (l .fcb) ≡ false → r ≡ answerOf BadName s → outcome r (l .image) (l .map) (l .fcb) (l .buffer) ≡ ownStep G 0 l s call15
+  open-wrong h a = refuses-own G 0 l s call15 BadName r (asked-wrong _ _ h) a
+
+  pub open-missed : asksRight (l .fcb) ≡ true → askedEntry G l (s .user) ≡ Nothing → r ≡ answerOf Failed s
+      → outcome r (l .image) (l .map) (l .fcb) (l .buffer) ≡ ownStep G 0 l s call15
+  open-missed h q a =
+      let p = asked-right _ h in refuses-own G 0 l s call15 Failed r (later (p .name) (later (p .ex) (here (missed-row _ q) refl))) a
+
+  pub open-done : (e : ℕ) (fcb : Bytes) → asksRight (l .fcb) ≡ true → askedEntry G l (s .user) ≡ At e
+      → r ≡ answerOf (Accepted (entryNumber e)) (ended s) → fcb ≡ entered (l .fcb) (rowsOf G l e)
+      → outcome r (l .image) (l .map) fcb (l .buffer) ≡ ownStep G 0 l s call15
+  unfolding opened openedAt
+  open-done e fcb h q a f =
+      let p = asked-right _ h in carries-own G 0 l s call15 _ (p .name & p .ex & found-row _ e q & tt) (rw (q, a, f))
+
+  -- ---- 22
+  pub make-wrong : asksRight (l .fcb) ≡ false → r ≡ answerOf BadName s → outcome r (l .image) (l .map) (l .fcb) (l .buffer) ≡ ownStep G 0 l s call22
+  make-wrong h a = refuses-own G 0 l s call22 BadName r (asked-wrong _ _ h) a
+
+  pub make-exists : (e : ℕ) → asksRight (l .fcb) ≡ true → askedEntry G l (s .user) ≡ At e → r ≡ answerOf Exists s
+      → outcome r (l .image) (l .map) (l .fcb) (l .buffer) ≡ ownStep G 0 l s call22
+  make-exists e h q a =
+      let p = asked-right _ h in refuses-own G 0 l s call22 Exists r (later (p .name) (later (p .ex) (here (ap isFound q) refl))) a
+
+  pub make-full : asksRight (l .fcb) ≡ true → askedEntry G l (s .user) ≡ Nothing → findEmpty G (rowsOf G l) ≡ Nothing → r ≡ answerOf Failed s
+      → outcome r (l .image) (l .map) (l .fcb) (l .buffer) ≡ ownStep G 0 l s call22
+  make-full h q z a =
+      let p = asked-right _ h in
+      refuses-own G 0 l s call22 Failed r (later (p .name) (later (p .ex) (later (ap isFound q) (here (missed-row _ z) refl)))) a
+
+  pub make-done : (e : ℕ) (img fcb : Bytes) → asksRight (l .fcb) ≡ true → askedEntry G l (s .user) ≡ Nothing → findEmpty G (rowsOf G l) ≡ At e
+      → r ≡ answerOf (Accepted (entryNumber e)) (ended s) → img ≡ withEntry G (l .image) e (madeRow (s .user) (l .fcb))
+      → fcb ≡ copied (l .fcb) (madeRow (s .user) (l .fcb)) → outcome r img (l .map) fcb (l .buffer) ≡ ownStep G 0 l s call22
+  unfolding created createdAt
+  make-done e img fcb h q z a i f =
+      let p = asked-right _ h in
+      carries-own G 0 l s call22 _ (p .name & p .ex & ap isFound q & found-row _ e z & tt) (rw (z, a, i, f))
+
+  -- ---- 35
+  pub size-wrong : nameRight false (l .fcb) 1 ≡ false → r ≡ answerOf BadName s → outcome r (l .image) (l .map) (l .fcb) (l .buffer) ≡ ownStep G 0 l s call35
+  size-wrong h a = refuses-own G 0 l s call35 BadName r (here (ap not h) refl) a
+
+  pub size-missed : nameRight false (l .fcb) 1 ≡ true → findNamed G (rowsOf G l) false (s .user) (l .fcb) 1 0 ≡ Nothing → r ≡ answerOf Failed s
+      → outcome r (l .image) (l .map) (l .fcb) (l .buffer) ≡ ownStep G 0 l s call35
+  unfolding anyNamed
+  size-missed h q a = refuses-own G 0 l s call35 Failed r (later (ap not h) (here (missed-row _ q) refl)) a
+
+  pub size-done : (e : ℕ) (fcb : Bytes) → nameRight false (l .fcb) 1 ≡ true → findNamed G (rowsOf G l) false (s .user) (l .fcb) 1 0 ≡ At e
+      → r ≡ answerOf (Accepted 0) (ended s) → fcb ≡ splice (l .fcb) 33 (threeBytes (fileSize G (rowsOf G l) (named false (s .user) (l .fcb) 1)))
+      → outcome r (l .image) (l .map) fcb (l .buffer) ≡ ownStep G 0 l s call35
+  unfolding anyNamed sized
+  size-done e fcb h q a f = carries-own G 0 l s call35 _ (ap not h & found-row _ e q & tt) (rw (a, f))

@@ -1,0 +1,133 @@
+// Calls 15, 22 and 35: a file is opened, made, and its size told.
+ghost use mathlib.Core.Path.{_≡_};
+ghost use mathlib.Core.Bool.{false};
+ghost use Prim.Native.Nat.{_≤_, _<_};
+ghost use lib.ListN.{length};
+ghost use Rattle.format.specs.Diskette.{Bytes, eightInch, imageBytes};
+ghost use Rattle.format.specs.Entries.{entryBytes, entryAt, named};
+ghost use Rattle.format.specs.Fcb.{fcbBytes};
+ghost use Rattle.model.specs.Calls.{sizeOf, largerSize, fileSize};
+ghost use Rattle.model.specs.Lent.{lend, outcome};
+ghost use Rattle.model.specs.Table.{askedEntry};
+ghost use Rattle.table.specs.Own.{call15, call22, call35};
+ghost use Rattle.table.specs.OwnStep.{ownStep};
+ghost use Rattle.files.specs.Asked.{asksRight};
+use format::ENTRIES;
+use format::ENTRIES_PER_RECORD;
+use format::EXTENT_RECORDS;
+use format::Found;
+use model::Answer;
+use model::Code;
+use model::Session;
+
+// Whether 15 and 22 can ask for a file by the FCB: its name obeys the name rule, and byte 12 is an ex.
+fn asks_right(fcb: &[u8]) -> bool
+    requires { ⌜ length (now fcb) ≡ fcbBytes ⌝ }
+    ensures { λ b. ⌜ b ≡ asksRight (now (fcb .entry)) ⌝ }
+{
+    if 31 < fcb[12] {
+        return false;
+    }
+    names::name_right(false, fcb, 1)
+}
+
+// The entry that 15 and 22 ask for: of the FCB's name, with ex = byte 12 and s2 0.
+fn find_asked(image: &[u8], user: u8, fcb: &[u8]) -> Found
+    requires { ⌜ (length (now image) ≡ imageBytes eightInch) × (length (now fcb) ≡ fcbBytes) ⌝ }
+    ensures { λ r. ⌜ ((map buffer : Bytes) → r ≡ askedEntry eightInch (lend (now (image .entry)) map (now (fcb .entry)) buffer) user) ⌝ }
+{
+    rows::find_file(image, user, fcb, 1, lists::wide(fcb[12]))
+}
+
+// 15: the FCB takes the entry of its name and of the extent that byte 12 gives.
+pub fn open_file(image: &[u8], fcb: &mut [u8], session: Session) -> Answer
+    requires { ⌜ (length (now image) ≡ imageBytes eightInch) × (length (now fcb) ≡ fcbBytes) ⌝ }
+    ensures { λ r. ⌜ ((map buffer : Bytes) → outcome r (now (image .entry)) map (now (fcb .exit)) buffer
+        ≡ ownStep eightInch 0 (lend (now (image .entry)) map (now (fcb .entry)) buffer) session call15) ⌝ }
+{
+    if !asks_right(fcb) {
+        return answers::refuse(Code::BadName, session);
+    }
+    let Found::At(e) = find_asked(image, session.user, fcb) else {
+        return answers::refuse(Code::Failed, session);
+    };
+    entering::enter(fcb, rows::copy_row(image, e));
+    answers::done((e % ENTRIES_PER_RECORD) as u8, session)
+}
+
+// 22: the first empty entry becomes the new file's, and the FCB takes it.
+pub fn make_file(image: &mut [u8], fcb: &mut [u8], session: Session) -> Answer
+    requires { ⌜ (length (now image) ≡ imageBytes eightInch) × (length (now fcb) ≡ fcbBytes) ⌝ }
+    ensures { λ r. ⌜ ((map buffer : Bytes) → outcome r (now (image .exit)) map (now (fcb .exit)) buffer
+        ≡ ownStep eightInch 0 (lend (now (image .entry)) map (now (fcb .entry)) buffer) session call22) ⌝ }
+{
+    if !asks_right(fcb) {
+        return answers::refuse(Code::BadName, session);
+    }
+    let Found::Nothing = find_asked(image, session.user, fcb) else {
+        return answers::refuse(Code::Exists, session);
+    };
+    let Found::At(e) = rows::find_empty(image) else {
+        return answers::refuse(Code::Failed, session);
+    };
+    let row = entering::made_row(session.user, fcb);
+    rows::store_row(image, e, row);
+    entering::copy_fields(fcb, row);
+    answers::done((e % ENTRIES_PER_RECORD) as u8, session)
+}
+
+// The records up to the end of a row: 128 × extent + rc.
+fn size_of(r: &[u8]) -> usize
+    requires { ⌜ entryBytes ≤ length (now r) ⌝ }
+    ensures { λ n. ⌜ n ≡ sizeOf (now (r .entry)) ⌝ }
+{
+    let ext = rows::extent(r);
+    EXTENT_RECORDS * ext + lists::wide(rows::count_in(r, ext))
+}
+
+// The larger of a size and that of an entry, where the entry is of the file.
+fn larger_size(image: &[u8], e: usize, user: u8, fcb: &[u8], size: usize) -> usize
+    requires { ⌜ (length (now image) ≡ imageBytes eightInch) × (e < eightInch .entries) × (length (now fcb) ≡ fcbBytes) ⌝ }
+    ensures { λ r. ⌜ r ≡ largerSize (entryAt eightInch (now (image .entry))) (named false user (now (fcb .entry)) 1) size e ⌝ }
+{
+    let r = rows::row(image, e);
+    if !rows::is_named(false, user, fcb, 1, r) {
+        return size;
+    }
+    let n = size_of(r);
+    if size < n {
+        return n;
+    }
+    size
+}
+
+// The size of the file that the FCB names: the largest over its entries.
+fn largest_size(image: &[u8], user: u8, fcb: &[u8]) -> usize
+    requires { ⌜ (length (now image) ≡ imageBytes eightInch) × (length (now fcb) ≡ fcbBytes) ⌝ }
+    ensures { λ r. ⌜ r ≡ fileSize eightInch (entryAt eightInch (now (image .entry))) (named false user (now (fcb .entry)) 1) ⌝ }
+{
+    let mut size = 0;
+    let mut e = 0;
+    while e < ENTRIES {
+        size = larger_size(image, e, user, fcb, size);
+        e += 1;
+    }
+    size
+}
+
+// 35: the size of the file that the FCB names, in r0 to r2.
+pub fn file_size(image: &[u8], fcb: &mut [u8], session: Session) -> Answer
+    requires { ⌜ (length (now image) ≡ imageBytes eightInch) × (length (now fcb) ≡ fcbBytes) ⌝ }
+    ensures { λ r. ⌜ ((map buffer : Bytes) → outcome r (now (image .entry)) map (now (fcb .exit)) buffer
+        ≡ ownStep eightInch 0 (lend (now (image .entry)) map (now (fcb .entry)) buffer) session call35) ⌝ }
+{
+    if !names::name_right(false, fcb, 1) {
+        return answers::refuse(Code::BadName, session);
+    }
+    let Found::At(_) = rows::find_named(image, false, session.user, fcb, 1, 0) else {
+        return answers::refuse(Code::Failed, session);
+    };
+    let size = largest_size(image, session.user, fcb);
+    entering::put_three(fcb, 33, size);
+    answers::done(0, session)
+}
