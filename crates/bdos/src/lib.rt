@@ -7,8 +7,15 @@ ghost use lib.ListN.{length};
 ghost use Rattle.format.specs.Diskette.{Bytes, eightInch, imageBytes};
 ghost use Rattle.format.specs.Entries.{entryAt};
 ghost use Rattle.format.specs.Marks.{markCount, Marked};
-ghost use Rattle.model.specs.Lent.{lend};
-ghost use Rattle.model.specs.Table.{diskRight};
+ghost use Rattle.format.specs.Notes.{mapRight};
+ghost use Rattle.format.specs.Fcb.{fcbBytes};
+ghost use Rattle.model.specs.Lent.{lend, outcome};
+ghost use Rattle.model.specs.Table.{oneOf, diskRight};
+ghost use Rattle.table.specs.Own.{Call};
+ghost use Rattle.table.specs.OwnStep.{ownStep};
+ghost use Rattle.bdos.specs.Numbers.{fileCalls};
+use model::Answer;
+use model::Session;
 
 // Whether the image is consistent and, except for 13, the map right. Where they are, the marks tell which blocks are listed.
 fn disk_right(number: u8, image: &[u8], map: &[u16], marks: &mut [u8]) -> bool
@@ -24,4 +31,32 @@ fn disk_right(number: u8, image: &[u8], map: &[u16], marks: &mut [u8]) -> bool
         return true;
     }
     notes::map_right(map, marks, &users)
+}
+
+// The calls on files: 15, 16, 22, 35 and 36.
+fn file_call(
+    number: u8,
+    image: &mut [u8],
+    map: &mut [u16],
+    fcb: &mut [u8],
+    session: Session,
+) -> Answer
+    requires { ⌜ (oneOf number fileCalls ≡ true) × (length (now image) ≡ imageBytes eightInch) × (length (now map) ≡ eightInch .blocks)
+        × (length (now fcb) ≡ fcbBytes) × (session .user ≤ 15) × (mapRight eightInch (entryAt eightInch (now image)) (now map) ≡ true) ⌝ }
+    ensures { λ r. ⌜ ((c : Call number) (argument : ℕ) (buffer : Bytes) → outcome r (now (image .exit)) (now (map .exit)) (now (fcb .exit)) buffer
+        ≡ ownStep eightInch argument (lend (now (image .entry)) (now (map .entry)) (now (fcb .entry)) buffer) session c) ⌝ }
+{
+    if number == 15 {
+        return files::open_file(image, fcb, session);
+    }
+    if number == 16 {
+        return closing::close_file(image, map, fcb, session);
+    }
+    if number == 22 {
+        return files::make_file(image, fcb, session);
+    }
+    if number == 35 {
+        return files::file_size(image, fcb, session);
+    }
+    plain::random_record(fcb, session)
 }
