@@ -4,7 +4,7 @@ ghost use mathlib.Core.Path.{_≡_};
 ghost use mathlib.Core.Bool.{true};
 ghost use Prim.Native.Nat.{ℕ, _≤_};
 ghost use lib.ListN.{length};
-ghost use Rattle.format.specs.Diskette.{Bytes, eightInch, imageBytes};
+ghost use Rattle.format.specs.Diskette.{Bytes, eightInch, imageBytes, recordBytes};
 ghost use Rattle.format.specs.Entries.{entryAt};
 ghost use Rattle.format.specs.Marks.{markCount, Marked};
 ghost use Rattle.format.specs.Notes.{mapRight};
@@ -12,9 +12,11 @@ ghost use Rattle.format.specs.Fcb.{fcbBytes};
 ghost use Rattle.model.specs.Lent.{lend, outcome};
 ghost use Rattle.model.specs.Table.{oneOf, diskRight};
 ghost use Rattle.table.specs.Own.{Call};
+ghost use Rattle.table.specs.Facts.{Ready};
 ghost use Rattle.table.specs.OwnStep.{ownStep};
-ghost use Rattle.bdos.specs.Numbers.{fileCalls};
+ghost use Rattle.bdos.specs.Numbers.{fileCalls, ownCalls};
 use model::Answer;
+use model::Asked;
 use model::Session;
 
 // Whether the image is consistent and, except for 13, the map right. Where they are, the marks tell which blocks are listed.
@@ -59,4 +61,37 @@ fn file_call(
         return files::file_size(image, fcb, session);
     }
     plain::random_record(fcb, session)
+}
+
+// Every call but 13, once the first three rows have passed it.
+fn own_call(
+    asked: Asked,
+    image: &mut [u8],
+    map: &mut [u16],
+    fcb: &mut [u8],
+    buffer: &mut [u8],
+    session: Session,
+) -> Answer
+    requires { ⌜ (oneOf (asked .number) ownCalls ≡ true)
+        × Ready eightInch (asked .number) (lend (now image) (now map) (now fcb) (now buffer)) session ⌝ }
+    ensures { λ r. ⌜ ((c : Call (asked .number)) → outcome r (now (image .exit)) (now (map .exit)) (now (fcb .exit)) (now (buffer .exit))
+        ≡ ownStep eightInch (asked .argument) (lend (now (image .entry)) (now (map .entry)) (now (fcb .entry)) (now (buffer .entry))) session c) ⌝ }
+{
+    let number = asked.number;
+    if number == 17 {
+        return searching::search_first(image, fcb, buffer, session);
+    }
+    if number == 18 {
+        return searching::search_next(image, buffer, session);
+    }
+    if number == 32 {
+        return plain::user_number(asked.argument, session);
+    }
+    if number == 46 {
+        return plain::free_space(map, buffer, session);
+    }
+    if number == 98 {
+        return plain::free_blocks(map, session);
+    }
+    file_call(number, image, map, fcb, session)
 }
