@@ -1,0 +1,80 @@
+-- The row decides. One byte of it changes, in its place in the image.
+use mathlib.Core.Path.{_≡_, sym, ap, _∙_}
+use mathlib.Core.Bool.{true, false}
+use Prim.Native.Nat.{ℕ}
+use lib.ListN.{set}
+use borrow.Author.Needs.{needs}
+use borrow.Author.Tests.{not-true, not-false}
+use Rattle.format.specs.Diskette.{eightInch}
+use Rattle.format.specs.Entries.{entryAt, named}
+use Rattle.model.specs.Calls.{changedRow}
+use Rattle.disk.specs.Eight.{eight-sound}
+use Rattle.fields.specs.Changing.{erased-in-place}
+use Rattle.families.proofs.erase_entry.Statement.{statement}
+use Rattle.families.proofs.erase_entry.Tie as tie
+
+entry-place-requires : tie.Need-entry-place-requires
+entry-place-requires c κs = search needs
+
+row-requires : tie.Need-row-requires
+row-requires c κs = search needs
+
+is-named-requires : tie.Need-is-named-requires
+is-named-requires c κs = search needs
+
+same-length : tie.Need-same-length
+same-length c = search needs
+
+returns : tie.Need-returns
+unfolding changedRow
+returns c =
+    let s = c .before .before .before .before .before .before .before .before in
+    let z : c .before .is-named .result ≡ false = not-true _ (c .if1 .taken) in
+    let f : named true (s .args .user) (s .args .fcb .now) 1 (entryAt eightInch (s .args .image .now) (s .args .e)) ≡ false = cc in
+    record { image = rw f; notes = rw f; marked = rw f }
+
+slots-requires : tie.Need-slots-requires
+slots-requires c κs = search needs
+
+free-slots-requires : tie.Need-free-slots-requires
+free-slots-requires c κs = search needs
+
+slice-write-image : tie.Need-slice-write-image
+slice-write-image c = search needs
+
+same-length-2 : tie.Need-same-length-2
+same-length-2 c = search needs
+
+same-length-3 : tie.Need-same-length-3
+same-length-3 c = search needs
+
+returns-2 : tie.Need-returns-2
+unfolding changedRow
+returns-2 c =
+    let u = c .before .before .before .before .before in
+    let s = u .before .before .before .before .before .before .before .before in
+    let z : u .before .is-named .result ≡ true = not-false _ (u .if1 .left) in
+    let t : named true (s .args .user) (s .args .fcb .now) 1 (entryAt eightInch (s .args .image .now) (s .args .e)) ≡ true = cc in
+    let m = s .args .image .now in
+    record {
+      image = rw t (ap (λ (k : ℕ). set m k 229) (u .before .before .before .before .entry-place .ensures .0)
+          ∙ sym (erased-in-place eight-sound m (s .pre .0) (s .args .e) (s .pre .2)));
+      notes = rw t (cc);
+      marked = rw t;
+    }
+
+pub erase-entry-spec : {M : Type 1} → statement M
+erase-entry-spec =
+    tie.close
+    (tie.spec
+    entry-place-requires
+    row-requires
+    is-named-requires
+    same-length
+    returns
+    slots-requires
+    free-slots-requires
+    slice-write-image
+    same-length-2
+    same-length-3
+    returns-2)

@@ -1,0 +1,56 @@
+-- The row decides; the row stored is the one read, renamed.
+use mathlib.Core.Path.{_≡_}
+use mathlib.Core.Bool.{true, false}
+use Rattle.format.specs.Diskette.{eightInch}
+use Rattle.format.specs.Entries.{entryAt, named}
+use Rattle.model.specs.Calls.{changedRow}
+use borrow.Author.Needs.{needs}
+use Rattle.families.proofs.rename_entry.Statement.{statement}
+use Rattle.families.proofs.rename_entry.Tie as tie
+
+row-requires : tie.Need-row-requires
+row-requires c κs = search needs
+
+is-named-requires : tie.Need-is-named-requires
+is-named-requires c κs = search needs
+
+copy-row-requires : tie.Need-copy-row-requires
+copy-row-requires c κs = search needs
+
+renamed-row-requires : tie.Need-renamed-row-requires
+renamed-row-requires c κs = search needs
+
+store-row-requires : tie.Need-store-row-requires
+store-row-requires c κs = search needs
+
+same-length : tie.Need-same-length
+same-length c = search needs
+
+returns : tie.Need-returns
+unfolding changedRow
+returns c =
+    let s = c .before .before .before .before .before .before .before .before .before .before .before .before .before in
+    let t : named false (s .args .user) (s .args .fcb .now) 1 (entryAt eightInch (s .args .image .now) (s .args .e)) ≡ true = cc in rw t (cc)
+
+same-length-2 : tie.Need-same-length-2
+same-length-2 c = search needs
+
+returns-2 : tie.Need-returns-2
+unfolding changedRow
+returns-2 c =
+    let s = c .before .before .before .before .before .before in
+    let f : named false (s .args .user) (s .args .fcb .now) 1 (entryAt eightInch (s .args .image .now) (s .args .e)) ≡ false = cc in rw f
+
+pub rename-entry-spec : {M : Type 1} → statement M
+rename-entry-spec =
+    tie.close
+    (tie.spec
+    row-requires
+    is-named-requires
+    copy-row-requires
+    renamed-row-requires
+    store-row-requires
+    same-length
+    returns
+    same-length-2
+    returns-2)
