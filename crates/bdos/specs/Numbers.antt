@@ -11,7 +11,7 @@ use Rattle.model.specs.Table.{isListed, oneOf}
 use Rattle.table.specs.Own.{Call, call13, call15, call16, call17, call18, call19, call20, call21, call22, call23, call32, call33, call34, call35, call36, call46, call98, call-of}
 
 abbrev pub fileCalls : List ℕ
-fileCalls = 15 ∷ 16 ∷ 22 ∷ 35 ∷ 36 ∷ []
+fileCalls = 15 ∷ 16 ∷ 19 ∷ 22 ∷ 23 ∷ 35 ∷ 36 ∷ []
 
 -- every call but 13
 abbrev pub ownCalls : List ℕ

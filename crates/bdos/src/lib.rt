@@ -35,7 +35,7 @@ fn disk_right(number: u8, image: &[u8], map: &[u16], marks: &mut [u8]) -> bool
     notes::map_right(map, marks, &users)
 }
 
-// The calls on files: 15, 16, 22, 35 and 36.
+// The calls on files and extents: 15, 16, 19, 22, 23, 35 and 36.
 fn file_call(
     number: u8,
     image: &mut [u8],
@@ -54,8 +54,14 @@ fn file_call(
     if number == 16 {
         return closing::close_file(image, map, fcb, session);
     }
+    if number == 19 {
+        return families::delete_file(image, map, fcb, session);
+    }
     if number == 22 {
         return files::make_file(image, fcb, session);
+    }
+    if number == 23 {
+        return families::rename_file(image, fcb, session);
     }
     if number == 35 {
         return files::file_size(image, fcb, session);
