@@ -10,8 +10,8 @@ use Rattle.lists.specs.Tests.{_and_, and-left, and-right, and-both, and-fails-l
 use Rattle.lists.specs.Below.{allBelow, all-at, all-intro, any-never, any-empty}
 use Rattle.lists.specs.Seen.{taken}
 use Rattle.format.specs.Diskette.{Bytes, Geometry}
-use Rattle.format.specs.Entries.{Rows, slotCount, userOf, slotOf, empty, used, named, isFile, covers}
-use Rattle.format.specs.Consistent.{numbersRight, slotRight, slotsRight, entryRight, slotsInAll, listed, listedOnce, sameFile, alone, consistentRows}
+use Rattle.format.specs.Entries.{Rows, entryAt, slotCount, userOf, slotOf, empty, used, named, isFile, covers}
+use Rattle.format.specs.Consistent.{numbersRight, slotRight, slotsRight, entryRight, slotsInAll, listed, listedOnce, sameFile, alone, consistentRows, consistent}
 use Rattle.names.specs.Laws.{like-sym}
 use Rattle.consistency.specs.Facts.{Numbers, Fine, Stands, SameFile, Consistent}
 use Rattle.consistency.specs.Listed.{stands-at, stands-place, stands-listed}
@@ -194,3 +194,23 @@ module _ (G : Geometry) (d : Rows) where
   facts-consistent c =
       and-both _ _ (all-intro _ (G .entries) (facts-entry c))
       (and-both _ _ (all-intro _ (slotsInAll G) (facts-once c)) (all-intro _ (G .entries) (facts-alone c)))
+
+  -- a directory of empty entries, as on an erased disk, is consistent
+  pub all-empty : ((e : ℕ) → e < G .entries → empty (d e) ≡ true) → Consistent G d
+  all-empty n = record {
+    fine = λ e h u. not-both (empty (d e)) (n e h) (used-full (d e) u);
+    other = λ e h u. n e h;
+    once-entry = λ b e j f k s t. not-both (empty (d e)) (n e (s .entry)) (used-full (d e) (s .uses));
+    once-slot = λ b e j f k s t. not-both (empty (d e)) (n e (s .entry)) (used-full (d e) (s .uses));
+    apart = λ e f h l u v s. not-both (empty (d e)) (n e h) (used-full (d e) u);
+  }
+
+-- ---- an image, whose rows are its directory
+module _ (G : Geometry) (img : Bytes) where
+  pub image-facts : consistent G img ≡ true → Consistent G (entryAt G img)
+  unfolding consistent
+  image-facts t = consistent-facts G (entryAt G img) t
+
+  pub facts-image : Consistent G (entryAt G img) → consistent G img ≡ true
+  unfolding consistent
+  facts-image c = facts-consistent G (entryAt G img) c

@@ -22,7 +22,7 @@ use format::SLOTS;
 // The number of keys, and what each byte of a name, the user and the extent weigh in one.
 const KEYS: usize = 256;
 
-const WEIGHTS: [usize; 11] = [215, 179, 227, 1, 229, 187, 225, 253, 131, 81, 171];
+const WEIGHTS: [usize; NAME_BYTES] = [215, 179, 227, 1, 229, 187, 225, 253, 131, 81, 171];
 
 const USER_WEIGHT: usize = 121;
 
@@ -182,8 +182,8 @@ pub fn is_consistent(image: &[u8], marks: &mut [u8], users: &mut [u8]) -> bool
         × (b ≡ true → UsersMarked eightInch (entryAt eightInch (now (image .entry))) (now (users .exit))) ⌝ }
 {
     start_marks(marks);
-    let mut lasts = [0u8; 256];
-    let mut links = [0u8; 64];
+    let mut lasts = [0u8; KEYS];
+    let mut links = [0u8; ENTRIES];
     let mut e = 0;
     while e < ENTRIES {
         if !take_entry(image, e, marks, users, &mut lasts, &mut links) {

@@ -99,29 +99,3 @@ module _ (p : ℕ → Bool) (i n : ℕ) where
 
   pub look-end : (e : ℕ) → firstIn p e n ≡ firstIn p i n → n ≤ e → Nothing ≡ foundBelow n (firstIn p i n)
   look-end e q h = sym (rw (← q, first-end p e n h) (found-nothing n e h))
-
--- ---- older names, until their users are renamed
-pub at-nothing : {A : Type 0} (k : ℕ) → At k ≡ Nothing → A
-at-nothing k q = absurd (at-not-nothing k q)
-
-pub at-same : (k m : ℕ) → At k ≡ At m → k ≡ m
-at-same k m q = at-once k m q
-
-module _ (p : ℕ → Bool) (i n : ℕ) where
-  pub record First (k : ℕ) : Type 0 where
-    pub from : i ≤ k
-    pub below : k < n
-    pub holds : p k ≡ true
-    pub before : (j : ℕ) → i ≤ j → j < k → p j ≡ false
-
-  pub found-first : (k : ℕ) → foundBelow n (firstIn p i n) ≡ At k → First k
-  found-first k q = let f = first-says p i n k q in record { from = f .low; below = f .below; holds = f .holds; before = f .before }
-
-  pub first-found : (k : ℕ) → First k → foundBelow n (firstIn p i n) ≡ At k
-  first-found k f = first-is-at p i n k (record { low = f .from; below = f .below; holds = f .holds; before = f .before })
-
-  pub found-none : foundBelow n (firstIn p i n) ≡ Nothing → (j : ℕ) → i ≤ j → j < n → p j ≡ false
-  found-none q j a b = none-says p i n q j a b
-
-  pub none-found : i ≤ n → ((j : ℕ) → i ≤ j → j < n → p j ≡ false) → foundBelow n (firstIn p i n) ≡ Nothing
-  none-found h f = none-is p i n f

@@ -61,9 +61,9 @@ pub fn find_hit(image: &[u8], user: u8, pattern: &[u8], from: usize) -> Found
     Found::Nothing
 }
 
-// The search from a place on: a hit's directory record goes into the buffer, and the search goes on one past it; without a hit it is
-// over.
-fn search_on(
+// The first match from a place on: its directory record goes into the buffer, and the search goes on one past it. Without a match the
+// search is over.
+fn first_match(
     image: &[u8],
     pattern: [u8; 12],
     from: usize,
@@ -108,7 +108,7 @@ pub fn search_first(image: &[u8], fcb: &[u8], buffer: &mut [u8], session: Sessio
     }
     let mut pattern = [0u8; 12];
     lists::get(fcb, 1, &mut pattern);
-    search_on(image, pattern, 0, buffer, session)
+    first_match(image, pattern, 0, buffer, session)
 }
 
 // 18: the next entry that the session's pattern matches.
@@ -122,5 +122,5 @@ pub fn search_next(image: &[u8], buffer: &mut [u8], session: Session) -> Answer
     }
     let pattern = session.pattern;
     let place = session.place as usize;
-    search_on(image, pattern, place, buffer, session)
+    first_match(image, pattern, place, buffer, session)
 }

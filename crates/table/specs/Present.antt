@@ -12,7 +12,7 @@ use Rattle.format.specs.Diskette.{Bytes, Geometry}
 use Rattle.format.specs.Entries.{Rows, entryAt, userOf, exOf, s2Of, empty, slotsOf, extentOf, covers, named, isFile, findFile}
 use Rattle.format.specs.Consistent.{numbersRight, entryRight, consistentRows, consistent}
 use Rattle.format.specs.Fcb.{fcbRight, slotsFit, fitting, current}
-use Rattle.format.specs.FoundLaws.{at-nothing, at-same, FoundAt, First, found-first}
+use Rattle.format.specs.FoundLaws.{at-not-nothing, at-once, FoundAt, FirstAt, first-says}
 use Rattle.format.specs.declared.Found.{Found}
 use Rattle.format.specs.declared.Found.the-variants.{At, Nothing}
 use Rattle.model.specs.Lent.{Lent, rowsOf}
@@ -28,9 +28,9 @@ module _ (G : Geometry) (d : Rows) (map : Bytes) (user : ℕ) (fcb : Bytes) (e :
   fitting-at : (r : Found) → fitting d map fcb r ≡ At e → (r ≡ At e) × (slotsFit map e (slotsOf (d e)) (slotsOf fcb) ≡ true)
   fitting-at (At k) q =
       split (bool-cases (slotsFit map k (slotsOf (d k)) (slotsOf fcb)))
-      (λ t. let z : At k ≡ At e = rw t at q in let w : k ≡ e = at-same k e z in (z, rw w at t))
-      (λ f. let z : Nothing ≡ At e = rw f at q in at-nothing e (sym z))
-  fitting-at Nothing q = at-nothing e (sym q)
+      (λ t. let z : At k ≡ At e = rw t at q in let w : k ≡ e = at-once k e z in (z, rw w at t))
+      (λ f. let z : Nothing ≡ At e = rw f at q in absurd (at-not-nothing e (sym z)))
+  fitting-at Nothing q = absurd (at-not-nothing e (sym q))
 
   pub current-elim : current G d map user fcb ≡ At e → Current G d map user fcb e
   unfolding current
@@ -39,7 +39,7 @@ module _ (G : Geometry) (d : Rows) (map : Bytes) (user : ℕ) (fcb : Bytes) (e :
       (λ t. let z : fitting d map fcb (findFile G d user fcb 1 (extentOf fcb)) ≡ At e = rw t at q in
       let f = fitting-at (findFile G d user fcb 1 (extentOf fcb)) z in
       record { fcb-right = t; entry = f .0; slots = f .1 })
-      (λ f. let z : Nothing ≡ At e = rw f at q in at-nothing e (sym z))
+      (λ f. let z : Nothing ≡ At e = rw f at q in absurd (at-not-nothing e (sym z)))
 
   pub current-intro : Current G d map user fcb e → current G d map user fcb ≡ At e
   unfolding current
@@ -47,9 +47,9 @@ module _ (G : Geometry) (d : Rows) (map : Bytes) (user : ℕ) (fcb : Bytes) (e :
 
 -- ---- an entry of a consistent directory that a file's look-up has found
 module _ (G : Geometry) (d : Rows) (user : ℕ) (s : Bytes) (q ext : ℕ) (e : ℕ) (at : findFile G d user s q ext ≡ At e) where
-  file-first : First (λ (e : ℕ). isFile user s q ext (d e)) 0 (G .entries) e
+  file-first : FirstAt (λ (e : ℕ). isFile user s q ext (d e)) 0 (G .entries) e
   unfolding findFile
-  file-first = found-first _ 0 (G .entries) e at
+  file-first = first-says _ 0 (G .entries) e at
 
   pub file-below : e < G .entries
   file-below = file-first .below

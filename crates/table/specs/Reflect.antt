@@ -15,7 +15,7 @@ use Rattle.format.specs.Entries.{named, readOnly, findNamed}
 use Rattle.format.specs.Consistent.{consistent}
 use Rattle.format.specs.Notes.{mapRight}
 use Rattle.format.specs.Found.{isFound}
-use Rattle.format.specs.FoundLaws.{FoundAt, is-found, found-so, not-found, found-none, none-found}
+use Rattle.format.specs.FoundLaws.{FoundAt, is-found, found-so, not-found, none-says, none-is}
 use Rattle.format.specs.declared.Found.{Found}
 use Rattle.format.specs.declared.Found.the-variants.{At, Nothing}
 use Rattle.model.specs.declared.Session.{Session}
@@ -118,11 +118,11 @@ module _ (G : Geometry) (l : Lent) (s : Session) where
 
   pub none-of : (q : ℕ) → anyNamed G l false (s .user) q ≡ false → (e : ℕ) → e < G .entries → named false (s .user) (l .fcb) q (rowsOf G l e) ≡ false
   unfolding anyNamed findNamed
-  none-of q h e b = found-none _ 0 (G .entries) (not-found _ h) e (omega arith) b
+  none-of q h e b = none-says _ 0 (G .entries) (not-found _ h) e (omega arith) b
 
   pub none-right : (q : ℕ) → ((e : ℕ) → e < G .entries → named false (s .user) (l .fcb) q (rowsOf G l e) ≡ false) → anyNamed G l false (s .user) q ≡ false
   unfolding anyNamed findNamed
-  none-right q f = ap isFound (none-found (λ (e : ℕ). named false (s .user) (l .fcb) q (rowsOf G l e)) 0 (G .entries) (omega arith) (λ j a b. f j b))
+  none-right q f = ap isFound (none-is (λ (e : ℕ). named false (s .user) (l .fcb) q (rowsOf G l e)) 0 (G .entries) (λ j a b. f j b))
 
   pub writable-of : (wild : Bool) → anyReadOnly G l wild (s .user) ≡ false
       → (e : ℕ) → e < G .entries → named wild (s .user) (l .fcb) 1 (rowsOf G l e) ≡ true → readOnly (rowsOf G l e) ≡ false

@@ -48,6 +48,16 @@ returns-2 c =
     let wrong : rowRight (d (a .args .e)) ≡ false = rw same at (sym (c .before .row-right .ensures) ∙ not-true _ (c .if2 .taken)) in
     (sym (row-fails eightInch d (a .args .e) full wrong), λ t. clash (sym t))
 
+-- what holds of a row that is right: the image's row is, and its slots are bytes
+right : (c : tie.Else2) → rowRight (entryAt eightInch (c .before .before .before .before .before .before .before .before .before .before .args .image .now) (c .before .before .before .before .before .before .before .before .before .before .args .e)) ≡ true
+right c = rw (c .before .before .before .before .row .ensures .0) at (sym (c .before .row-right .ensures) ∙ not-false _ (c .if2 .left))
+
+bytes : (c : tie.Else2) (j : ℕ) → j < slotCount → slotOf (entryAt eightInch (c .before .before .before .before .before .before .before .before .before .before .args .image .now) (c .before .before .before .before .before .before .before .before .before .before .args .e)) j < markCount
+unfolding slotOf
+bytes c j h =
+    let b : getD (c .before .before .before .before .row .result .now) (16 + j) 0 < 256 = omega (arith, c .before .before .before .shared-slice-known2 .given (16 + j)) in
+    rw (c .before .before .before .before .row .ensures .0) at b
+
 slice-write-users-2 : tie.Need-slice-write-users-2
 slice-write-users-2 c = search needs
 
@@ -61,21 +71,17 @@ same-length-3 : tie.Need-same-length-3
 same-length-3 c = search needs
 
 returns-3 : tie.Need-returns-3
-unfolding slotOf
 returns-3 c =
     let a = c .before .before .before .before .before .before .before .before .before .before .before .before .before .before .before in let d = entryAt eightInch (a .args .image .now) in
     let r = c .before .before .before .before .before .before .before .before .before .row in let same : r .result .now ≡ d (a .args .e) = r .ensures .0 in
-    let right : rowRight (d (a .args .e)) ≡ true = rw same at (sym (c .before .before .before .before .before .before .row-right .ensures) ∙ not-false _ (c .before .before .before .before .before .if2 .left)) in
-    let bytes : (j : ℕ) → j < slotCount → slotOf (d (a .args .e)) j < markCount = λ j h. let b : getD (r .result .now) (16 + j) 0 < 256 = omega (arith, c .before .before .before .before .before .before .before .before .shared-slice-known2 .given (16 + j)) in rw same at b in
     let wrong = sym (c .before .before .before .mark-slots .ensures .0) ∙ not-true _ (c .if3 .taken) in
-    (sym (slots-fail eightInch d (a .args .e) (omega arith) (a .args .marks .now) bytes right (a .pre .2 .blocks) (rw same at wrong)), λ t. clash (sym t))
+    (sym (slots-fail eightInch d (a .args .e) (omega arith) (a .args .marks .now) (bytes (c .before .before .before .before .before)) (right (c .before .before .before .before .before)) (a .pre .2 .blocks) (rw same at wrong)), λ t. clash (sym t))
 
 take-key-requires : tie.Need-take-key-requires
 take-key-requires c κs =
     let a = c .before .before .before .before .before .before .before .before .before .before .before .before .before .before .before .before .before in let d = entryAt eightInch (a .args .image .now) in
     let r = c .before .before .before .before .before .before .before .before .before .before .before .row in let same : r .result .now ≡ d (a .args .e) = r .ensures .0 in
-    let right : rowRight (d (a .args .e)) ≡ true = rw same at (sym (c .before .before .before .before .before .before .before .before .row-right .ensures) ∙ not-false _ (c .before .before .before .before .before .before .before .if2 .left)) in
-    (a .pre .0, a .pre .1, a .pre .2 .links-long, omega arith, same, rw (← same) at (row-used (d (a .args .e)) right), a .pre .2 .lasts-so, a .pre .2 .links-so)
+    (a .pre .0, a .pre .1, a .pre .2 .links-long, omega arith, same, rw (← same) at (row-used (d (a .args .e)) (right (c .before .before .before .before .before .before .before))), a .pre .2 .lasts-so, a .pre .2 .links-so)
 
 same-length-4 : tie.Need-same-length-4
 same-length-4 c = search needs
@@ -90,17 +96,14 @@ same-length-7 : tie.Need-same-length-7
 same-length-7 c = search needs
 
 returns-4 : tie.Need-returns-4
-unfolding slotOf
 returns-4 c =
     let a = c .before .before .before .before .before .before .before .before .before .before .before .before .before .before .before .before .before .before .before .before .before .before in let d = entryAt eightInch (a .args .image .now) in
     let r = c .before .before .before .before .before .before .before .before .before .before .before .before .before .before .before .before .row in let same : r .result .now ≡ d (a .args .e) = r .ensures .0 in
-    let right : rowRight (d (a .args .e)) ≡ true = rw same at (sym (c .before .before .before .before .before .before .before .before .before .before .before .before .before .row-right .ensures) ∙ not-false _ (c .before .before .before .before .before .before .before .before .before .before .before .before .if2 .left)) in
-    let bytes : (j : ℕ) → j < slotCount → slotOf (d (a .args .e)) j < markCount = λ j h. let b : getD (r .result .now) (16 + j) 0 < 256 = omega (arith, c .before .before .before .before .before .before .before .before .before .before .before .before .before .before .before .shared-slice-known2 .given (16 + j)) in rw same at b in
     let t = c .before .before .before .before .take-key in
     let m = c .before .before .before .before .before .before .before .before .before .before .mark-slots in
     let free : m .result ≡ true = not-false _ (c .before .before .before .before .before .before .before .if3 .left) in (
-      t .ensures .0 ∙ sym (alone-decides eightInch d (a .args .e) (omega arith) (a .args .marks .now) bytes right (a .pre .2 .blocks) (rw same at (sym (m .ensures .0) ∙ free))),
-      λ q. passed-used eightInch (omega arith) d (a .args .e) (a .args .marks .now) (a .args .users .now) (a .args .lasts .now) (a .args .links .now) (m .last .0) (t .last .1 .1 .1 .0) (t .last .1 .1 .1 .1 .0) (a .pre .1) right bytes (a .pre .2) (rw same at (m .ensures .1 free)) (t .ensures .1) (t .ensures .2) (omega (arith, t .kept .1)),
+      t .ensures .0 ∙ sym (alone-decides eightInch d (a .args .e) (omega arith) (a .args .marks .now) (bytes (c .before .before .before .before .before .before .before .before .before .before .before .before)) (right (c .before .before .before .before .before .before .before .before .before .before .before .before)) (a .pre .2 .blocks) (rw same at (sym (m .ensures .0) ∙ free))),
+      λ q. passed-used eightInch (omega arith) d (a .args .e) (a .args .marks .now) (a .args .users .now) (a .args .lasts .now) (a .args .links .now) (m .last .0) (t .last .1 .1 .1 .0) (t .last .1 .1 .1 .1 .0) (a .pre .1) (right (c .before .before .before .before .before .before .before .before .before .before .before .before)) (bytes (c .before .before .before .before .before .before .before .before .before .before .before .before)) (a .pre .2) (rw same at (m .ensures .1 free)) (t .ensures .1) (t .ensures .2) (omega (arith, t .kept .1)),
     )
 
 pub take-entry-spec : {M : Type 1} → statement M

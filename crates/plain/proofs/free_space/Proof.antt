@@ -31,7 +31,7 @@ returns c =
     λ argument image fcb. space-told eightInch argument (lend image (a .map .now) fcb (a .buffer .now)) (a .session)
     (c .done .result) (c .before .before .before .put-three .last .0) (c .done .ensures)
     (c .before .before .before .put-three .ensures
-    ∙ ap (λ (n : ℕ). splice (a .buffer .now) 0 (threeBytes (8 * n))) (c .before .before .before .before .before .free-count .ensures .0))
+    ∙ ap (λ (n : ℕ). splice (a .buffer .now) 0 (threeBytes (eightInch .perBlock * n))) (c .before .before .before .before .before .free-count .ensures .0))
 
 pub free-space-spec : {M : Type 1} → statement M
 free-space-spec =

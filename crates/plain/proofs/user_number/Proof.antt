@@ -5,6 +5,7 @@ use Rattle.model.specs.declared.Code.the-variants.{Failed}
 use Rattle.table.specs.Own.{call32}
 use Rattle.table.specs.OwnStep.{refuses-own}
 use Rattle.plain.specs.Plain.{user-told, user-refused, user-set}
+use native.Mathlib.Omega.{arith}
 use borrow.Author.Needs.{needs}
 use Rattle.plain.proofs.user_number.Statement.{statement}
 use Rattle.plain.proofs.user_number.Tie as tie
@@ -25,7 +26,7 @@ returns-2 : tie.Need-returns-2
 returns-2 c =
     let a = c .before .before .before .args in
     λ image map fcb buffer. refuses-own eightInch (a .argument) (lend image map fcb buffer) (a .session) call32 Failed (c .refuse .result)
-    (user-refused eightInch (a .argument) (lend image map fcb buffer) (a .session) (c .before .before .if1 .left) (c .before .if2 .taken))
+    (user-refused eightInch (a .argument) (lend image map fcb buffer) (a .session) (c .before .before .if1 .left) (omega arith))
     (c .refuse .ensures)
 
 set-user-requires : tie.Need-set-user-requires
@@ -38,7 +39,7 @@ returns-3 : tie.Need-returns-3
 returns-3 c =
     let a = c .before .before .before .before .args in
     λ image map fcb buffer. user-set eightInch (a .argument) (lend image map fcb buffer) (a .session) (c .done2 .result) (c .before .set-user .result)
-    (c .before .before .before .if1 .left) (c .before .before .if2 .left) (c .done2 .ensures) (c .before .set-user .ensures)
+    (c .before .before .before .if1 .left) (omega arith) (c .done2 .ensures) (c .before .set-user .ensures)
 
 pub user-number-spec : {M : Type 1} → statement M
 user-number-spec =

@@ -32,8 +32,8 @@ slice-aggregate-get c = search needs
 get-requires : tie.Need-get-requires
 get-requires c κs = search needs
 
-search-on-requires : tie.Need-search-on-requires
-search-on-requires c κs = search needs
+first-match-requires : tie.Need-first-match-requires
+first-match-requires c κs = search needs
 
 same-length : tie.Need-same-length
 same-length c = search needs
@@ -44,7 +44,7 @@ returns-2 c =
     let b = c .before .before .before .before .before .before .before in
     let a = b .before .before .before .before .before .args in
     λ argument map. let l : Lent = lend (a .image .now) map (a .fcb .now) (a .buffer .now) in
-    c .before .before .search-on .ensures map (a .fcb .now)
+    c .before .before .first-match .ensures map (a .fcb .now)
     ∙ rw (c .before .before .before .before .before .get .ensures) (first-searched eightInch (a .session) l argument (sym (b .before .pattern-right .ensures) ∙ not-false _ (b .if1 .left)))
 
 pub search-first-spec : {M : Type 1} → statement M
@@ -56,6 +56,6 @@ search-first-spec =
     returns
     slice-aggregate-get
     get-requires
-    search-on-requires
+    first-match-requires
     same-length
     returns-2)

@@ -23,8 +23,8 @@ returns c =
 cast-place : tie.Need-cast-place
 cast-place c = search needs
 
-search-on-requires : tie.Need-search-on-requires
-search-on-requires c κs = search needs
+first-match-requires : tie.Need-first-match-requires
+first-match-requires c κs = search needs
 
 same-length : tie.Need-same-length
 same-length c = search needs
@@ -34,9 +34,9 @@ returns-2 c =
     let b = c .before .before .before .before .before .before in
     let a = b .before .before .before .before .args in
     λ argument map fcb. let l : Lent = lend (a .image .now) map fcb (a .buffer .now) in
-    c .before .before .search-on .ensures map fcb ∙ next-searched eightInch (a .session) l argument (b .if1 .left)
+    c .before .before .first-match .ensures map fcb ∙ next-searched eightInch (a .session) l argument (b .if1 .left)
 
 pub search-next-spec : {M : Type 1} → statement M
 search-next-spec =
     tie.close
-    (tie.spec refuse-requires returns cast-place search-on-requires same-length returns-2)
+    (tie.spec refuse-requires returns cast-place first-match-requires same-length returns-2)

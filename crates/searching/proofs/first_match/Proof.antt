@@ -9,8 +9,8 @@ use Rattle.model.specs.Lent.{lend}
 use Rattle.model.specs.Search.{findHit}
 use Rattle.searching.specs.Searches.{hit-says, answers-over, answers-found}
 use borrow.Author.Needs.{needs}
-use Rattle.searching.proofs.search_on.Statement.{statement}
-use Rattle.searching.proofs.search_on.Tie as tie
+use Rattle.searching.proofs.first_match.Statement.{statement}
+use Rattle.searching.proofs.first_match.Tie as tie
 
 slice-aggregate-find-hit : tie.Need-slice-aggregate-find-hit
 slice-aggregate-find-hit c = search needs
@@ -74,8 +74,8 @@ returns-2 c =
     (k .before .e .given .0 .0) (c .answer .result) (c .before .search-from .result) (c .before .before .before .before .read-record .last .1 .1 .0)
     (known k) (c .answer .ensures) (c .before .search-from .ensures) (c .before .before .before .before .read-record .ensures)
 
-pub search-on-spec : {M : Type 1} → statement M
-search-on-spec =
+pub first-match-spec : {M : Type 1} → statement M
+first-match-spec =
     tie.close
     (tie.spec
     slice-aggregate-find-hit

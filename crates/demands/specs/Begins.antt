@@ -1,0 +1,249 @@
+-- Demand 2 speaks of something too: a write through a current FCB of a writable entry is accepted where a block is free; so are a
+-- log-in, a make and a write on an erased disk, one after the other.
+use mathlib.Core.Path.{_≡_, refl, ap, sym, _∙_, subst}
+use mathlib.Core.Bool.{true, false}
+use Prim.Native.Nat.{ℕ, _≤_, _<_}
+use native.Mathlib.Omega.{arith}
+use lib.ListN.{length, getD}
+use borrow.Author.Tests.{eq-eqb, le-ltb}
+use Rattle.lists.specs.Cases.{split, bool-cases, not-both}
+use Rattle.lists.specs.Tests.{_or_, and-left, and-right}
+use Rattle.format.specs.Diskette.{Bytes, Geometry, Sound, imageBytes, recordBytes}
+use Rattle.format.specs.Names.{nameRight}
+use Rattle.format.specs.Entries.{entryAt, exOf, extentOf, readOnly, empty, used, isFile, findEmpty}
+use Rattle.format.specs.Notes.{freeNote, noteAt, freshNote, freshMap, isListed, findFree}
+use Rattle.format.specs.Fcb.{fcbBytes, crOf, fcbRight}
+use Rattle.format.specs.FoundLaws.{FoundAt, found-cases, at-not-nothing}
+use Rattle.format.specs.Found.{numberOf}
+use Rattle.format.specs.declared.Found.{Found}
+use Rattle.format.specs.declared.Found.the-variants.{At}
+use Rattle.consistency.specs.Listed.{listed-somewhere}
+use Rattle.consistency.specs.Reflect.{used-full}
+use Rattle.notes.specs.Free.{none-free}
+use Rattle.notes.specs.Right.{fresh-at}
+use Rattle.rows.specs.Entries.{entry-stored}
+use Rattle.rows.specs.Find.{empty-says, none-empty-says, no-file-is}
+use Rattle.model.specs.declared.Asked.{Asked}
+use Rattle.model.specs.declared.Session.{Session}
+use Rattle.model.specs.Lent.{Lent, rowsOf, Outcome}
+use Rattle.model.specs.Entering.{madeRow}
+use Rattle.model.specs.Target.{targetExtent, presentEntry, stays, targetEntry, readOnlyThere}
+use Rattle.model.specs.Table.{usesFcb, oneOf, askedEntry, verdict}
+use Rattle.model.specs.Calls.{loggedIn, createdAt, created}
+use Rattle.model.specs.Step.{effect}
+use Rattle.fields.specs.Making.{length-madeRow, readOnly-made}
+use Rattle.fields.specs.Entering.{length-copied, first-copied, rest-copied}
+use Rattle.fields.specs.Naming.{file-used}
+use Rattle.fields.specs.Target.{extent-within}
+use Rattle.table.specs.Own.{Call, call13, call15, call16, call17, call18, call19, call20, call21, call22, call23, call32, call33, call34, call35, call36, call46, call98}
+use Rattle.table.specs.Facts.{Fits, Writes, Makes, Own}
+use Rattle.table.specs.Accept.{passes}
+use Rattle.table.specs.Present.{target-present, numbers-extent}
+use Rattle.table.specs.Carried.{effect-is}
+use Rattle.table.specs.Total.{InRange, CarriedOut, total-accepted}
+use Rattle.invariant.specs.Good.{Good, good-consistent, good-right}
+use Rattle.invariant.specs.Step.{step-accepted}
+use Rattle.effects.specs.View.{viewOf}
+use Rattle.effects.specs.Cur.{Cur, cur-current}
+use Rattle.demands.specs.Accepted.{carried-says, accepted-carried}
+use Rattle.demands.specs.StepOk.{ready-good}
+use Rattle.demands.specs.StillCurrent.{created-cur}
+use Rattle.demands.specs.NothingLost.{told-login, logged-in}
+use Rattle.demands.specs.Erased.{erased, erased-empty, erased-accepted}
+use Rattle.demands.specs.Runs.{Request, Disk, lentTo, outcomeOf, left, accepts, after}
+
+-- ---- a write that nothing stands against
+module _ {G : Geometry} (S : Sound G) (asked : Asked) (number : asked .number ≡ 21) (l : Lent) (s : Session) (g : Good G (l .image) (l .map)) (fits : Fits G l s)
+    (drive : getD (l .fcb) 0 0 ≤ 1) (e : ℕ) (cur : Cur G (viewOf G (l .image) (l .map)) (s .user) (l .fcb) e)
+    (writable : readOnly (rowsOf G l e) ≡ false) (cr : crOf (l .fcb) < 128) (free : FoundAt (findFree G (l .map))) where
+  at : presentEntry G (s .user) l ≡ At e
+  unfolding presentEntry
+  at = cur-current G (l .image) (l .map) (s .user) (l .fcb) e (g .inv .dir) (fits .user-low) cur
+
+  same-extent : targetExtent 21 (l .fcb) ≡ extentOf (l .fcb)
+  unfolding _or_
+  same-extent = extent-within 21 (l .fcb) refl (λ q. omega arith)
+
+  there : stays 21 (l .fcb) ≡ true
+  unfolding stays
+  there = eq-eqb _ _ same-extent
+
+  target : targetEntry G 21 (s .user) l ≡ At e
+  target = target-present G 21 (s .user) l e at there
+
+  unlocked : readOnlyThere G 21 (s .user) l ≡ false
+  unfolding readOnlyThere _or_
+  unlocked = rw (at, target, writable)
+
+  writes : Writes G l s 21
+  unfolding fcbRight
+  writes = record {
+    entry = record { place = e; is = at };
+    writable = unlocked;
+    extent = rw same-extent (numbers-extent (l .fcb) (and-left _ _ (and-right _ _ (cur .right))));
+    room = λ q. absurd (at-not-nothing e (sym target ∙ q));
+    block = λ z. free;
+  }
+
+  pub write-accepted : CarriedOut G asked l s
+  write-accepted =
+      total-accepted G asked l s
+      (ap (λ (n : ℕ). verdict G n (asked .argument) l s) number ∙ passes G 21 (asked .argument) l s call21
+      record { fits = fits; drive = λ u. drive; image-right = good-consistent G (l .image) (l .map) g; map-right = λ q. good-right G (l .image) (l .map) g } writes)
+
+-- ---- a make, and a write through the FCB that it handed back
+makes-of : (G : Geometry) (argument : ℕ) (l : Lent) (s : Session) (c : Call 22) → Own G l s argument c → Makes G l s
+makes-of G argument l s call22 o = o
+
+module _ {G : Geometry} (S : Sound G) (d : Disk) (q : Request) (number : q .asked .number ≡ 22) (accepted : accepts G d q ≡ true) (cr : crOf (q .fcb) < 128) where
+  abbrev l : Lent
+  l = lentTo d q
+
+  carried : CarriedOut G (q .asked) l (d .session)
+  unfolding outcomeOf
+  carried = accepted-carried G (q .asked) (lentTo d q) (d .session) accepted
+
+  drive : getD (q .fcb) 0 0 ≤ 1
+  unfolding usesFcb oneOf _or_
+  drive = carried .facts .ready .drive (ap usesFcb number)
+
+  makes : Makes G l (d .session)
+  makes =
+      subst (λ (n : ℕ). (c : Call n) → Own G l (d .session) (q .asked .argument) c → Makes G l (d .session)) (sym number)
+      (makes-of G (q .asked .argument) l (d .session)) (carried .facts .call) (carried .facts .own)
+
+  t : ℕ
+  t = makes .entry .place
+
+  made-is : outcomeOf G d q ≡ createdAt G (d .session) l t
+  unfolding outcomeOf t created
+  made-is =
+      carried .is ∙ ap (λ (n : ℕ). effect G n (q .asked .argument) l (d .session)) number ∙ effect-is G (q .asked .argument) l (d .session) call22
+      ∙ ap (λ (r : Found). createdAt G (d .session) l (numberOf (G .entries) r)) (makes .entry .is)
+
+  fits : Fits G l (d .session)
+  fits = carried .facts .ready .fits
+
+  good : Good G (l .image) (l .map)
+  good = ready-good (carried .facts .ready) (λ z. let a : 13 ≡ 22 = sym z ∙ number in omega arith)
+
+  -- the entry that was made is not read-only
+  new-row : entryAt G (createdAt G (d .session) l t .lent .image) t ≡ madeRow (d .session .user) (l .fcb)
+  unfolding createdAt t
+  new-row =
+      entry-stored S (l .image) (good .image-long) t (empty-says G (rowsOf G l) t (makes .entry .is) .below) (madeRow (d .session .user) (l .fcb))
+      (length-madeRow (d .session .user) (l .fcb))
+
+  -- what it left
+  made : Disk
+  made = left (createdAt G (d .session) l t)
+
+  made-good : Good G (made .image) (made .map)
+  unfolding made outcomeOf
+  made-good =
+      subst (λ (o : Outcome). Good G (o .lent .image) (o .lent .map)) made-is (step-accepted S (q .asked) (lentTo d q) (d .session) carried)
+
+  some-free : (b : ℕ) → b < G .blocks → noteAt (l .map) b ≡ freeNote → FoundAt (findFree G (l .map))
+  some-free b h z = found-cases (findFree G (l .map)) (λ k e. record { place = k; is = e }) (λ e. absurd (none-free G (l .map) e b h z))
+
+  written-next : (b : ℕ) → b < G .blocks → noteAt (l .map) b ≡ freeNote
+      → (w : Request) → w .asked .number ≡ 21 → w .fcb ≡ createdAt G (d .session) l t .lent .fcb → length (w .buffer) ≡ recordBytes → accepts G made w ≡ true
+  unfolding made outcomeOf createdAt t
+  written-next b h z w n fcb buffer =
+      let row : Bytes = madeRow (d .session .user) (l .fcb) in
+      let hf : 32 ≤ length (l .fcb) = (let k : length (l .fcb) ≡ 36 = fits .fcb-long in omega arith) in
+      let hr : 32 ≤ length row = omega (arith, length-madeRow (d .session .user) (l .fcb)) in
+      carried-says G (w .asked) (lentTo made w) (made .session)
+      (write-accepted S (w .asked) n (lentTo made w) (made .session) made-good
+      record {
+        image-long = made-good .image-long;
+        map-long = made-good .map-long;
+        fcb-long = ap length fcb ∙ length-copied (l .fcb) row hf hr ∙ fits .fcb-long;
+        buffer-long = buffer;
+        user-low = fits .user-low;
+        place-low = omega arith;
+      }
+      (rw (fcb, first-copied (l .fcb) row hf hr) drive) t
+      (rw fcb (created-cur S (q .asked .argument) l (d .session) fits good (omega arith) makes))
+      (ap readOnly new-row ∙ readOnly-made (d .session .user) (l .fcb))
+      (rw (fcb, rest-copied (l .fcb) row hf hr 36 32 (omega arith) (omega arith)) cr) (some-free b h z))
+
+  -- a write through the FCB handed back, where a block is free
+  pub make-then-write : (b : ℕ) → b < G .blocks → noteAt (d .map) b ≡ freeNote
+      → (w : Request) → w .asked .number ≡ 21 → w .fcb ≡ outcomeOf G d q .lent .fcb → length (w .buffer) ≡ recordBytes → accepts G (after G d q) w ≡ true
+  unfolding after made
+  make-then-write b h z w n fcb buffer =
+      subst (λ (o : Outcome). accepts G (left o) w ≡ true) (sym made-is)
+      (written-next b h z w n (fcb ∙ ap (λ (o : Outcome). o .lent .fcb) made-is) buffer)
+
+-- ---- an erased disk
+-- a request of a number, with an FCB and a buffer of the right lengths
+pub record Asks (q : Request) (n : ℕ) : Type 0 where
+  pub number : q .asked .number ≡ n
+  pub fcb : length (q .fcb) ≡ fcbBytes
+  pub buffer : length (q .buffer) ≡ recordBytes
+
+module _ {G : Geometry} (S : Sound G) (some : 0 < G .entries) (size : ℕ) (is : size ≡ imageBytes G) where
+  -- no used entry: nothing is listed, and no file is found
+  unlisted : (b : ℕ) → (b ≡ 0 → ⊥) → isListed G (entryAt G (erased S size is)) b ≡ false
+  unlisted b r =
+      split (bool-cases (isListed G (entryAt G (erased S size is)) b))
+      (λ t. let w = listed-somewhere G (entryAt G (erased S size is)) b r t in
+      not-both (empty (entryAt G (erased S size is) (w .e))) (erased-empty S size is (w .e) (w .stands .entry)) (used-full _ (w .stands .uses)))
+      (λ f. f)
+
+  first-free : noteAt (freshMap G (entryAt G (erased S size is))) (G .area) ≡ freeNote
+  unfolding freshNote
+  first-free =
+      fresh-at G (entryAt G (erased S size is)) (G .area) (S .area-below)
+      ∙ rw (le-ltb (G .area) (G .area) (omega arith), unlisted (G .area) (λ z. omega (arith, S .area-some)))
+
+  made-on : (d : Disk) → d .image ≡ erased S size is → Good G (d .image) (d .map) → InRange G (d .session) → (q : Request) → Asks q 22
+      → getD (q .fcb) 0 0 ≤ 1 → nameRight false (q .fcb) 1 ≡ true → exOf (q .fcb) ≤ 31 → accepts G d q ≡ true
+  unfolding outcomeOf askedEntry
+  made-on d image good range q a drive name ex =
+      carried-says G (q .asked) (lentTo d q) (d .session)
+      (total-accepted G (q .asked) (lentTo d q) (d .session)
+      (ap (λ (n : ℕ). verdict G n (q .asked .argument) (lentTo d q) (d .session)) (a .number)
+      ∙ passes G 22 (q .asked .argument) (lentTo d q) (d .session) call22
+      record {
+        fits = record { image-long = good .image-long; map-long = good .map-long; fcb-long = a .fcb; buffer-long = a .buffer; user-low = range .user; place-low = range .place };
+        drive = λ u. drive;
+        image-right = good-consistent G (d .image) (d .map) good;
+        map-right = λ z. good-right G (d .image) (d .map) good;
+      }
+      record {
+        name = name;
+        ex = ex;
+        new = no-file-is G (entryAt G (d .image)) (d .session .user) (q .fcb) 1 (exOf (q .fcb)) (λ e h. none e h);
+        entry = found-cases (findEmpty G (entryAt G (d .image))) (λ k e. record { place = k; is = e })
+            (λ e. absurd (not-both (empty (entryAt G (d .image) 0)) (void 0 some) (none-empty-says G (entryAt G (d .image)) e 0 some)));
+      }))
+    where
+      void : (e : ℕ) → e < G .entries → empty (entryAt G (d .image) e) ≡ true
+      void e h = ap (λ (i : Bytes). empty (entryAt G i e)) image ∙ erased-empty S size is e h
+
+      none : (e : ℕ) → e < G .entries → isFile (d .session .user) (q .fcb) 1 (exOf (q .fcb)) (entryAt G (d .image) e) ≡ false
+      none e h =
+          split (bool-cases (isFile (d .session .user) (q .fcb) 1 (exOf (q .fcb)) (entryAt G (d .image) e)))
+          (λ t. not-both (empty (entryAt G (d .image) e)) (void e h)
+          (used-full (entryAt G (d .image) e) (file-used (d .session .user) (q .fcb) 1 (exOf (q .fcb)) (entryAt G (d .image) e) t (range .user))))
+          (λ f. f)
+
+  -- log in, make a file, write its first record
+  pub erased-begins : (d : Disk) → d .image ≡ erased S size is → length (d .map) ≡ G .blocks → InRange G (d .session)
+      → (login make write : Request) → Asks login 13 → Asks make 22 → getD (make .fcb) 0 0 ≤ 1 → nameRight false (make .fcb) 1 ≡ true → exOf (make .fcb) ≤ 31 → crOf (make .fcb) < 128
+      → Asks write 21 → write .fcb ≡ outcomeOf G (after G d login) make .lent .fcb
+      → (accepts G d login ≡ true) × (accepts G (after G d login) make ≡ true) × (accepts G (after G (after G d login) make) write ≡ true)
+  unfolding after loggedIn
+  erased-begins d image map range login make write a b drive name ex cr c same =
+      let first = erased-accepted S size is d login image map range (a .number) (a .fcb) (a .buffer) in
+      let t = told-login S d login (a .number) first in
+      let o = logged-in G d login (a .number) first in
+      let second = made-on (after G d login) (ap (λ (x : Outcome). x .lent .image) o ∙ image) (t .good) (t .range) make b drive name ex in (
+        first,
+        second,
+        make-then-write S (after G d login) make (b .number) second cr (G .area) (S .area-below)
+            (ap (λ (x : Outcome). noteAt (x .lent .map) (G .area)) o ∙ ap (λ (i : Bytes). noteAt (freshMap G (entryAt G i)) (G .area)) image ∙ first-free)
+            write (c .number) same (c .buffer),
+      )

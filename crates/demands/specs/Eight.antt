@@ -1,0 +1,61 @@
+-- The demands on the 8-inch disk: no hypothesis is left but that the log-in or the write was accepted.
+use mathlib.Core.Path.{_≡_}
+use mathlib.Core.Bool.{true, false}
+use mathlib.Core.List.{List, [], _∷_}
+use Prim.Native.Nat.{ℕ, _≤_, _<_}
+use native.Mathlib.Omega.{arith}
+use lib.ListN.{length, getD}
+use Rattle.format.specs.Diskette.{Bytes, eightInch, recordBytes}
+use Rattle.format.specs.Names.{nameRight}
+use Rattle.format.specs.Entries.{exOf}
+use Rattle.format.specs.Fcb.{crOf}
+use Rattle.format.specs.FoundLaws.{FoundAt}
+use Rattle.disk.specs.Eight.{eight-sound}
+use Rattle.model.specs.declared.Asked.{Asked}
+use Rattle.model.specs.Naming.{names}
+use Rattle.model.specs.Target.{presentEntry}
+use Rattle.model.specs.Table.{oneOf}
+use Rattle.table.specs.Total.{InRange}
+use Rattle.effects.specs.Where.{Frame}
+use Rattle.effects.specs.Book.{nothingHeld}
+use Rattle.demands.specs.StepOk.{MayWrite}
+use Rattle.demands.specs.Runs.{Request, Disk, lentTo, outcomeOf, accepts, after, run, bookRun}
+use Rattle.demands.specs.NothingLost.{NothingLost, nothing-lost, bytes-stay, system-stays}
+use Rattle.demands.specs.Reading.{Gives}
+use Rattle.demands.specs.ReadBack.{AllLeaveAlone, readFcb, read-back}
+use Rattle.demands.specs.StillCurrent.{still-current}
+use Rattle.demands.specs.Erased.{erased}
+use Rattle.demands.specs.Begins.{Asks, erased-begins}
+
+-- demand 2
+pub eight-read-back : (d : Disk) (w : Request) → oneOf (w .asked .number) (21 ∷ 34 ∷ []) ≡ true → accepts eightInch d w ≡ true
+    → (qs : List Request) → AllLeaveAlone eightInch (outcomeOf eightInch d w .lent .fcb) (after eightInch d w) qs
+    → (asked : Asked) → asked .number ≡ 33 → (buffer : Bytes) → length buffer ≡ recordBytes
+    → Gives (outcomeOf eightInch (run eightInch (after eightInch d w) qs) (record { asked = asked; fcb = readFcb eightInch d w; buffer = buffer })) (w .buffer)
+eight-read-back = read-back eight-sound
+
+-- demand 3
+pub eight-nothing-lost : (d : Disk) (q : Request) → q .asked .number ≡ 13 → accepts eightInch d q ≡ true → (qs : List Request)
+    → NothingLost eightInch (run eightInch (after eightInch d q) qs) (bookRun eightInch (after eightInch d q) qs nothingHeld)
+eight-nothing-lost = nothing-lost eight-sound
+
+pub eight-bytes-stay : (d : Disk) (q : Request)
+    → Frame eightInch (d .image) (after eightInch d q .image) (names (q .asked .number) (d .session .user) (q .fcb))
+    (MayWrite eightInch (q .asked .number) (lentTo d q) (d .session) (outcomeOf eightInch d q))
+eight-bytes-stay = bytes-stay eight-sound
+
+pub eight-system-stays : (d : Disk) (q : Request) (i : ℕ) → i < 6656 → getD (after eightInch d q .image) i 0 ≡ getD (d .image) i 0
+eight-system-stays = system-stays eight-sound
+
+-- the FCB handed back is current
+pub eight-still-current : (d : Disk) (q : Request) → accepts eightInch d q ≡ true → oneOf (q .asked .number) (15 ∷ 16 ∷ 20 ∷ 21 ∷ 22 ∷ 33 ∷ 34 ∷ []) ≡ true
+    → (oneOf (q .asked .number) (15 ∷ 22 ∷ []) ≡ true → crOf (q .fcb) ≤ 128)
+    → FoundAt (presentEntry eightInch (after eightInch d q .session .user) (outcomeOf eightInch d q .lent))
+eight-still-current = still-current eight-sound
+
+-- and they speak of something: a log-in, a make and a write on an erased disk are accepted
+pub eight-begins : (size : ℕ) (is : size ≡ 256256) (d : Disk) → d .image ≡ erased eight-sound size is → length (d .map) ≡ 243 → InRange eightInch (d .session)
+    → (login make write : Request) → Asks login 13 → Asks make 22 → getD (make .fcb) 0 0 ≤ 1 → nameRight false (make .fcb) 1 ≡ true → exOf (make .fcb) ≤ 31 → crOf (make .fcb) < 128
+    → Asks write 21 → write .fcb ≡ outcomeOf eightInch (after eightInch d login) make .lent .fcb
+    → (accepts eightInch d login ≡ true) × (accepts eightInch (after eightInch d login) make ≡ true) × (accepts eightInch (after eightInch (after eightInch d login) make) write ≡ true)
+eight-begins size is = erased-begins eight-sound (omega arith) size is

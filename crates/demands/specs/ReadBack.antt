@@ -1,0 +1,218 @@
+-- Demand 2, exact, and read back. After an accepted 21 or 34, with or without a move, and any calls that do not name that file, call 33
+-- through the FCB that the write handed back, with r0 to r2 alone set to that record, gives the bytes that were written.
+use mathlib.Core.Path.{_≡_, refl, ap, sym, _∙_, subst}
+use mathlib.Core.Bool.{true, false}
+use mathlib.Core.List.{List, [], _∷_}
+use Prim.Native.Nat.{ℕ, _+_, _%_, _≤_, _<_}
+use native.Mathlib.Omega.{arith}
+use lib.ListN.{length, getD, set}
+use lib.Seq.{getD-set-same, getD-set-other}
+use Rattle.lists.specs.Cases.{split, eq-or-ne, clash, not-both}
+use Rattle.lists.specs.Tests.{_or_}
+use Rattle.format.specs.Diskette.{Bytes, Geometry, Sound, recordBytes}
+use Rattle.format.specs.Entries.{userOf, extentOf, named}
+use Rattle.format.specs.Fcb.{fcbBytes}
+use Rattle.names.specs.Laws.{like-at}
+use Rattle.model.specs.declared.Asked.{Asked}
+use Rattle.model.specs.declared.Session.{Session}
+use Rattle.model.specs.Lent.{Lent, Outcome}
+use Rattle.model.specs.Naming.{names}
+use Rattle.model.specs.Target.{extents, targetExtent, targetRecord}
+use Rattle.model.specs.Table.{oneOf, usesFcb}
+use Rattle.model.specs.Step.{step}
+use Rattle.fields.specs.Agree.{SameName, named-cong}
+use Rattle.fields.specs.Naming.{named-user, named-like}
+use Rattle.table.specs.Own.{Call, call13, call15, call16, call17, call18, call19, call20, call21, call22, call23, call32, call33, call34, call35, call36, call46, call98, at-one}
+use Rattle.table.specs.First.{_&_}
+use Rattle.table.specs.Facts.{Own, Ready}
+use Rattle.table.specs.Carried.{Leaves, carriedBy, effect-is}
+use Rattle.table.specs.Total.{InRange, total, step-range}
+use Rattle.invariant.specs.Good.{Good}
+use Rattle.invariant.specs.Step.{step-good}
+use Rattle.effects.specs.View.{viewOf, Names}
+use Rattle.effects.specs.Effect.{Effect, Keeps}
+use Rattle.effects.specs.Cur.{Holds, holds-kept}
+use Rattle.effects.specs.Write.{WriteOk, written-ok}
+use Rattle.demands.specs.Accepted.{accepted-carried}
+use Rattle.demands.specs.StepOk.{step-ok, ready-good}
+use Rattle.demands.specs.Runs.{Request, Disk, lentTo, outcomeOf, accepts, after, run}
+use Rattle.demands.specs.Reading.{atRecord, recordNumber, Gives, reads-back, length-atRecord, rest-atRecord}
+
+-- ---- calls that leave a file alone
+-- a row of the file that the FCB f names for a user
+abbrev pub fileRow : ℕ → Bytes → Bytes
+fileRow user f = set f 0 user
+
+-- the call q, on disk d, leaves the file of f alone: it does not name it, is no accepted 13 or 98, and no 32 that changes the user
+pub record LeavesAlone (G : Geometry) (f : Bytes) (d : Disk) (q : Request) : Type 0 where
+  pub elsewhere : names (q .asked .number) (d .session .user) (q .fcb) (fileRow (d .session .user) f) ≡ false
+  pub unsettled : accepts G d q ≡ true → oneOf (q .asked .number) (13 ∷ 98 ∷ []) ≡ false
+  pub same-user : q .asked .number ≡ 32 → after G d q .session .user ≡ d .session .user
+
+-- so do all the calls, one after the other
+abbrev pub AllLeaveAlone : Geometry → Bytes → Disk → List Request → Type 0
+AllLeaveAlone G f d [] = Unit {0}
+AllLeaveAlone G f d (q ∷ qs) = LeavesAlone G f d q × AllLeaveAlone G f (after G d q) qs
+
+-- ---- naming depends on a row's user and name alone
+names-cong : (n user : ℕ) (fcb r t : Bytes) → userOf r ≡ userOf t → SameName r 1 t 1 → names n user fcb r ≡ names n user fcb t
+unfolding names
+names-cong n user fcb r t e m =
+    rw (named-cong (oneOf n (17 ∷ 19 ∷ [])) user fcb 1 r t e m, named-cong false user fcb 17 r t e m)
+
+names-apart : (n user : ℕ) (fcb f : Bytes) → length f ≡ fcbBytes → names n user fcb (fileRow user f) ≡ false
+    → (r : Bytes) → named false user f 1 r ≡ true → names n user fcb r ≡ false
+names-apart n user fcb f hf q r h =
+    names-cong n user fcb r (fileRow user f)
+    (named-user false user f 1 r h ∙ sym (getD-set-same f 0 user 0 (omega arith)))
+    (λ i l. sym (like-at f 1 r 1 (named-like false user f 1 r h) i l) ∙ ap (λ (x : ℕ). x % 128) (sym (getD-set-other f 0 (1 + i) user 0 (λ z. omega arith))))
+    ∙ q
+
+-- ---- only 32 sets the user
+leaves-user : (G : Geometry) (argument : ℕ) (l : Lent) (s : Session) {n : ℕ} (c : Call n) (t : Session) → (n ≡ 32 → ⊥) → Leaves G argument l s c t → t .user ≡ s .user
+leaves-user G argument l s call13 t z e = ap (λ (x : Session). x .user) e
+leaves-user G argument l s call15 t z e = ap (λ (x : Session). x .user) e
+leaves-user G argument l s call16 t z e = ap (λ (x : Session). x .user) e
+leaves-user G argument l s call17 t z e = ap (λ (x : Session). x .user) (e .on)
+leaves-user G argument l s call18 t z e = ap (λ (x : Session). x .user) (e .on)
+leaves-user G argument l s call19 t z e = ap (λ (x : Session). x .user) e
+leaves-user G argument l s call20 t z e = ap (λ (x : Session). x .user) e
+leaves-user G argument l s call21 t z e = ap (λ (x : Session). x .user) e
+leaves-user G argument l s call22 t z e = ap (λ (x : Session). x .user) e
+leaves-user G argument l s call23 t z e = ap (λ (x : Session). x .user) e
+leaves-user G argument l s call32 t z e = absurd (z refl)
+leaves-user G argument l s call33 t z e = ap (λ (x : Session). x .user) e
+leaves-user G argument l s call34 t z e = ap (λ (x : Session). x .user) e
+leaves-user G argument l s call35 t z e = ap (λ (x : Session). x .user) e
+leaves-user G argument l s call36 t z e = ap (λ (x : Session). x .user) e
+leaves-user G argument l s call46 t z e = ap (λ (x : Session). x .user) e
+leaves-user G argument l s call98 t z e = ap (λ (x : Session). x .user) e
+
+pub user-stays : (G : Geometry) (d : Disk) (q : Request) → (q .asked .number ≡ 32 → ⊥) → after G d q .session .user ≡ d .session .user
+unfolding after outcomeOf
+user-stays G d q z =
+    split (total G (q .asked) (lentTo d q) (d .session))
+    (λ w. split (w .1 .session) (λ e. ap (λ (x : Session). x .user) e) (λ e. ap (λ (x : Session). x .user) (e .1)))
+    (λ c. leaves-user G (q .asked .argument) (lentTo d q) (d .session) (c .facts .call) (step G (q .asked) (lentTo d q) (d .session) .answer .session) z (c .done .leaves))
+
+-- ---- a record that holds, over calls that leave its file alone
+pub record Kept (G : Geometry) (d : Disk) (user : ℕ) (f : Bytes) (e rec : ℕ) (v : Bytes) : Type 0 where
+  pub good : Good G (d .image) (d .map)
+  pub range : InRange G (d .session)
+  pub same : d .session .user ≡ user
+  pub holds : Holds G (viewOf G (d .image) (d .map)) user f e rec v
+
+module _ {G : Geometry} (S : Sound G) (user : ℕ) (f : Bytes) (hf : length f ≡ fcbBytes) (e rec : ℕ) (v : Bytes) where
+  kept-after : (d : Disk) (q : Request) → LeavesAlone G f d q → Kept G d user f e rec v → Kept G (after G d q) user f e rec v
+  unfolding after outcomeOf
+  kept-after d q o k =
+      let ok = step-ok S (q .asked) (lentTo d q) (d .session) in
+      let low : user ≤ 15 = subst (λ (x : ℕ). x ≤ 15) (k .same) (k .range .user) in
+      let away : names (q .asked .number) user (q .fcb) (fileRow user f) ≡ false =
+      subst (λ (x : ℕ). names (q .asked .number) x (q .fcb) (fileRow x f) ≡ false) (k .same) (o .elsewhere) in
+      let N : Names = names (q .asked .number) user (q .fcb) in
+      let t = viewOf G (after G d q .image) (after G d q .map) in
+      record {
+        good = step-good S (q .asked) (lentTo d q) (d .session) (k .good);
+        range = step-range G (q .asked) (lentTo d q) (d .session) (k .range);
+        same = split (eq-or-ne (q .asked .number) 32) (λ z. o .same-user z) (λ z. user-stays G d q z) ∙ k .same;
+        holds = holds-kept S (viewOf G (d .image) (d .map)) t N user low f
+            (subst (λ (x : ℕ). Effect G (viewOf G (d .image) (d .map)) t (names (q .asked .number) x (q .fcb))) (k .same) (ok .effect))
+            (subst (λ (x : ℕ). Keeps G (viewOf G (d .image) (d .map)) t (names (q .asked .number) x (q .fcb))) (k .same) (ok .keeps (o .unsettled)))
+            (names-apart (q .asked .number) user (q .fcb) f hf away) e rec v (k .holds);
+      }
+
+  pub kept-run : (d : Disk) (qs : List Request) → AllLeaveAlone G f d qs → Kept G d user f e rec v → Kept G (run G d qs) user f e rec v
+  unfolding run
+  kept-run d [] o k = k
+  kept-run d (q ∷ qs) o k = kept-run (after G d q) qs (o .1) (kept-after d q (o .0) k)
+
+  -- and is read then
+  pub kept-read : (d : Disk) → Kept G d user f e rec v → getD f 0 0 ≤ 1 → extentOf f < extents → (asked : Asked) → asked .number ≡ 33 → (buffer : Bytes)
+      → length buffer ≡ recordBytes → Gives (outcomeOf G d (record { asked = asked; fcb = atRecord f (recordNumber (extentOf f) rec); buffer = buffer })) v
+  unfolding outcomeOf
+  kept-read d k drive low asked n buffer hb =
+      let fcb : Bytes = atRecord f (recordNumber (extentOf f) rec) in
+      reads-back S asked n (lentTo d (record { asked = asked; fcb = fcb; buffer = buffer })) (d .session) (k .good)
+      record {
+        image-long = k .good .image-long;
+        map-long = k .good .map-long;
+        fcb-long = length-atRecord f (recordNumber (extentOf f) rec) hf;
+        buffer-long = hb;
+        user-low = k .range .user;
+        place-low = k .range .place;
+      }
+      (rw (rest-atRecord f (recordNumber (extentOf f) rec) hf 0 (omega arith) (omega arith)) drive) f hf e rec v
+      (subst (λ (x : ℕ). Holds G (viewOf G (d .image) (d .map)) x f e rec v) (sym (k .same)) (k .holds)) low refl
+
+-- ---- what an accepted write leaves
+pub record Wrote (G : Geometry) (d : Disk) (w : Request) : Type 0 where
+  pub ok : WriteOk G (w .asked .number) (d .session .user) (lentTo d w) (outcomeOf G d w .lent)
+  pub drive : getD (w .fcb) 0 0 ≤ 1
+  pub extent : targetExtent (w .asked .number) (w .fcb) < extents
+  pub range : InRange G (d .session)
+
+module _ {G : Geometry} (S : Sound G) (argument : ℕ) (l : Lent) (s : Session) where
+  record WriteFacts (n : ℕ) (c : Call n) : Type 0 where
+    ok : WriteOk G n (s .user) l (carriedBy G argument l s c .lent)
+    extent : targetExtent n (l .fcb) < extents
+    uses : usesFcb n ≡ true
+
+  abbrev Facts : ℕ → Type 0
+  Facts n = (c : Call n) → Ready G n l s → Own G l s argument c → WriteFacts n c
+
+  facts21 : Facts 21
+  unfolding usesFcb oneOf _or_
+  facts21 call21 r o = record { ok = written-ok S 21 l s (ready-good r (λ q. omega arith)) (r .fits) o; extent = o .extent; uses = refl }
+
+  facts34 : Facts 34
+  unfolding usesFcb oneOf _or_
+  facts34 call34 r o = record { ok = written-ok S 34 l s (ready-good r (λ q. omega arith)) (r .fits) o; extent = o .extent; uses = refl }
+
+  write-facts : (n : ℕ) → oneOf n (21 ∷ 34 ∷ []) ≡ true → Facts n
+  write-facts n z = at-one Facts n (21 ∷ 34 ∷ []) z (facts21 & facts34 & tt)
+
+module _ {G : Geometry} (S : Sound G) (d : Disk) (w : Request) (writes : oneOf (w .asked .number) (21 ∷ 34 ∷ []) ≡ true) (accepted : accepts G d w ≡ true) where
+  pub wrote : Wrote G d w
+  unfolding outcomeOf
+  wrote =
+      let c = accepted-carried G (w .asked) (lentTo d w) (d .session) accepted in
+      let k = write-facts S (w .asked .argument) (lentTo d w) (d .session) (w .asked .number) writes (c .facts .call) (c .facts .ready) (c .facts .own) in
+      record {
+        ok = subst (λ (o : Outcome). WriteOk G (w .asked .number) (d .session .user) (lentTo d w) (o .lent))
+            (sym (c .is ∙ effect-is G (w .asked .argument) (lentTo d w) (d .session) (c .facts .call))) (k .ok);
+        drive = c .facts .ready .drive (k .uses);
+        extent = k .extent;
+        range = record { user = c .facts .ready .fits .user-low; place = c .facts .ready .fits .place-low };
+      }
+
+  -- the record that it wrote holds
+  wrote-kept : Kept G (after G d w) (d .session .user) (outcomeOf G d w .lent .fcb) (wrote .ok .entry) (targetRecord (w .asked .number) (w .fcb)) (w .buffer)
+  unfolding after outcomeOf oneOf _or_
+  wrote-kept = record {
+    good = wrote .ok .change .good;
+    range = step-range G (w .asked) (lentTo d w) (d .session) (wrote .range);
+    same = user-stays G d w (λ q. not-both (oneOf (w .asked .number) (21 ∷ 34 ∷ [])) writes (ap (λ (n : ℕ). oneOf n (21 ∷ 34 ∷ [])) q));
+    holds = wrote .ok .holds;
+  }
+
+-- ---- demand 2
+-- the FCB that the write w handed back, with r0 to r2 set to the record that it wrote
+unfoldable pub readFcb : Geometry → Disk → Request → Bytes
+readFcb G d w = atRecord (outcomeOf G d w .lent .fcb) (recordNumber (targetExtent (w .asked .number) (w .fcb)) (targetRecord (w .asked .number) (w .fcb)))
+
+-- with any buffer of 128 bytes, and any argument
+pub read-back : {G : Geometry} (S : Sound G) (d : Disk) (w : Request) → oneOf (w .asked .number) (21 ∷ 34 ∷ []) ≡ true → accepts G d w ≡ true
+    → (qs : List Request) → AllLeaveAlone G (outcomeOf G d w .lent .fcb) (after G d w) qs
+    → (asked : Asked) → asked .number ≡ 33 → (buffer : Bytes) → length buffer ≡ recordBytes
+    → Gives (outcomeOf G (run G (after G d w) qs) (record { asked = asked; fcb = readFcb G d w; buffer = buffer })) (w .buffer)
+unfolding readFcb
+read-back {G} S d w writes accepted qs alone asked n buffer hb =
+    let k = wrote S d w writes accepted in
+    let f : Bytes = outcomeOf G d w .lent .fcb in
+    let rec : ℕ = targetRecord (w .asked .number) (w .fcb) in
+    let x : extentOf f ≡ targetExtent (w .asked .number) (w .fcb) = k .ok .fcb .extent in
+    subst (λ (i : ℕ). Gives (outcomeOf G (run G (after G d w) qs) (record { asked = asked; fcb = atRecord f (recordNumber i rec); buffer = buffer })) (w .buffer)) x
+    (kept-read S (d .session .user) f (k .ok .fcb .long) (k .ok .entry) rec (w .buffer) (run G (after G d w) qs)
+    (kept-run S (d .session .user) f (k .ok .fcb .long) (k .ok .entry) rec (w .buffer) (after G d w) qs alone (wrote-kept S d w writes accepted))
+    (rw (k .ok .fcb .first) (k .drive)) (rw x (k .extent)) asked n buffer hb)

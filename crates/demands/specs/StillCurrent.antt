@@ -1,0 +1,143 @@
+-- For those who build above the calls: the FCB handed back by an accepted 16, 20, 21, 33 or 34 is current under the session handed back,
+-- and so is that of an accepted 15 or 22 whose cr is at most 128.
+use mathlib.Core.Path.{_≡_, refl, ap, sym, _∙_, subst}
+use mathlib.Core.Bool.{true, false}
+use mathlib.Core.List.{[], _∷_}
+use Prim.Native.Nat.{ℕ, _≤_}
+use Rattle.lists.specs.Cases.{not-both, clash}
+use Rattle.lists.specs.Tests.{_or_}
+use Rattle.format.specs.Diskette.{Bytes, Geometry, Sound}
+use Rattle.format.specs.Entries.{entryAt, exOf}
+use Rattle.format.specs.Fcb.{crOf, current}
+use Rattle.format.specs.FoundLaws.{FoundAt}
+use Rattle.format.specs.declared.Found.the-variants.{At}
+use Rattle.rows.specs.Entries.{entry-stored}
+use Rattle.rows.specs.Find.{file-says, empty-says}
+use Rattle.model.specs.declared.Session.{Session}
+use Rattle.model.specs.Lent.{Lent, rowsOf, Outcome}
+use Rattle.model.specs.Entering.{madeRow}
+use Rattle.model.specs.Target.{presentEntry}
+use Rattle.model.specs.Table.{oneOf, askedEntry}
+use Rattle.model.specs.Calls.{openedAt, opened, closedAt, closed, createdAt, created}
+use Rattle.fields.specs.Fine.{fine-made}
+use Rattle.fields.specs.Making.{length-madeRow, user-made}
+use Rattle.fields.specs.Naming.{file-user, file-used}
+use Rattle.table.specs.First.{_&_}
+use Rattle.table.specs.Own.{Call, call15, call16, call20, call21, call22, call33, call34, at-one}
+use Rattle.table.specs.Facts.{Fits, Opens, Closes, Makes, Own}
+use Rattle.table.specs.Carried.{carriedBy, effect-is}
+use Rattle.invariant.specs.Good.{Good}
+use Rattle.invariant.specs.Step.{step-accepted}
+use Rattle.effects.specs.View.{viewOf}
+use Rattle.effects.specs.Cur.{Cur, cur-current}
+use Rattle.effects.specs.Where.{NoRecord}
+use Rattle.effects.specs.Entered.{entered-cur, copied-cur, closed-cur}
+use Rattle.effects.specs.Came.{present-cur}
+use Rattle.effects.specs.Write.{written-ok, reads-ok}
+use Rattle.demands.specs.Accepted.{accepted-carried}
+use Rattle.demands.specs.StepOk.{ready-good}
+use Rattle.demands.specs.Runs.{Request, Disk, lentTo, outcomeOf, accepts, after}
+use Rattle.demands.specs.ReadBack.{user-stays}
+
+-- the FCB of these buffers is current for the user
+pub record CurrentIn (G : Geometry) (user : ℕ) (l : Lent) : Type 0 where
+  pub entry : ℕ
+  pub cur : Cur G (viewOf G (l .image) (l .map)) user (l .fcb) entry
+
+module _ {G : Geometry} (S : Sound G) (argument : ℕ) (l : Lent) (s : Session) (f : Fits G l s) (g : Good G (l .image) (l .map)) where
+  -- 15
+  opened-current : crOf (l .fcb) ≤ 128 → Opens G l s → CurrentIn G (s .user) (opened G s l .lent)
+  unfolding opened openedAt askedEntry
+  opened-current cr o =
+      let e : ℕ = o .entry .place in
+      let k = file-says G (rowsOf G l) (s .user) (l .fcb) 1 (exOf (l .fcb)) e (o .entry .is) in
+      rw (o .entry .is)
+      record {
+        entry = e;
+        cur = entered-cur G (viewOf G (l .image) (l .map)) (s .user) (l .fcb) (rowsOf G l e) e (k .below) refl
+            (file-user (s .user) (l .fcb) 1 (exOf (l .fcb)) (rowsOf G l e) (k .holds)) (f .fcb-long)
+            (g .inv .dir .fine e (k .below) (file-used (s .user) (l .fcb) 1 (exOf (l .fcb)) (rowsOf G l e) (k .holds) (f .user-low))) cr;
+      }
+
+  -- 16
+  closed-current : Closes G l s → CurrentIn G (s .user) (closed G s l .lent)
+  unfolding closed closedAt
+  closed-current c =
+      let e : ℕ = c .entry .place in
+      rw (c .entry .is)
+      record {
+        entry = e;
+        cur = closed-cur S (l .image) (l .map) g (s .user) (f .user-low) (l .fcb) (f .fcb-long) e (present-cur S 16 l s g f e (c .entry .is) NoRecord);
+      }
+
+  -- 22
+  pub created-cur : crOf (l .fcb) ≤ 128 → (m : Makes G l s)
+      → Cur G (viewOf G (createdAt G s l (m .entry .place) .lent .image) (l .map)) (s .user) (createdAt G s l (m .entry .place) .lent .fcb) (m .entry .place)
+  unfolding createdAt
+  created-cur cr m =
+      let t : ℕ = m .entry .place in
+      let row : Bytes = madeRow (s .user) (l .fcb) in
+      let found = empty-says G (rowsOf G l) t (m .entry .is) in
+      copied-cur G (viewOf G (createdAt G s l t .lent .image) (l .map)) (s .user) (l .fcb) row t (found .below)
+      (entry-stored S (l .image) (g .image-long) t (found .below) row (length-madeRow (s .user) (l .fcb))) (user-made (s .user) (l .fcb)) (f .fcb-long)
+      (length-madeRow (s .user) (l .fcb)) (fine-made G (s .user) (l .fcb) (f .user-low) (m .name) (m .ex)) cr
+
+  created-current : crOf (l .fcb) ≤ 128 → Makes G l s → CurrentIn G (s .user) (created G s l .lent)
+  unfolding created createdAt
+  created-current cr m = rw (m .entry .is) record { entry = m .entry .place; cur = created-cur cr m }
+
+  -- by the number of the call
+  abbrev Leaves : ℕ → Type 0
+  Leaves n = (oneOf n (15 ∷ 22 ∷ []) ≡ true → crOf (l .fcb) ≤ 128) → (c : Call n) → Own G l s argument c → CurrentIn G (s .user) (carriedBy G argument l s c .lent)
+
+  leaves15 : Leaves 15
+  unfolding oneOf _or_
+  leaves15 cr call15 o = opened-current (cr refl) o
+
+  leaves16 : Leaves 16
+  leaves16 cr call16 o = closed-current o
+
+  leaves20 : Leaves 20
+  leaves20 cr call20 o = let k = reads-ok S 20 l s g f o in record { entry = k .entry; cur = k .cur }
+
+  leaves21 : Leaves 21
+  leaves21 cr call21 o = let k = written-ok S 21 l s g f o in record { entry = k .entry; cur = k .holds .cur }
+
+  leaves22 : Leaves 22
+  unfolding oneOf _or_
+  leaves22 cr call22 o = created-current (cr refl) o
+
+  leaves33 : Leaves 33
+  leaves33 cr call33 o = let k = reads-ok S 33 l s g f o in record { entry = k .entry; cur = k .cur }
+
+  leaves34 : Leaves 34
+  leaves34 cr call34 o = let k = written-ok S 34 l s g f o in record { entry = k .entry; cur = k .holds .cur }
+
+  current-in : (n : ℕ) → oneOf n (15 ∷ 16 ∷ 20 ∷ 21 ∷ 22 ∷ 33 ∷ 34 ∷ []) ≡ true → Leaves n
+  current-in n z =
+      at-one Leaves n (15 ∷ 16 ∷ 20 ∷ 21 ∷ 22 ∷ 33 ∷ 34 ∷ []) z (leaves15 & leaves16 & leaves20 & leaves21 & leaves22 & leaves33 & leaves34 & tt)
+
+-- ---- any disk and call
+module _ {G : Geometry} (S : Sound G) (d : Disk) (q : Request) (accepted : accepts G d q ≡ true)
+    (call : oneOf (q .asked .number) (15 ∷ 16 ∷ 20 ∷ 21 ∷ 22 ∷ 33 ∷ 34 ∷ []) ≡ true)
+    (cr : oneOf (q .asked .number) (15 ∷ 22 ∷ []) ≡ true → crOf (q .fcb) ≤ 128) where
+  pub still-current : FoundAt (presentEntry G (after G d q .session .user) (outcomeOf G d q .lent))
+  unfolding after outcomeOf presentEntry oneOf _or_
+  still-current =
+      let c = accepted-carried G (q .asked) (lentTo d q) (d .session) accepted in
+      let good = step-accepted S (q .asked) (lentTo d q) (d .session) c in
+      let k : CurrentIn G (d .session .user) (outcomeOf G d q .lent) =
+      subst (λ (o : Outcome). CurrentIn G (d .session .user) (o .lent)) (sym (c .is ∙ effect-is G (q .asked .argument) (lentTo d q) (d .session) (c .facts .call)))
+      (current-in S (q .asked .argument) (lentTo d q) (d .session) (c .facts .ready .fits) (ready-good (c .facts .ready) (other 13 refl))
+      (q .asked .number) call cr (c .facts .call) (c .facts .own)) in
+      let o = outcomeOf G d q .lent in
+      record {
+        place = k .entry;
+        is = subst (λ (x : ℕ). current G (entryAt G (o .image)) (o .map) x (o .fcb) ≡ At (k .entry)) (sym (user-stays G d q (other 32 refl)))
+            (cur-current G (o .image) (o .map) (d .session .user) (o .fcb) (k .entry) (good .inv .dir) (c .facts .ready .fits .user-low) (k .cur));
+      }
+    where
+      other : (n : ℕ) → oneOf n (15 ∷ 16 ∷ 20 ∷ 21 ∷ 22 ∷ 33 ∷ 34 ∷ []) ≡ false → q .asked .number ≡ n → ⊥
+      other n z e =
+          not-both (oneOf (q .asked .number) (15 ∷ 16 ∷ 20 ∷ 21 ∷ 22 ∷ 33 ∷ 34 ∷ [])) call
+          (ap (λ (m : ℕ). oneOf m (15 ∷ 16 ∷ 20 ∷ 21 ∷ 22 ∷ 33 ∷ 34 ∷ [])) e ∙ z)

@@ -1,0 +1,270 @@
+-- A record call comes to the target's extent: it stays, moves to an entry, or makes one. Wherever it came to, the change so far is by
+-- the name of the FCB, and the FCB is current there.
+use mathlib.Core.Path.{_≡_, refl, ap, sym, _∙_}
+use mathlib.Core.Bool.{true, false}
+use Prim.Native.Nat.{ℕ, _≤_, _<_}
+use native.Mathlib.Omega.{arith}
+use lib.ListN.{length, getD}
+use Rattle.lists.specs.Cases.{not-both}
+use Rattle.format.specs.Diskette.{Bytes, Geometry, Sound}
+use Rattle.format.specs.Entries.{entryAt, withEntry, entryBytes, slotCount, slotOf, userOf, extentOf, used, empty, named, isFile, findEmpty}
+use Rattle.format.specs.Notes.{freeNote, noteAt}
+use Rattle.format.specs.Found.{numberOf}
+use Rattle.format.specs.Fcb.{fcbBytes}
+use Rattle.format.specs.declared.Found.the-variants.{At, Nothing}
+use Rattle.names.specs.Laws.{like-at}
+use Rattle.consistency.specs.Facts.{Fine}
+use Rattle.consistency.specs.Reflect.{used-full}
+use Rattle.rows.specs.Entries.{length-entryAt}
+use Rattle.rows.specs.Find.{empty-says}
+use Rattle.model.specs.declared.Session.{Session}
+use Rattle.model.specs.Lent.{Lent, rowsOf}
+use Rattle.model.specs.Closing.{closedImage, closedMap}
+use Rattle.model.specs.Entering.{entered}
+use Rattle.model.specs.Target.{extents, targetExtent, targetSlot, presentEntry, stays, targetEntry, blockThere, moved, nextMade, made}
+use Rattle.fields.specs.Agree.{SameName}
+use Rattle.fields.specs.Fine.{fine-next}
+use Rattle.fields.specs.Making.{length-nextRow, slot-next, user-next, extent-next}
+use Rattle.fields.specs.Entering.{length-entered, slot-entered, first-entered, name-entered, extent-entered}
+use Rattle.fields.specs.Naming.{named-like, file-named, file-user, file-extent}
+use Rattle.fields.specs.Target.{stays-extent, moves-extent}
+use Rattle.table.specs.Facts.{Fits}
+use Rattle.invariant.specs.Good.{Good}
+use Rattle.invariant.specs.CloseGood.{closed-free}
+use Rattle.invariant.specs.RecordCalls.{present-current, stay-block, move-block, make-block, slot-below, target-file, target-below, target-used, next-file, good-next}
+use Rattle.effects.specs.View.{viewOf, listed}
+use Rattle.effects.specs.Cur.{Cur, current-cur, cur-uses, cur-mine}
+use Rattle.effects.specs.Where.{Theirs, was-theirs}
+use Rattle.effects.specs.Book.{Book, settledBy, entryBefore, closedBook, movedBook}
+use Rattle.effects.specs.Change.{Change, asItWas, no-change, then-change}
+use Rattle.effects.specs.Closed.{byName, closed-there, closed-change}
+use Rattle.current.specs.Current.{fcb-says, current-says}
+use Rattle.effects.specs.Picked.{made-here, made-change, made-names-stay}
+use Rattle.effects.specs.Entered.{entered-cur}
+
+-- the call, given l, has come to `there` and entry t, with the book changed by B; it may write the records that W allows
+pub record CameTo (G : Geometry) (n user : ℕ) (l there : Lent) (t : ℕ) (W : ℕ → Type 0) (B : Book → Book) : Type 0 where
+  pub change : Change G (byName user (l .fcb)) W B (l .image) (l .map) (there .image) (there .map)
+  pub cur : Cur G (viewOf G (there .image) (there .map)) user (there .fcb) t
+  pub mine : byName user (l .fcb) (entryAt G (there .image) t) ≡ true
+  pub extent : extentOf (there .fcb) ≡ targetExtent n (l .fcb)
+  pub long : length (there .fcb) ≡ fcbBytes
+  pub first : getD (there .fcb) 0 0 ≡ getD (l .fcb) 0 0
+  pub name : SameName (there .fcb) 1 (l .fcb) 1
+  pub buffer : there .buffer ≡ l .buffer
+  -- the block in the target's slot, whose it was, and that free blocks are free still
+  pub slot : slotOf (there .fcb) (targetSlot G n (l .fcb)) ≡ blockThere G n user l
+  pub theirs : (blockThere G n user l ≡ 0 → ⊥) → Theirs G (l .image) (l .map) (byName user (l .fcb)) (blockThere G n user l)
+  pub free : (b : ℕ) → b < G .blocks → noteAt (l .map) b ≡ freeNote → noteAt (there .map) b ≡ freeNote
+  -- the book's change, as the calls tell it
+  pub book : (u : Book) → movedBook G n user l u ≡ B u
+
+module _ {G : Geometry} (S : Sound G) (n : ℕ) (l : Lent) (s : Session) (g : Good G (l .image) (l .map)) (f : Fits G l s) (e : ℕ)
+    (at : presentEntry G (s .user) l ≡ At e) (W : ℕ → Type 0) where
+  pub present-cur : Cur G (viewOf G (l .image) (l .map)) (s .user) (l .fcb) e
+  unfolding presentEntry
+  present-cur = current-cur G (l .image) (l .map) (s .user) (l .fcb) e (f .map-long) at
+
+  pub present-named : byName (s .user) (l .fcb) (rowsOf G l e) ≡ true
+  present-named = file-named (s .user) (l .fcb) 1 (extentOf (l .fcb)) (rowsOf G l e) (present-cur .file)
+
+  pub present-before : entryBefore G n (s .user) l ≡ e
+  unfolding entryBefore presentEntry
+  present-before = ap (numberOf (G .entries)) (current-says G (rowsOf G l) (l .map) (s .user) (l .fcb) e at .found)
+
+  place : targetSlot G n (l .fcb) < slotCount
+  place = slot-below S n l s g f e at
+
+  -- ---- it stays
+  stay-slot : stays n (l .fcb) ≡ true → slotOf (l .fcb) (targetSlot G n (l .fcb)) ≡ blockThere G n (s .user) l
+  stay-slot t = sym (stay-block G n (s .user) l t)
+
+  stay-book : stays n (l .fcb) ≡ true → (u : Book) → movedBook G n (s .user) l u ≡ u
+  unfolding movedBook
+  stay-book t u = rw t
+
+  pub stay-came : stays n (l .fcb) ≡ true → CameTo G n (s .user) l l e W asItWas
+  stay-came t = record {
+    change = no-change G (byName (s .user) (l .fcb)) W (l .image) (l .map) g;
+    cur = present-cur;
+    mine = present-named;
+    extent = sym (stays-extent n (l .fcb) t);
+    long = f .fcb-long;
+    first = refl;
+    name = λ i h. refl;
+    buffer = refl;
+    slot = stay-slot t;
+    theirs = λ z. rw (← stay-slot t) (was-theirs e
+        (cur-mine G (viewOf G (l .image) (l .map)) (s .user) (f .user-low) (l .fcb) e present-cur (targetSlot G n (l .fcb)) place (λ y. z (sym (stay-slot t) ∙ y))) present-named);
+    free = λ b h z. z;
+    book = stay-book t;
+  }
+
+  -- ---- it moves to an entry of the file
+  closed-by : Change G (byName (s .user) (l .fcb)) W (settledBy (rowsOf G l e) (l .fcb)) (l .image) (l .map)
+      (closedImage G (l .image) e (l .fcb)) (closedMap (rowsOf G l e) (l .fcb) (l .map))
+  closed-by = closed-change S (l .image) (l .map) g (s .user) (f .user-low) (l .fcb) e present-cur W
+
+  still-free : (b : ℕ) → b < G .blocks → noteAt (l .map) b ≡ freeNote → noteAt (closedMap (rowsOf G l e) (l .fcb) (l .map)) b ≡ freeNote
+  still-free = closed-free S (l .image) (l .map) g (s .user) (f .user-low) (l .fcb) e (present-current S n l s g f e at)
+
+  move-book : stays n (l .fcb) ≡ false → (u : Book) → movedBook G n (s .user) l u ≡ settledBy (rowsOf G l e) (l .fcb) u
+  unfolding movedBook closedBook
+  move-book go u = rw (go, present-before)
+
+  -- an FCB that entered row t of the file, wherever that row came from
+  entered-name : (row : Bytes) → named false (s .user) (l .fcb) 1 row ≡ true → SameName (entered (l .fcb) row) 1 (l .fcb) 1
+  entered-name row nm i h =
+      name-entered (l .fcb) row (let q : length (l .fcb) ≡ 36 = f .fcb-long in omega arith) i h
+      ∙ sym (like-at (l .fcb) 1 row 1 (named-like false (s .user) (l .fcb) 1 row nm) i h)
+
+  module _ (go : stays n (l .fcb) ≡ false) (t : ℕ) (target : targetEntry G n (s .user) l ≡ At t) where
+    file : isFile (s .user) (l .fcb) 1 (targetExtent n (l .fcb)) (rowsOf G l t) ≡ true
+    file = target-file S n l s g f e at t target
+
+    below : t < G .entries
+    below = target-below S n l s g f e at t target
+
+    uses : used (rowsOf G l t) ≡ true
+    uses = target-used S n l s g f e at t target
+
+    -- it is another entry than the present one
+    other : t ≡ e → ⊥
+    other q =
+        moves-extent n (l .fcb) go
+        (sym (file-extent (s .user) (l .fcb) 1 (targetExtent n (l .fcb)) (rowsOf G l t) file)
+        ∙ ap (λ (x : ℕ). extentOf (rowsOf G l x)) q ∙ file-extent (s .user) (l .fcb) 1 (extentOf (l .fcb)) (rowsOf G l e) (present-cur .file))
+
+    target-stays : entryAt G (closedImage G (l .image) e (l .fcb)) t ≡ rowsOf G l t
+    target-stays = closed-there S (l .image) (l .map) g (s .user) (f .user-low) (l .fcb) e present-cur t below other
+
+    move-slot : slotOf (rowsOf G l t) (targetSlot G n (l .fcb)) ≡ blockThere G n (s .user) l
+    move-slot = sym (move-block G n (s .user) l t go target)
+
+    move-theirs : (blockThere G n (s .user) l ≡ 0 → ⊥) → Theirs G (l .image) (l .map) (byName (s .user) (l .fcb)) (blockThere G n (s .user) l)
+    move-theirs z =
+        was-theirs t (listed (targetSlot G n (l .fcb)) record { entry = below; place = place; uses = uses; is = move-slot; real = z })
+        (file-named (s .user) (l .fcb) 1 (targetExtent n (l .fcb)) (rowsOf G l t) file)
+
+    pub move-came : CameTo G n (s .user) l (moved G n l e t) t W (settledBy (rowsOf G l e) (l .fcb))
+    unfolding moved
+    move-came =
+        let hf : 32 ≤ length (l .fcb) = (let q : length (l .fcb) ≡ 36 = f .fcb-long in omega arith) in
+        let row : Bytes = rowsOf G l t in
+        let nm = file-named (s .user) (l .fcb) 1 (targetExtent n (l .fcb)) row file in
+        record {
+          change = closed-by;
+          cur = entered-cur G (viewOf G (closedImage G (l .image) e (l .fcb)) (closedMap (rowsOf G l e) (l .fcb) (l .map))) (s .user) (l .fcb) row t below target-stays
+              (file-user (s .user) (l .fcb) 1 (targetExtent n (l .fcb)) row file) (f .fcb-long) (g .inv .dir .fine t below uses)
+              (fcb-says (l .fcb) (present-cur .right) .cr);
+          mine = ap (byName (s .user) (l .fcb)) target-stays ∙ nm;
+          extent = extent-entered (l .fcb) row hf ∙ file-extent (s .user) (l .fcb) 1 (targetExtent n (l .fcb)) row file;
+          long = length-entered (l .fcb) row hf ∙ f .fcb-long;
+          first = first-entered (l .fcb) row hf;
+          name = entered-name row nm;
+          buffer = refl;
+          slot = slot-entered (l .fcb) row hf (targetSlot G n (l .fcb)) place ∙ move-slot;
+          theirs = move-theirs;
+          free = still-free;
+          book = move-book go;
+        }
+
+  -- ---- it makes an entry for the target's extent
+  module _ (go : stays n (l .fcb) ≡ false) (t : ℕ) (room : findEmpty G (rowsOf G l) ≡ At t) (none : targetEntry G n (s .user) l ≡ Nothing)
+      (low : targetExtent n (l .fcb) < extents) where
+    room-below : t < G .entries
+    room-below = empty-says G (rowsOf G l) t room .below
+
+    elsewhere : t ≡ e → ⊥
+    elsewhere q =
+        not-both (empty (rowsOf G l t)) (empty-says G (rowsOf G l) t room .holds)
+        (ap (λ (x : ℕ). empty (rowsOf G l x)) q ∙ used-full (rowsOf G l e) (cur-uses G (viewOf G (l .image) (l .map)) (s .user) (f .user-low) (l .fcb) e present-cur))
+
+    long : length (rowsOf G l e) ≡ entryBytes
+    long = length-entryAt S (l .image) (g .image-long) e (present-cur .low)
+
+    whole : length (nextMade G n l e) ≡ entryBytes
+    unfolding nextMade
+    whole = length-nextRow (rowsOf G l e) (targetExtent n (l .fcb)) long
+
+    -- the new row is of the user's file
+    next-user : userOf (nextMade G n l e) ≡ s .user
+    unfolding nextMade
+    next-user = user-next (rowsOf G l e) (targetExtent n (l .fcb)) long ∙ file-user (s .user) (l .fcb) 1 (extentOf (l .fcb)) (rowsOf G l e) (present-cur .file)
+
+    next-extent : extentOf (nextMade G n l e) ≡ targetExtent n (l .fcb)
+    unfolding nextMade
+    next-extent = extent-next (rowsOf G l e) (targetExtent n (l .fcb)) long
+
+    next-named : byName (s .user) (l .fcb) (nextMade G n l e) ≡ true
+    unfolding nextMade
+    next-named = file-named (s .user) (l .fcb) 1 (targetExtent n (l .fcb)) (nextMade G n l e) (next-file S n l s g f e at t room none low)
+
+    next-fine : Fine G (nextMade G n l e)
+    unfolding nextMade
+    next-fine =
+        fine-next G (rowsOf G l e) (targetExtent n (l .fcb)) long
+        (g .inv .dir .fine e (present-cur .low) (cur-uses G (viewOf G (l .image) (l .map)) (s .user) (f .user-low) (l .fcb) e present-cur)) low
+
+    -- after the close
+    mid : Bytes
+    mid = closedImage G (l .image) e (l .fcb)
+
+    mid-map : Bytes
+    mid-map = closedMap (rowsOf G l e) (l .fcb) (l .map)
+
+    void : empty (entryAt G mid t) ≡ true
+    unfolding mid
+    void =
+        ap empty (closed-there S (l .image) (l .map) g (s .user) (f .user-low) (l .fcb) e present-cur t room-below elsewhere)
+        ∙ empty-says G (rowsOf G l) t room .holds
+
+    new : Bytes
+    new = withEntry G mid t (nextMade G n l e)
+
+    mid-good : Good G mid mid-map
+    unfolding mid mid-map
+    mid-good = closed-by .good
+
+    new-good : Good G new mid-map
+    unfolding new mid mid-map made
+    new-good = good-next S n l s g f e at t room none low
+
+    next-here : entryAt G new t ≡ nextMade G n l e
+    unfolding new
+    next-here = made-here S (byName (s .user) (l .fcb)) mid mid-map mid-good t room-below void (nextMade G n l e) whole next-named
+
+    closed-then-made : Change G (byName (s .user) (l .fcb)) W (settledBy (rowsOf G l e) (l .fcb)) (l .image) (l .map) new mid-map
+    unfolding mid mid-map new
+    closed-then-made =
+        then-change G (byName (s .user) (l .fcb)) W (settledBy (rowsOf G l e) (l .fcb)) asItWas (l .image) (l .map) mid mid-map new mid-map (g .inv .dir) closed-by
+        (made-change S (byName (s .user) (l .fcb)) mid mid-map mid-good t room-below void (nextMade G n l e) whole next-named new-good W)
+        (made-names-stay S (byName (s .user) (l .fcb)) mid mid-map mid-good t room-below void (nextMade G n l e) whole next-named)
+
+    make-slot : blockThere G n (s .user) l ≡ 0
+    make-slot = make-block G n (s .user) l go none
+
+    next-slot : slotOf (nextMade G n l e) (targetSlot G n (l .fcb)) ≡ 0
+    unfolding nextMade
+    next-slot = slot-next (rowsOf G l e) (targetExtent n (l .fcb)) long (targetSlot G n (l .fcb))
+
+    pub make-came : CameTo G n (s .user) l (made G n l e t) t W (settledBy (rowsOf G l e) (l .fcb))
+    unfolding made new mid mid-map
+    make-came =
+        let hf : 32 ≤ length (l .fcb) = (let q : length (l .fcb) ≡ 36 = f .fcb-long in omega arith) in
+        let row : Bytes = nextMade G n l e in
+        record {
+          change = closed-then-made;
+          cur = entered-cur G (viewOf G new mid-map) (s .user) (l .fcb) row t room-below next-here next-user (f .fcb-long) next-fine
+              (fcb-says (l .fcb) (present-cur .right) .cr);
+          mine = ap (byName (s .user) (l .fcb)) next-here ∙ next-named;
+          extent = extent-entered (l .fcb) row hf ∙ next-extent;
+          long = length-entered (l .fcb) row hf ∙ f .fcb-long;
+          first = first-entered (l .fcb) row hf;
+          name = entered-name row next-named;
+          buffer = refl;
+          slot = slot-entered (l .fcb) row hf (targetSlot G n (l .fcb)) place ∙ next-slot ∙ sym make-slot;
+          theirs = λ z. absurd (z make-slot);
+          free = still-free;
+          book = move-book go;
+        }

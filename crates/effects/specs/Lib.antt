@@ -1,0 +1,14 @@
+pub mod View
+pub mod Effect
+pub mod Steps
+pub mod Cur
+pub mod Where
+pub mod Book
+pub mod Tracks
+pub mod Change
+pub mod Closed
+pub mod Put
+pub mod Picked
+pub mod Entered
+pub mod Came
+pub mod Write

@@ -1,0 +1,100 @@
+-- Where a byte of the image that a call changed lies. Each byte stays, or lies there: a sum, so that changes follow one another.
+use mathlib.Core.Path.{_≡_, refl, _∙_}
+use mathlib.Core.Logic.{_⊎_, inl, inr}
+use mathlib.Core.Bool.{true}
+use Prim.Native.Nat.{ℕ, _+_, _≤_, _<_}
+use lib.ListN.{length, getD}
+use Rattle.lists.specs.Cases.{split, lt-or-le}
+use Rattle.format.specs.Diskette.{Bytes, Geometry, Sound, recordBytes, imageBytes, offsetOf, withRecord}
+use Rattle.format.specs.Entries.{entryBytes, entryPlace, entryAt, withEntry, empty}
+use Rattle.format.specs.Notes.{freeNote, noteAt}
+use Rattle.disk.specs.Places.{blockRecords}
+use Rattle.disk.specs.Records.{record-byte-left}
+use Rattle.rows.specs.Entries.{entry-byte-left}
+use Rattle.model.specs.Target.{placeIn}
+use Rattle.effects.specs.View.{viewOf, Names, Mine}
+
+-- byte i lies in entry e, or in disk record d
+pub record InEntry (G : Geometry) (e i : ℕ) : Type 0 where
+  pub low : e < G .entries
+  pub from : entryPlace G e ≤ i
+  pub upto : i < entryPlace G e + entryBytes
+
+pub record InRecord (G : Geometry) (d i : ℕ) : Type 0 where
+  pub from : offsetOf G d ≤ i
+  pub upto : i < offsetOf G d + recordBytes
+
+-- byte i lies in an entry that N names, in an empty entry that became one, or in a record that W allows
+pub data Where (G : Geometry) (img img′ : Bytes) (N : Names) (W : ℕ → Type 0) (i : ℕ) : Type 0 where
+  in-entry : (e : ℕ) → InEntry G e i → N (entryAt G img e) ≡ true → Where G img img′ N W i
+  in-new : (e : ℕ) → InEntry G e i → empty (entryAt G img e) ≡ true → N (entryAt G img′ e) ≡ true → Where G img img′ N W i
+  in-record : (d : ℕ) → InRecord G d i → W d → Where G img img′ N W i
+
+-- each byte stays, or lies there
+abbrev pub Frame : Geometry → Bytes → Bytes → Names → (ℕ → Type 0) → Type 0
+Frame G img img′ N W = (i : ℕ) → (getD img′ i 0 ≡ getD img i 0) ⊎ Where G img img′ N W i
+
+-- no record is written
+abbrev pub NoRecord : ℕ → Type 0
+NoRecord d = ⊥
+
+-- block b was free, or belonged to an entry that N names
+pub data Theirs (G : Geometry) (img map : Bytes) (N : Names) (b : ℕ) : Type 0 where
+  was-free : noteAt map b ≡ freeNote → Theirs G img map N b
+  was-theirs : (e : ℕ) → Mine G (viewOf G img map) b e → N (entryAt G img e) ≡ true → Theirs G img map N b
+
+-- disk record d is record rec of an extent, in block b, which was free or theirs
+pub record OneRecord (G : Geometry) (img map : Bytes) (N : Names) (b rec d : ℕ) : Type 0 where
+  pub is : d ≡ placeIn G b rec
+  pub below : b < G .blocks
+  pub theirs : Theirs G img map N b
+
+-- ---- nothing done, and changes that follow one another
+pub same-frame : (G : Geometry) (img : Bytes) (N : Names) (W : ℕ → Type 0) → Frame G img img N W
+same-frame G img N W i = inl refl
+
+module _ (G : Geometry) (img mid img′ : Bytes) (N : Names) (W : ℕ → Type 0)
+    (stay : (e : ℕ) → e < G .entries → N (entryAt G mid e) ≡ true → N (entryAt G img′ e) ≡ true) where
+  where-on : (i : ℕ) → Where G img mid N W i → Where G img img′ N W i
+  where-on i (in-entry e p n) = in-entry e p n
+  where-on i (in-new e p z n) = in-new e p z (stay e (p .low) n)
+  where-on i (in-record d p w) = in-record d p w
+
+  -- what the second change touches lies in entries that were named, or empty, before the first
+  pub then-frame : Frame G img mid N W → ((i : ℕ) → (getD img′ i 0 ≡ getD mid i 0) ⊎ Where G img img′ N W i) → Frame G img img′ N W
+  then-frame f g i = split (g i) (λ q. split (f i) (λ p. inl (q ∙ p)) (λ p. inr (where-on i p))) (λ p. inr p)
+
+-- N and M name the same rows, U and W allow the same records
+pub frame-more : (G : Geometry) (img img′ : Bytes) (M N : Names) (U W : ℕ → Type 0) → ((r : Bytes) → M r ≡ true → N r ≡ true)
+    → ((d : ℕ) → U d → W d) → Frame G img img′ M U → Frame G img img′ N W
+frame-more G img img′ M N U W more wide f i = split (f i) (λ q. inl q) (λ p. inr (go p))
+  where
+    go : Where G img img′ M U i → Where G img img′ N W i
+    go (in-entry e p n) = in-entry e p (more (entryAt G img e) n)
+    go (in-new e p z n) = in-new e p z (more (entryAt G img′ e) n)
+    go (in-record d p w) = in-record d p (wide d w)
+
+-- ---- one entry stored, one record written
+module _ {G : Geometry} (S : Sound G) (img : Bytes) (long : length img ≡ imageBytes G) where
+  pub entry-or-same : (e : ℕ) → e < G .entries → (row : Bytes) → length row ≡ entryBytes → (i : ℕ)
+      → (getD (withEntry G img e row) i 0 ≡ getD img i 0) ⊎ InEntry G e i
+  entry-or-same e he row lr i =
+      split (lt-or-le i (entryPlace G e)) (λ l. inl (entry-byte-left S img long e he row lr i (inl l)))
+      (λ l. split (lt-or-le i (entryPlace G e + entryBytes)) (λ h. inr record { low = he; from = l; upto = h })
+      (λ h. inl (entry-byte-left S img long e he row lr i (inr h))))
+
+  pub record-or-same : (d : ℕ) → d < blockRecords G → (bytes : Bytes) → length bytes ≡ recordBytes → (i : ℕ)
+      → (getD (withRecord G img d bytes) i 0 ≡ getD img i 0) ⊎ InRecord G d i
+  record-or-same d hd bytes lb i =
+      split (lt-or-le i (offsetOf G d)) (λ l. inl (record-byte-left S img long d hd bytes lb i (inl l)))
+      (λ l. split (lt-or-le i (offsetOf G d + recordBytes)) (λ h. inr record { from = l; upto = h })
+      (λ h. inl (record-byte-left S img long d hd bytes lb i (inr h))))
+
+-- what was theirs is so by a naming that has more
+pub theirs-more : (G : Geometry) (img map : Bytes) (M N : Names) → ((r : Bytes) → M r ≡ true → N r ≡ true) → (b : ℕ) → Theirs G img map M b → Theirs G img map N b
+theirs-more G img map M N more b (was-free z) = was-free z
+theirs-more G img map M N more b (was-theirs e m n) = was-theirs e m (more (entryAt G img e) n)
+
+pub one-more : (G : Geometry) (img map : Bytes) (M N : Names) → ((r : Bytes) → M r ≡ true → N r ≡ true) → (b rec d : ℕ)
+    → OneRecord G img map M b rec d → OneRecord G img map N b rec d
+one-more G img map M N more b rec d o = record { is = o .is; below = o .below; theirs = theirs-more G img map M N more b (o .theirs) }

@@ -1,0 +1,164 @@
+-- A plan that is to be followed names entries and a block of the disk, and a record of an extent below 2,048.
+use mathlib.Core.Path.{_≡_, refl, sym, ap, subst, _∙_}
+use mathlib.Core.Bool.{true}
+use Prim.Native.Nat.{ℕ, _≤_, _<_}
+use native.Mathlib.Omega.{arith}
+use lib.ListN.{length, List·getD-eq-default}
+use borrow.Author.Tests.{leb-false, eq-eqb, not-false}
+use Rattle.lists.specs.Cases.{split, bool-cases, lt-or-le}
+use Rattle.format.specs.Diskette.{Bytes, Geometry, Sound}
+use Rattle.format.specs.Entries.{slotCount, slotOf, userOf, findFile}
+use Rattle.format.specs.Consistent.{consistent}
+use Rattle.format.specs.Notes.{noteAt, pendingFor}
+use Rattle.format.specs.FoundLaws.{FoundAt, found-cases}
+use Rattle.format.specs.declared.Found.the-variants.{At}
+use Rattle.model.specs.declared.Verdict.{Verdict}
+use Rattle.model.specs.declared.Verdict.the-variants.{Passed, Refused}
+use Rattle.model.specs.declared.Session.{Session}
+use Rattle.model.specs.declared.Plan.{Plan}
+use Rattle.model.specs.declared.Plan.the-variants.{Stay, Move, Make}
+use Rattle.model.specs.Lent.{Lent, rowsOf}
+use Rattle.model.specs.Target.{extents, targetExtent, targetRecord, targetSlot, crAfter, presentEntry, stays, targetEntry, blockThere, plan}
+use Rattle.model.specs.Table.{firstRow}
+use Rattle.consistency.specs.Reflect.{low-used, consistent-facts}
+use Rattle.notes.specs.Numbers.{pending-not-free}
+use Rattle.notes.specs.Free.{free-is}
+use Rattle.rows.specs.Find.{empty-says}
+use Rattle.current.specs.Current.{Current, SlotOk, slot-same, slot-pending, fcb-says, current-says, current-slot, current-low}
+use Rattle.fields.specs.Target.{record-below, crAfter-high, targetSlot-below}
+use Rattle.table.specs.First.{passed-none}
+use Rattle.table.specs.Present.{file-below, file-user, file-extent-below}
+use Rattle.table.specs.Facts.{Reads, Writes}
+use Rattle.table.specs.Reflect.{found, second-fails, either-found}
+use Rattle.table.specs.Plans.{Block, there, free, There, Planned, stay, move, make, planned-read, planned-write}
+use Rattle.rulings.specs.declared.Ruling.the-variants.{Follow}
+use Rattle.rulings.specs.Ruling.{rulingOf, readRows, writeRows, readRuling, writeRuling}
+
+-- ---- the entries and the block of a plan
+abbrev pub Within : Geometry → Plan → Type 0
+Within G (Stay e b) = (e < G .entries) × (b < G .blocks)
+Within G (Move e t b) = (e < G .entries) × (t < G .entries) × (b < G .blocks)
+Within G (Make e t b) = (e < G .entries) × (t < G .entries) × (b < G .blocks)
+
+-- a plan to be followed, for the target of call n
+pub record Sure (G : Geometry) (n : ℕ) (fcb : Bytes) (p : Plan) : Type 0 where
+  pub within : Within G p
+  pub extent : targetExtent n fcb < extents
+  pub at : targetRecord n fcb < 128
+  pub after : crAfter n fcb ≤ 128
+
+-- ---- blocks in slots
+-- only blocks have pending notes
+pending-block : (map : Bytes) (b e j : ℕ) → noteAt map b ≡ pendingFor e j → b < length map
+pending-block map b e j q =
+    split (lt-or-le b (length map)) (λ h. h) (λ h. absurd (pending-not-free e j (sym q ∙ List·getD-eq-default map 0 h)))
+
+-- ---- a ruling to follow a plan
+follow-passed : (v : Verdict) (q p : Plan) → rulingOf v q ≡ Follow p → v ≡ Passed
+follow-passed Passed q p h = refl
+follow-passed (Refused code) q p h = absurd (let z : _≡_ {A = ℕ} 0 1 = cc in omega arith)
+
+follow-plan : (v : Verdict) (q p : Plan) → rulingOf v q ≡ Follow p → q ≡ p
+follow-plan Passed q p h = cc
+follow-plan (Refused code) q p h = absurd (let z : _≡_ {A = ℕ} 0 1 = cc in omega arith)
+
+module _ {G : Geometry} (S : Sound G) (n : ℕ) (l : Lent) (s : Session) (map-long : length (l .map) ≡ G .blocks)
+    (right : consistent G (l .image) ≡ true) (low : s .user ≤ 15) where
+  -- the entry of a file that was found: a block in a slot of it
+  row-block : (name : Bytes) (q ext t j b : ℕ) → findFile G (rowsOf G l) (s .user) name q ext ≡ At t → j < slotCount → slotOf (rowsOf G l t) j ≡ b → (b ≡ 0 → ⊥) → b < G .blocks
+  unfolding consistent
+  row-block name q ext t j b found h is real =
+      let mine : userOf (rowsOf G l t) ≡ s .user = file-user G (rowsOf G l) (s .user) name q ext t found in
+      let fine = consistent-facts G (rowsOf G l) right .fine t (file-below G (rowsOf G l) (s .user) name q ext t found) (low-used (rowsOf G l t) (omega arith)) in
+      subst (λ (x : ℕ). x < G .blocks) is (fine .high j h (λ z. real (sym is ∙ z)))
+
+  module _ (e : ℕ) (at : presentEntry G (s .user) l ≡ At e) where
+    present : Current G (rowsOf G l) (l .map) (s .user) (l .fcb) e
+    unfolding presentEntry
+    present = current-says G (rowsOf G l) (l .map) (s .user) (l .fcb) e at
+
+    e-below : e < G .entries
+    e-below = current-low G (rowsOf G l) (l .map) (s .user) (l .fcb) e present
+
+    record-low : targetRecord n (l .fcb) < 128
+    record-low = record-below n (l .fcb) (fcb-says (l .fcb) (present .right) .cr)
+
+    after-low : crAfter n (l .fcb) ≤ 128
+    after-low = crAfter-high n (l .fcb) (fcb-says (l .fcb) (present .right) .cr)
+
+    slot-low : targetSlot G n (l .fcb) < slotCount
+    slot-low = targetSlot-below S n (l .fcb) (fcb-says (l .fcb) (present .right) .cr)
+
+    -- a block in a slot of the FCB
+    fcb-block : (j b : ℕ) → j < slotCount → slotOf (l .fcb) j ≡ b → (b ≡ 0 → ⊥) → b < G .blocks
+    fcb-block j b h is real = fits (current-slot G (rowsOf G l) (l .map) (s .user) (l .fcb) e present j h)
+      where
+        fits : SlotOk (l .map) e (rowsOf G l e) (l .fcb) j → b < G .blocks
+        fits (slot-same q) = row-block (l .fcb) 1 _ e j b (present .found) h (sym q ∙ is) real
+        fits (slot-pending z q) =
+            subst (λ (x : ℕ). b < x) map-long (pending-block (l .map) b e j (ap (noteAt (l .map)) (sym is) ∙ q))
+
+    -- the block that is there, and the one that is used
+    block-low : (b : ℕ) → blockThere G n (s .user) l ≡ b → (b ≡ 0 → ⊥) → b < G .blocks
+    unfolding blockThere targetEntry
+    block-low b q real =
+        split (bool-cases (stays n (l .fcb)))
+        (λ y. let is : slotOf (l .fcb) (targetSlot G n (l .fcb)) ≡ b = rw y at q in fcb-block (targetSlot G n (l .fcb)) b slot-low is real)
+        (λ f. found-cases (targetEntry G n (s .user) l)
+        (λ t w. let is : slotOf (rowsOf G l t) (targetSlot G n (l .fcb)) ≡ b = rw (f, w) at q in
+        row-block (l .fcb) 1 (targetExtent n (l .fcb)) t (targetSlot G n (l .fcb)) b w slot-low is real)
+        (λ w. let is : 0 ≡ b = rw (f, w) at q in absurd (real (sym is))))
+
+  there-block : (e : ℕ) → presentEntry G (s .user) l ≡ At e → (b : ℕ) → There G n (s .user) l b → b < G .blocks
+  there-block e at b t = block-low e at b (t .is) (t .real)
+
+  some-block : (e : ℕ) → presentEntry G (s .user) l ≡ At e → (b : ℕ) → Block G n (s .user) l b → b < G .blocks
+  some-block e at b (there q real) = block-low e at b q real
+  some-block e at b (free z q) = free-is G (l .map) b q .below
+
+  -- a plan whose block is one of the disk's
+  plan-within : (B : ℕ → Type 0) → ((e : ℕ) → presentEntry G (s .user) l ≡ At e → (b : ℕ) → B b → b < G .blocks)
+      → (p : Plan) → Planned G n (s .user) l B p → Within G p
+  unfolding targetEntry
+  plan-within B k p (stay e b at y target x) = (e-below e at, k e at b x)
+  plan-within B k p (move e t b at y target x) =
+      (e-below e at, file-below G (rowsOf G l) (s .user) (l .fcb) 1 (targetExtent n (l .fcb)) t target, k e at b x)
+  plan-within B k p (make e t b at y target room x) = (e-below e at, empty-says G (rowsOf G l) t room .below, k e at b x)
+
+  -- ---- the two rulings
+  sure : (B : ℕ → Type 0) → ((e : ℕ) → presentEntry G (s .user) l ≡ At e → (b : ℕ) → B b → b < G .blocks)
+      → Planned G n (s .user) l B (plan G n (s .user) l) → FoundAt (presentEntry G (s .user) l) → targetExtent n (l .fcb) < extents
+      → (p : Plan) → plan G n (s .user) l ≡ p → Sure G n (l .fcb) p
+  sure B k planned entry below p q = record {
+    within = rw (← q) (plan-within B k (plan G n (s .user) l) planned);
+    extent = below;
+    at = record-low (entry .place) (entry .is);
+    after = after-low (entry .place) (entry .is);
+  }
+
+  pub read-sure : (p : Plan) → readRuling G n (s .user) l ≡ Follow p → Sure G n (l .fcb) p
+  unfolding readRuling readRows targetEntry
+  read-sure p h =
+      let v : Verdict = firstRow (readRows G n (s .user) l) in
+      let none = passed-none (readRows G n (s .user) l) (follow-passed v (plan G n (s .user) l) p h) in
+      let entry = found _ (none .1 .0) in
+      let target = found _ (none .1 .1 .0) in
+      let below = file-extent-below G (l .image) (s .user) (l .fcb) 1 (targetExtent n (l .fcb)) (target .place) right low (target .is) in
+      let reads : Reads G l s n = record { entry = entry; target = target; extent = below; there = not-false _ (none .1 .1 .1 .0) } in
+      sure (There G n (s .user) l) there-block (planned-read G n l s reads) entry below p (follow-plan v (plan G n (s .user) l) p h)
+
+  pub write-sure : (p : Plan) → writeRuling G n (s .user) l ≡ Follow p → Sure G n (l .fcb) p
+  unfolding writeRuling writeRows
+  write-sure p h =
+      let v : Verdict = firstRow (writeRows G n (s .user) l) in
+      let none = passed-none (writeRows G n (s .user) l) (follow-passed v (plan G n (s .user) l) p h) in
+      let entry = found _ (none .1 .0) in
+      let below = leb-false _ _ (none .1 .1 .1 .0) in
+      let writes : Writes G l s n = record {
+        entry = entry;
+        writable = none .1 .1 .0;
+        extent = below;
+        room = either-found _ _ (none .1 .1 .1 .1 .0);
+        block = λ z. found _ (second-fails _ _ (none .1 .1 .1 .1 .1 .0) (eq-eqb _ _ z));
+      } in
+      sure (Block G n (s .user) l) some-block (planned-write G n l s writes) entry below p (follow-plan v (plan G n (s .user) l) p h)

@@ -1,0 +1,220 @@
+-- The rulings by what the look-ups have found: one law for each way in which a record call is told what to do.
+use mathlib.Core.Path.{_≡_, refl, sym, ap, _∙_}
+use mathlib.Core.Bool.{Bool, true, false, not, cond}
+use mathlib.Core.List.{List}
+use Prim.Native.Nat.{ℕ, _≤_, _<_}
+use lib.Dec.{eqb, leb, ltb}
+use borrow.Author.Tests.{eq-eqb, ne-eqb, lt-ltb, le-ltb, not-true}
+use Rattle.lists.specs.Cases.{split, bool-cases}
+use Rattle.lists.specs.Tests.{_and_, and-right, and-fails-left, and-fails-right, and-both, or-left, or-then}
+use Rattle.format.specs.Diskette.{Bytes, Geometry}
+use Rattle.format.specs.Entries.{Rows, extentOf, readOnly, findEmpty}
+use Rattle.format.specs.Notes.{findFree}
+use Rattle.format.specs.Found.{isFound}
+use Rattle.format.specs.FoundLaws.{at-once, at-not-nothing, found-cases}
+use Rattle.format.specs.declared.Found.{Found}
+use Rattle.format.specs.declared.Found.the-variants.{At, Nothing}
+use Rattle.model.specs.declared.Code.{Code}
+use Rattle.model.specs.declared.Code.the-variants.{BadRecord, NotCurrent, ReadOnly, NoExtent, NoRecord, NoEntry, DiskFull}
+use Rattle.model.specs.declared.Plan.{Plan}
+use Rattle.model.specs.declared.Plan.the-variants.{Make}
+use Rattle.model.specs.Lent.{Lent, rowsOf}
+use Rattle.model.specs.Target.{extents, targetExtent, targetRecord, targetSlot, presentEntry, stays, targetEntry, blockThere, countThere, recordThere, targetBlock, readOnlyThere, planFrom, plan}
+use Rattle.model.specs.Table.{Row, firstRow}
+use Rattle.fields.specs.Target.{moves-extent}
+use Rattle.table.specs.First.{_&_, NoneHolds, Decides, here, later, none-passed, decides-refused}
+use Rattle.table.specs.Present.{current-elim, file-extent, target-present}
+use Rattle.rulings.specs.declared.Ruling.{Ruling}
+use Rattle.rulings.specs.declared.Ruling.the-variants.{Refuse, Follow}
+use Rattle.targets.specs.Target.{overLast, missingCode, arrivedSlot, arrivedCount, goTo}
+use Rattle.rulings.specs.Ruling.{rulingOf, readRows, writeRows, readRuling, writeRuling, readTo, guarded, readOnlyFound, blockFor, withBlock, writeNew, writeTo}
+
+-- ---- the ruling of a list of rows
+refuses : (c : Code) (rows : List Row) (p : Plan) → Decides c rows → rulingOf (firstRow rows) p ≡ Refuse c
+refuses c rows p d = rw (decides-refused c rows d)
+
+follows : (rows : List Row) (p q : Plan) → NoneHolds rows → p ≡ q → rulingOf (firstRow rows) p ≡ Follow q
+follows rows p q none h = rw (none-passed rows none, h)
+
+-- the tests of look-ups
+hit : (r : Found) {e : ℕ} → r ≡ At e → not (isFound r) ≡ false
+hit r q = ap (λ (r : Found). not (isFound r)) q
+
+miss : (r : Found) → r ≡ Nothing → not (isFound r) ≡ true
+miss r q = ap (λ (r : Found). not (isFound r)) q
+
+module _ (G : Geometry) (n user : ℕ) (l : Lent) (e : ℕ) (at : presentEntry G user l ≡ At e) where
+  -- ---- the FCB's entry e and the target's t are one exactly where there is no move
+  pub stays-by : (t : ℕ) → targetEntry G n user l ≡ At t → stays n (l .fcb) ≡ eqb t e
+  unfolding presentEntry targetEntry
+  stays-by t q =
+      split (bool-cases (stays n (l .fcb)))
+      (λ y. y ∙ sym (eq-eqb t e (at-once t e (sym q ∙ target-present G n user l e at y))))
+      (λ f. f ∙ sym (ne-eqb t e (λ z. moves-extent n (l .fcb) f
+      (sym (file-extent G (rowsOf G l) user (l .fcb) 1 (targetExtent n (l .fcb)) t q) ∙ ap (λ (k : ℕ). extentOf (rowsOf G l k)) z
+      ∙ file-extent G (rowsOf G l) user (l .fcb) 1 (extentOf (l .fcb)) e (current-elim G (rowsOf G l) (l .map) user (l .fcb) e at .entry)))))
+
+  -- without an entry the target is in another extent
+  moves : targetEntry G n user l ≡ Nothing → stays n (l .fcb) ≡ false
+  moves q = split (bool-cases (stays n (l .fcb))) (λ y. absurd (at-not-nothing e (sym (target-present G n user l e at y) ∙ q))) (λ f. f)
+
+  module _ (t : ℕ) (target : targetEntry G n user l ≡ At t) where
+    block-by : blockThere G n user l ≡ arrivedSlot (rowsOf G l) (l .fcb) e t (targetSlot G n (l .fcb))
+    unfolding blockThere arrivedSlot
+    block-by = rw (stays-by t target, target)
+
+    count-by : countThere G n user l ≡ arrivedCount (rowsOf G l) (l .fcb) e t (targetExtent n (l .fcb))
+    unfolding countThere arrivedCount
+    count-by = rw (stays-by t target, target)
+
+    plan-by : (b : ℕ) → targetBlock G n user l ≡ b → plan G n user l ≡ goTo e t b
+    unfolding plan planFrom goTo
+    plan-by b q = rw (at, stays-by t target, target, q)
+
+  module _ (none : targetEntry G n user l ≡ Nothing) where
+    block-none : blockThere G n user l ≡ 0
+    unfolding blockThere
+    block-none = rw (moves none, none)
+
+    plan-new : (t b : ℕ) → findEmpty G (rowsOf G l) ≡ At t → targetBlock G n user l ≡ b → plan G n user l ≡ Make e t b
+    unfolding plan planFrom
+    plan-new t b m q = rw (at, moves none, none, m, q)
+
+-- ---- the target's block
+module _ (G : Geometry) (n user : ℕ) (l : Lent) where
+  block-there : eqb (blockThere G n user l) 0 ≡ false → targetBlock G n user l ≡ blockThere G n user l
+  unfolding targetBlock
+  block-there z = rw z
+
+  block-free : (b : ℕ) → eqb (blockThere G n user l) 0 ≡ true → findFree G (l .map) ≡ At b → targetBlock G n user l ≡ b
+  unfolding targetBlock
+  block-free b z q = rw (z, q)
+
+-- ---- 20 and 33
+module _ (G : Geometry) (n user : ℕ) (l : Lent) where
+  pub read-over : overLast n (targetExtent n (l .fcb)) ≡ true → readRuling G n user l ≡ Refuse BadRecord
+  unfolding readRuling readRows
+  read-over h = refuses BadRecord _ _ (here h refl)
+
+  module _ (in-range : overLast n (targetExtent n (l .fcb)) ≡ false) where
+    pub read-stale : presentEntry G user l ≡ Nothing → readRuling G n user l ≡ Refuse NotCurrent
+    unfolding readRuling readRows
+    read-stale q = refuses NotCurrent _ _ (later in-range (here (miss _ q) refl))
+
+    module _ (e : ℕ) (at : presentEntry G user l ≡ At e) where
+      pub read-missing : targetEntry G n user l ≡ Nothing → readRuling G n user l ≡ Refuse (missingCode n NoExtent)
+      unfolding readRuling readRows
+      read-missing q =
+          refuses (missingCode n NoExtent) _ _
+          (later in-range (later (hit _ at) (here (miss _ q) refl)))
+
+      pub read-found : (t : ℕ) → targetEntry G n user l ≡ At t
+          → readRuling G n user l ≡ readTo (rowsOf G l) (l .fcb) e t (targetExtent n (l .fcb)) (targetSlot G n (l .fcb)) (targetRecord n (l .fcb))
+      unfolding readRuling readRows readTo recordThere
+      read-found t q =
+          let chosen : Bool → Ruling = λ (x : Bool). cond x (Follow (goTo e t (blockThere G n user l))) (Refuse NoRecord) in
+          rw (← block-by G n user l e at t q, ← count-by G n user l e at t q)
+          (split (bool-cases (recordThere G n user l))
+          (λ y. follows _ _ _ (in-range & hit _ at & hit _ q & ap not y & tt)
+          (plan-by G n user l e at t q (blockThere G n user l) (block-there G n user l (not-true _ (and-right _ _ y)))) ∙ sym (ap chosen y))
+          (λ f. refuses NoRecord _ _ (later in-range (later (hit _ at) (later (hit _ q) (here (ap not f) refl)))) ∙ sym (ap chosen f)))
+
+-- ---- 21 and 34
+module _ (G : Geometry) (n user : ℕ) (l : Lent) where
+  pub write-over : overLast n (targetExtent n (l .fcb)) ≡ true → writeRuling G n user l ≡ Refuse BadRecord
+  unfolding writeRuling writeRows
+  write-over h = refuses BadRecord _ _ (here h refl)
+
+  module _ (in-range : overLast n (targetExtent n (l .fcb)) ≡ false) where
+    pub write-stale : presentEntry G user l ≡ Nothing → writeRuling G n user l ≡ Refuse NotCurrent
+    unfolding writeRuling writeRows
+    write-stale q = refuses NotCurrent _ _ (later in-range (here (miss _ q) refl))
+
+    module _ (e : ℕ) (at : presentEntry G user l ≡ At e) where
+      guarded-is : readOnlyThere G n user l ≡ guarded (rowsOf G l) e (targetEntry G n user l)
+      unfolding readOnlyThere guarded
+      guarded-is = rw at (found-cases (targetEntry G n user l) (λ t q. rw q) (λ q. rw q))
+
+      pub write-guarded : guarded (rowsOf G l) e (targetEntry G n user l) ≡ true → writeRuling G n user l ≡ Refuse ReadOnly
+      unfolding writeRuling writeRows
+      write-guarded h =
+          refuses ReadOnly _ _ (later in-range (later (hit _ at) (here (guarded-is ∙ h) refl)))
+
+      module _ (writable : guarded (rowsOf G l) e (targetEntry G n user l) ≡ false) where
+        pub write-past : leb extents (targetExtent n (l .fcb)) ≡ true → writeRuling G n user l ≡ Refuse NoRecord
+        unfolding writeRuling writeRows
+        write-past h =
+            refuses NoRecord _ _
+            (later in-range (later (hit _ at) (later (guarded-is ∙ writable) (here h refl))))
+
+        module _ (below : leb extents (targetExtent n (l .fcb)) ≡ false) where
+          -- the rows that are left are those of the entry and of the block
+          write-there : (t : ℕ) → targetEntry G n user l ≡ At t
+              → writeRuling G n user l ≡ withBlock (goTo e t) (blockFor G (l .map) (arrivedSlot (rowsOf G l) (l .fcb) e t (targetSlot G n (l .fcb))))
+          unfolding writeRuling writeRows blockFor
+          write-there t q =
+              let block : Found → Ruling = withBlock (goTo e t) in
+              rw (← block-by G n user l e at t q)
+              (split (bool-cases (eqb (blockThere G n user l) 0))
+              (λ z. let want : blockFor G (l .map) (blockThere G n user l) ≡ findFree G (l .map) = rw z in
+              found-cases (findFree G (l .map))
+              (λ b f. follows _ _ _
+              (in-range & hit _ at & (guarded-is ∙ writable) & below & and-fails-left _ _ (hit _ q) & and-fails-right _ _ (hit _ f) & tt)
+              (plan-by G n user l e at t q b (block-free G n user l b z f)) ∙ sym (ap block (want ∙ f)))
+              (λ f. refuses DiskFull _ _
+              (later in-range (later (hit _ at) (later (guarded-is ∙ writable) (later below (later (and-fails-left _ _ (hit _ q))
+              (here (and-both _ _ z (miss _ f)) refl)))))) ∙ sym (ap block (want ∙ f))))
+              (λ z. let kept : blockFor G (l .map) (blockThere G n user l) ≡ At (blockThere G n user l) = rw z in
+              follows _ _ _
+              (in-range & hit _ at & (guarded-is ∙ writable) & below & and-fails-left _ _ (hit _ q) & and-fails-left _ _ z & tt)
+              (plan-by G n user l e at t q (blockThere G n user l) (block-there G n user l z)) ∙ sym (ap block kept)))
+
+          write-made : targetEntry G n user l ≡ Nothing → writeRuling G n user l ≡ writeNew G (rowsOf G l) (l .map) (missingCode n NoEntry) e
+          unfolding writeRuling writeRows writeNew
+          write-made q =
+              let z : eqb (blockThere G n user l) 0 ≡ true = eq-eqb _ _ (block-none G n user l e at q) in
+              found-cases (findEmpty G (rowsOf G l))
+              (λ t m. found-cases (findFree G (l .map))
+              (λ b f. follows _ _ _
+              (in-range & hit _ at & (guarded-is ∙ writable) & below & and-fails-right _ _ (hit _ m) & and-fails-right _ _ (hit _ f) & tt)
+              (plan-new G n user l e at q t b m (block-free G n user l b z f)) ∙ sym (rw (m, f)))
+              (λ f. refuses DiskFull _ _
+              (later in-range (later (hit _ at) (later (guarded-is ∙ writable) (later below (later (and-fails-right _ _ (hit _ m))
+              (here (and-both _ _ z (miss _ f)) refl)))))) ∙ sym (rw (m, f))))
+              (λ m. refuses (missingCode n NoEntry) _ _
+              (later in-range (later (hit _ at) (later (guarded-is ∙ writable) (later below (here (and-both _ _ (miss _ q) (miss _ m)) refl))))) ∙ sym (rw m))
+
+          pub write-found : writeRuling G n user l
+              ≡ writeTo G (rowsOf G l) (l .map) (l .fcb) (missingCode n NoEntry) e (targetSlot G n (l .fcb)) (targetEntry G n user l)
+          write-found = found-cases (targetEntry G n user l) (λ t q. write-there t q ∙ rw q) (λ q. write-made q ∙ rw q)
+
+-- ---- the parts, from what the callees have answered
+module _ (d : Rows) (fcb : Bytes) (e t ext j r : ℕ) where
+  pub read-short : (x : ℕ) → x ≡ arrivedCount d fcb e t ext → x ≤ r → Refuse NoRecord ≡ readTo d fcb e t ext j r
+  unfolding readTo
+  read-short x q h =
+      let f : ltb r (arrivedCount d fcb e t ext) ≡ false = rw (← q) (le-ltb r x h) in
+      sym (ap (λ (b : Bool). cond b (Follow (goTo e t (arrivedSlot d fcb e t j))) (Refuse NoRecord)) (and-fails-left _ _ f))
+
+  pub read-empty : (b : ℕ) → b ≡ arrivedSlot d fcb e t j → b ≡ 0 → Refuse NoRecord ≡ readTo d fcb e t ext j r
+  unfolding readTo
+  read-empty b q h =
+      sym (ap (λ (b : Bool). cond b (Follow (goTo e t (arrivedSlot d fcb e t j))) (Refuse NoRecord)) (and-fails-right _ _ (ap not (eq-eqb _ _ (sym q ∙ h)))))
+
+  pub read-there : (x b : ℕ) (p : Plan) → x ≡ arrivedCount d fcb e t ext → r < x → b ≡ arrivedSlot d fcb e t j → (b ≡ 0 → ⊥)
+      → p ≡ goTo e t b → Follow p ≡ readTo d fcb e t ext j r
+  unfolding readTo
+  read-there x b p q h s real is =
+      let y : ltb r (arrivedCount d fcb e t ext) ≡ true = rw (← q) (lt-ltb r x h) in
+      ap Follow (is ∙ ap (goTo e t) s)
+      ∙ sym (ap (λ (b : Bool). cond b (Follow (goTo e t (arrivedSlot d fcb e t j))) (Refuse NoRecord))
+      (and-both _ _ y (ap not (ne-eqb _ _ (λ z. real (s ∙ z))))))
+
+module _ (d : Rows) (e : ℕ) (target : Found) where
+  pub guarded-here : readOnly (d e) ≡ true → guarded d e target ≡ true
+  unfolding guarded
+  guarded-here h = or-left _ _ h
+
+  pub guarded-there : (r : Found) → readOnly (d e) ≡ false → target ≡ r → guarded d e target ≡ readOnlyFound d r
+  unfolding guarded
+  guarded-there r h q = or-then _ _ h ∙ ap (readOnlyFound d) q

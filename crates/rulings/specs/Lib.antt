@@ -1,0 +1,4 @@
+pub mod Ruling
+pub mod Laws
+pub mod Own
+pub mod Bounds

@@ -1,0 +1,42 @@
+-- The test is the definition's.
+use borrow.Author.Tests.{eq-eqb, ne-eqb}
+use Rattle.format.specs.Entries.{slotOf}
+use Rattle.targets.specs.Target.{arrivedSlot}
+use borrow.Author.Needs.{needs}
+use Rattle.targets.proofs.arrived_slot.Statement.{statement}
+use Rattle.targets.proofs.arrived_slot.Tie as tie
+
+add-result : tie.Need-add-result
+add-result c = search needs
+
+shared-slice-read-result : tie.Need-shared-slice-read-result
+shared-slice-read-result c = search needs
+
+returns : tie.Need-returns
+unfolding arrivedSlot slotOf
+returns c = rw (eq-eqb _ _ (c .before .if1 .taken))
+
+row-requires : tie.Need-row-requires
+row-requires c κs = search needs
+
+add-result-2 : tie.Need-add-result-2
+add-result-2 c = search needs
+
+shared-slice-read-result-2 : tie.Need-shared-slice-read-result-2
+shared-slice-read-result-2 c = search needs
+
+returns-2 : tie.Need-returns-2
+unfolding arrivedSlot slotOf
+returns-2 c = rw (ne-eqb _ _ (c .before .before .if1 .left), c .before .row .ensures .0)
+
+pub arrived-slot-spec : {M : Type 1} → statement M
+arrived-slot-spec =
+    tie.close
+    (tie.spec
+    add-result
+    shared-slice-read-result
+    returns
+    row-requires
+    add-result-2
+    shared-slice-read-result-2
+    returns-2)

@@ -1,0 +1,38 @@
+-- The target of a record call as code has it, and what the FCB will find there.
+use mathlib.Core.Path.{_≡_}
+use mathlib.Core.Bool.{Bool, cond}
+use Prim.Native.Nat.{ℕ, max}
+use lib.Dec.{eqb, leb}
+use Rattle.lists.specs.Tests.{_and_}
+use Rattle.format.specs.Diskette.{Bytes}
+use Rattle.format.specs.Entries.{Rows, rcOf, slotOf, countIn}
+use Rattle.model.specs.declared.Code.{Code}
+use Rattle.model.specs.declared.Code.the-variants.{NoRecord}
+use Rattle.model.specs.declared.Plan.{Plan}
+use Rattle.model.specs.declared.Plan.the-variants.{Stay, Move}
+use Rattle.model.specs.Target.{extents, isRandom, targetExtent, targetRecord, crAfter}
+use Rattle.targets.specs.declared.Target.{Target}
+
+pub record TargetOf (n : ℕ) (fcb : Bytes) (t : Target) : Type 0 where
+  pub extent : t .extent ≡ targetExtent n fcb
+  pub at : t .at ≡ targetRecord n fcb
+  pub after : t .after ≡ crAfter n fcb
+
+-- the random record is over 262,143: its extent is past the last
+unfoldable pub overLast : ℕ → ℕ → Bool
+overLast n ext = isRandom n and leb extents ext
+
+-- the code where the target's extent has no entry and that refuses the call: 33 and 34 have codes of their own
+unfoldable pub missingCode : ℕ → Code → Code
+missingCode n random = cond (isRandom n) random NoRecord
+
+-- ---- from the FCB's entry e to the target's entry t: they are one exactly where there is no move
+-- the slot and the count as the FCB has them once it has come there: its own, or those of the entry moved to
+unfoldable pub arrivedSlot : Rows → Bytes → ℕ → ℕ → ℕ → ℕ
+arrivedSlot d fcb e t j = cond (eqb t e) (slotOf fcb j) (slotOf (d t) j)
+
+unfoldable pub arrivedCount : Rows → Bytes → ℕ → ℕ → ℕ → ℕ
+arrivedCount d fcb e t ext = cond (eqb t e) (max (rcOf fcb) (countIn (d t) ext)) (countIn (d t) ext)
+
+unfoldable pub goTo : ℕ → ℕ → ℕ → Plan
+goTo e t b = cond (eqb t e) (Stay e b) (Move e t b)

@@ -1,0 +1,133 @@
+// Where the record calls 20, 21, 33 and 34 go: the target, its entry, and its slot and count as the FCB will have them there.
+ghost use mathlib.Core.Path.{_≡_};
+ghost use Prim.Native.Nat.{_<_, max};
+ghost use lib.ListN.{length};
+ghost use Rattle.format.specs.Diskette.{eightInch, imageBytes};
+ghost use Rattle.format.specs.Entries.{entryAt, slotCount, extentOf, findFile};
+ghost use Rattle.format.specs.Fcb.{fcbBytes};
+ghost use Rattle.model.specs.Target.{isRandom};
+ghost use Rattle.targets.specs.Target.{TargetOf, overLast, missingCode, arrivedSlot, arrivedCount, goTo};
+use format::Found;
+use model::Code;
+use model::Plan;
+
+// Where a record call goes: the extent, the record in it, and cr afterwards.
+pub struct Target {
+    pub extent: usize,
+    pub at: usize,
+    pub after: usize,
+}
+
+// 33 and 34 go by the random record, 20 and 21 by cr.
+pub fn is_random(number: u8) -> bool
+    ensures { λ r. ⌜ r ≡ isRandom number ⌝ }
+{
+    if number == 33 {
+        return true;
+    }
+    number == 34
+}
+
+// The target of a record call.
+pub fn target_of(number: u8, fcb: &[u8]) -> Target
+    requires { ⌜ length (now fcb) ≡ fcbBytes ⌝ }
+    ensures { λ r. ⌜ TargetOf number (now (fcb .entry)) r ⌝ }
+{
+    if is_random(number) {
+        let r = current::random_of(fcb);
+        return Target {
+            extent: r / format::EXTENT_RECORDS,
+            at: r % format::EXTENT_RECORDS,
+            after: r % format::EXTENT_RECORDS,
+        };
+    }
+    let cr = lists::wide(fcb[32]);
+    let extent = rows::extent(fcb);
+    if cr == format::EXTENT_RECORDS {
+        return Target {
+            extent: extent + 1,
+            at: 0,
+            after: 1,
+        };
+    }
+    Target {
+        extent,
+        at: cr,
+        after: cr + 1,
+    }
+}
+
+// Whether a random record is over the last one.
+pub fn over_last(number: u8, extent: usize) -> bool
+    ensures { λ r. ⌜ r ≡ overLast number extent ⌝ }
+{
+    if extent < format::EXTENTS {
+        return false;
+    }
+    is_random(number)
+}
+
+// The code of a call whose target has no entry, where that refuses it: 33 and 34 have codes of their own.
+pub fn missing(number: u8, random: Code) -> Code
+    ensures { λ r. ⌜ r ≡ missingCode number random ⌝ }
+{
+    if is_random(number) {
+        return random;
+    }
+    Code::NoRecord
+}
+
+// The target's entry, where e is the FCB's: the same one where there is no move, so that only a move looks it up.
+pub fn target_entry(image: &[u8], user: u8, fcb: &[u8], e: usize, extent: usize) -> Found
+    requires { ⌜ (length (now image) ≡ imageBytes eightInch) × (length (now fcb) ≡ fcbBytes)
+        × (findFile eightInch (entryAt eightInch (now image)) user (now fcb) 1 (extentOf (now fcb)) ≡ Found.At e) ⌝ }
+    ensures { λ r. ⌜ r ≡ findFile eightInch (entryAt eightInch (now (image .entry))) user (now (fcb .entry)) 1 extent ⌝ }
+{
+    if rows::extent(fcb) == extent {
+        return Found::At(e);
+    }
+    rows::find_file(image, user, fcb, 1, extent)
+}
+
+// The larger of two counts.
+pub fn larger(x: u8, y: u8) -> u8
+    ensures { λ r. ⌜ r ≡ max x y ⌝ }
+{
+    if x < y {
+        return y;
+    }
+    x
+}
+
+// Slot j as the FCB has it once it has come from entry e to entry t.
+pub fn arrived_slot(image: &[u8], fcb: &[u8], e: usize, t: usize, j: usize) -> u8
+    requires { ⌜ (length (now image) ≡ imageBytes eightInch) × (length (now fcb) ≡ fcbBytes) × (t < eightInch .entries) × (j < slotCount) ⌝ }
+    ensures { λ r. ⌜ r ≡ arrivedSlot (entryAt eightInch (now (image .entry))) (now (fcb .entry)) e t j ⌝ }
+{
+    if t == e {
+        return fcb[16 + j];
+    }
+    rows::row(image, t)[16 + j]
+}
+
+// The larger of the counts that the FCB, come from entry e to entry t, and that entry have.
+pub fn arrived_count(image: &[u8], fcb: &[u8], e: usize, t: usize, extent: usize) -> u8
+    requires { ⌜ (length (now image) ≡ imageBytes eightInch) × (length (now fcb) ≡ fcbBytes) × (t < eightInch .entries) ⌝ }
+    ensures { λ r. ⌜ r ≡ arrivedCount (entryAt eightInch (now (image .entry))) (now (fcb .entry)) e t extent ⌝ }
+{
+    let count = rows::count_in(rows::row(image, t), extent);
+    if t == e {
+        return larger(fcb[15], count);
+    }
+    count
+}
+
+// The plan of a call whose target has an entry: there is a move where it is another than the FCB's.
+pub fn go_to(e: usize, t: usize, b: usize) -> Plan
+    ensures { λ r. ⌜ r ≡ goTo e t b ⌝ }
+{
+    if t == e {
+        return Plan::Stay(e, b);
+    }
+    Plan::Move(e, t, b)
+}
