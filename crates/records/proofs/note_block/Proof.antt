@@ -1,0 +1,42 @@
+-- A slot that holds a block changes no note.
+use borrow.Author.Tests.{eq-eqb, ne-eqb}
+use Rattle.model.specs.Target.{writtenMap}
+use Rattle.format.specs.Entries.{slotOf}
+use borrow.Author.Needs.{needs}
+use Rattle.records.proofs.note_block.Statement.{statement}
+use Rattle.records.proofs.note_block.Tie as tie
+
+add-if1 : tie.Need-add-if1
+add-if1 c = search needs
+
+shared-slice-read-if1 : tie.Need-shared-slice-read-if1
+shared-slice-read-if1 c = search needs
+
+returns : tie.Need-returns
+unfolding writtenMap slotOf
+returns c = rw (ne-eqb _ _ (c .if1 .taken))
+
+pending-note-requires : tie.Need-pending-note-requires
+pending-note-requires c κs = search needs
+
+set-note-requires : tie.Need-set-note-requires
+set-note-requires c κs = search needs
+
+same-length : tie.Need-same-length
+same-length c = search needs
+
+returns-2 : tie.Need-returns-2
+unfolding writtenMap slotOf
+returns-2 c = rw (eq-eqb _ _ (c .before .before .before .before .before .if1 .left), c .before .before .set-note .ensures, c .before .before .before .pending-note .ensures)
+
+pub note-block-spec : {M : Type 1} → statement M
+note-block-spec =
+    tie.close
+    (tie.spec
+    add-if1
+    shared-slice-read-if1
+    returns
+    pending-note-requires
+    set-note-requires
+    same-length
+    returns-2)

@@ -1,0 +1,47 @@
+-- The row is taken before the record is written; each callee's result is a part of the definition.
+use Rattle.model.specs.Target.{haveWritten}
+use borrow.Author.Needs.{needs}
+use Rattle.records.proofs.write_at.Statement.{statement}
+use Rattle.records.proofs.write_at.Tie as tie
+
+copy-row-requires : tie.Need-copy-row-requires
+copy-row-requires c κs = search needs
+
+place-in-requires : tie.Need-place-in-requires
+place-in-requires c κs = search needs
+
+write-record-requires : tie.Need-write-record-requires
+write-record-requires c κs = search needs
+
+note-block-requires : tie.Need-note-block-requires
+note-block-requires c κs = search needs
+
+set-written-requires : tie.Need-set-written-requires
+set-written-requires c κs = search needs
+
+same-length : tie.Need-same-length
+same-length c = search needs
+
+same-length-2 : tie.Need-same-length-2
+same-length-2 c = search needs
+
+same-length-3 : tie.Need-same-length-3
+same-length-3 c = search needs
+
+returns : tie.Need-returns
+unfolding haveWritten
+returns c = rw (c .before .before .before .before .before .before .before .before .before .before .before .write-record .ensures, c .before .before .before .before .before .before .before .before .before .before .before .before .place-in .ensures .0, c .before .before .before .before .before .before .note-block .ensures, c .before .before .set-written .ensures, c .before .before .before .before .before .before .before .before .before .before .before .before .before .before .copy-row .ensures)
+
+pub write-at-spec : {M : Type 1} → statement M
+write-at-spec =
+    tie.close
+    (tie.spec
+    copy-row-requires
+    place-in-requires
+    write-record-requires
+    note-block-requires
+    set-written-requires
+    same-length
+    same-length-2
+    same-length-3
+    returns)

@@ -1,0 +1,103 @@
+-- A refusal is the ruling's, with nothing touched; a plan is followed within the disk's bounds.
+use mathlib.Core.Path.{_≡_, sym, _∙_}
+use Prim.Native.Nat.{_<_, _≤_}
+use Rattle.format.specs.Diskette.{eightInch}
+use Rattle.disk.specs.Eight.{eight-sound}
+use Rattle.model.specs.Lent.{lend}
+use Rattle.model.specs.Target.{extents}
+use Rattle.rulings.specs.declared.Ruling.the-variants.{Follow}
+use Rattle.rulings.specs.Ruling.{writeRuling}
+use Rattle.rulings.specs.Bounds.{Sure, write-sure}
+use Rattle.records.specs.Carry.{write-refused, write-carried}
+use Rattle.model.specs.Target.{targetSlot}
+use borrow.Author.Needs.{needs}
+use Rattle.records.proofs.write_call.Statement.{statement}
+use Rattle.records.proofs.write_call.Tie as tie
+
+target-of-requires : tie.Need-target-of-requires
+target-of-requires c κs = search needs
+
+rule-write-requires : tie.Need-rule-write-requires
+rule-write-requires c κs = search needs
+
+enum-known-code : tie.Need-enum-known-code
+enum-known-code c = search needs
+
+refuse-requires : tie.Need-refuse-requires
+refuse-requires c κs = search needs
+
+enum-known-plan : tie.Need-enum-known-plan
+enum-known-plan c = search needs
+
+-- the plan is what the ruling says, and names entries and a block of the disk
+follows : (c : tie.After-known-told2) → let a = c .before .before .before .before .before .before .before .before .before .before .before .before .before .args in writeRuling eightInch (a .number) (a .session .user) (lend (a .image .now) (a .map .now) (a .fcb .now) (a .buffer .now)) ≡ Follow (c .before .plan .given .0 .0)
+follows c = let a = c .before .before .before .before .before .before .before .before .before .before .before .before .before .args in sym (c .before .before .before .rule-write .ensures (a .buffer .now)) ∙ c .before .plan .given .1
+
+sure : (c : tie.After-known-told2) → Sure eightInch (c .before .before .before .before .before .before .before .before .before .before .before .before .before .args .number) (c .before .before .before .before .before .before .before .before .before .before .before .before .before .args .fcb .now) (c .before .plan .given .0 .0)
+sure c =
+    let s = c .before .before .before .before .before .before .before .before .before .before .before .before .before in let a = s .args in
+    write-sure eight-sound (a .number) (lend (a .image .now) (a .map .now) (a .fcb .now) (a .buffer .now)) (a .session) (s .pre .1) (s .pre .5) (s .pre .4) (c .before .plan .given .0 .0) (follows c)
+
+follow-write-requires : tie.Need-follow-write-requires
+follow-write-requires c κs =
+    let t = c .before .before .before .before .before .before .before .before .before .before .target-of in
+    let w = sure (c .before .before .before) in
+    let h : t .result .extent < extents = rw (t .ensures .extent) (w .extent) in
+    let k : t .result .at < 128 = rw (t .ensures .at) (w .at) in
+    let m : t .result .after ≤ 128 = rw (t .ensures .after) (w .after) in
+    let i = w .within in search needs
+
+done-requires : tie.Need-done-requires
+done-requires c κs = search needs
+
+same-length : tie.Need-same-length
+same-length c = search needs
+
+same-length-2 : tie.Need-same-length-2
+same-length-2 c = search needs
+
+same-length-3 : tie.Need-same-length-3
+same-length-3 c = search needs
+
+returns : tie.Need-returns
+returns c =
+    λ argument call. let s = c .before .before .before .before .before .before .before .before .before .before .before .before .before .before in let a = s .args in
+    write-refused eightInch argument (a .number) (lend (a .image .now) (a .map .now) (a .fcb .now) (a .buffer .now)) (a .session) (c .refuse .result) (s .pre .6) call (c .before .before .code .given .0 .0)
+    (sym (c .before .before .before .before .rule-write .ensures (a .buffer .now)) ∙ c .before .before .code .given .1) (c .refuse .ensures)
+
+same-length-4 : tie.Need-same-length-4
+same-length-4 c = search needs
+
+same-length-5 : tie.Need-same-length-5
+same-length-5 c = search needs
+
+same-length-6 : tie.Need-same-length-6
+same-length-6 c = search needs
+
+returns-2 : tie.Need-returns-2
+unfolding targetSlot
+returns-2 c =
+    λ argument call. let s = c .before .before .before .before .before .before .before .before .before .before .before .before .before .before .before .before .before .before .before .before .before .before .before .before in let a = s .args in let t = c .before .before .before .before .before .before .before .before .before .before .before .before .before .before .before .before .before .before .target-of in let left = c .before .before .before .before .before .before .before .follow-write .last in
+    write-carried eightInch argument (a .number) (lend (a .image .now) (a .map .now) (a .fcb .now) (a .buffer .now)) (a .session) (c .done .result) (s .pre .6) call (c .before .before .before .before .before .before .before .before .before .before .before .before .plan .given .0 .0)
+    (lend (left .0) (left .1 .0) (left .1 .1 .0) (a .buffer .now)) (follows (c .before .before .before .before .before .before .before .before .before .before .before)) (c .done .ensures)
+    (c .before .before .before .before .before .before .before .follow-write .ensures (a .number) (t .ensures .extent) ∙ rw (t .ensures .extent, t .ensures .at, t .ensures .after))
+
+pub write-call-spec : {M : Type 1} → statement M
+write-call-spec =
+    tie.close
+    (tie.spec
+    target-of-requires
+    rule-write-requires
+    enum-known-code
+    refuse-requires
+    enum-known-plan
+    follow-write-requires
+    done-requires
+    same-length
+    same-length-2
+    same-length-3
+    returns
+    same-length-4
+    same-length-5
+    same-length-6
+    returns-2)

@@ -1,0 +1,250 @@
+// The record calls carried out: the FCB comes to the target's extent, and a record is read or written there.
+ghost use mathlib.Core.Path.{_≡_};
+ghost use mathlib.Core.Bool.{true};
+ghost use mathlib.Core.Logic.{_⊎_};
+ghost use Prim.Native.Nat.{ℕ, _*_, _≤_, _<_};
+ghost use lib.ListN.{length};
+ghost use Rattle.format.specs.Diskette.{Bytes, eightInch, imageBytes, recordBytes};
+ghost use Rattle.format.specs.Entries.{slotCount, slotFor};
+ghost use Rattle.format.specs.Consistent.{consistent};
+ghost use Rattle.format.specs.Fcb.{fcbBytes};
+ghost use Rattle.model.specs.Lent.{lend, outcome};
+ghost use Rattle.model.specs.Target.{extents, extentRecords, targetExtent, moved, made, placeIn, haveRead, writtenFcb, writtenMap, haveWritten};
+ghost use Rattle.table.specs.Own.{Call};
+ghost use Rattle.table.specs.OwnStep.{ownStep};
+ghost use Rattle.rulings.specs.Bounds.{Within};
+ghost use Rattle.records.specs.Carry.{arrived, entryOf, blockOf};
+use model::Answer;
+use model::Plan;
+use model::Session;
+use rulings::Ruling;
+use targets::Target;
+
+// A move: the present extent, entry e, is closed, and the FCB takes entry t.
+fn move_to(image: &mut [u8], map: &mut [u16], fcb: &mut [u8], e: usize, t: usize)
+    requires { ⌜ (length (now image) ≡ imageBytes eightInch) × (length (now fcb) ≡ fcbBytes) × (e < eightInch .entries) × (t < eightInch .entries) ⌝ }
+    ensures { λ _. ⌜ ((n : ℕ) (buffer : Bytes) → lend (now (image .exit)) (now (map .exit)) (now (fcb .exit)) buffer
+        ≡ moved eightInch n (lend (now (image .entry)) (now (map .entry)) (now (fcb .entry)) buffer) e t) ⌝ }
+{
+    let row = rows::copy_row(image, t);
+    closing::close_entry(image, map, e, fcb);
+    entering::enter(fcb, row);
+}
+
+// A move into an extent that has no entry: the present extent is closed, and the FCB takes the entry that is made for it at t.
+fn make_next(image: &mut [u8], map: &mut [u16], fcb: &mut [u8], e: usize, t: usize, extent: usize)
+    requires { ⌜ (length (now image) ≡ imageBytes eightInch) × (length (now fcb) ≡ fcbBytes) × (e < eightInch .entries) × (t < eightInch .entries)
+        × (extent < extents) ⌝ }
+    ensures { λ _. ⌜ ((n : ℕ) (buffer : Bytes) → extent ≡ targetExtent n (now (fcb .entry))
+        → lend (now (image .exit)) (now (map .exit)) (now (fcb .exit)) buffer
+        ≡ made eightInch n (lend (now (image .entry)) (now (map .entry)) (now (fcb .entry)) buffer) e t) ⌝ }
+{
+    let row = entering::next_row(rows::copy_row(image, e), extent);
+    closing::close_entry(image, map, e, fcb);
+    rows::store_row(image, t, row);
+    entering::enter(fcb, row);
+}
+
+// The FCB comes to the target's extent, as the plan says.
+fn arrive(image: &mut [u8], map: &mut [u16], fcb: &mut [u8], plan: Plan, extent: usize)
+    requires { ⌜ (length (now image) ≡ imageBytes eightInch) × (length (now fcb) ≡ fcbBytes) × (extent < extents) × Within eightInch plan ⌝ }
+    ensures { λ _. ⌜ ((n : ℕ) (buffer : Bytes) → extent ≡ targetExtent n (now (fcb .entry))
+        → lend (now (image .exit)) (now (map .exit)) (now (fcb .exit)) buffer
+        ≡ arrived eightInch n (lend (now (image .entry)) (now (map .entry)) (now (fcb .entry)) buffer) plan) ⌝ }
+{
+    match plan {
+        Plan::Stay(_, _) => {}
+        Plan::Move(e, t, _) => move_to(image, map, fcb, e, t),
+        Plan::Make(e, t, _) => make_next(image, map, fcb, e, t, extent),
+    }
+}
+
+// The entry to which a plan brings the FCB.
+fn entry_of(plan: Plan) -> usize
+    ensures { λ r. ⌜ r ≡ entryOf plan ⌝ }
+{
+    match plan {
+        Plan::Stay(e, _) => e,
+        Plan::Move(_, t, _) => t,
+        Plan::Make(_, t, _) => t,
+    }
+}
+
+// The target's block.
+fn block_of(plan: Plan) -> usize
+    ensures { λ r. ⌜ r ≡ blockOf plan ⌝ }
+{
+    match plan {
+        Plan::Stay(_, b) => b,
+        Plan::Move(_, _, b) => b,
+        Plan::Make(_, _, b) => b,
+    }
+}
+
+// The disk record that holds record r of an extent, in block b.
+fn place_in(b: usize, r: usize) -> usize
+    requires { ⌜ b < eightInch .blocks ⌝ }
+    ensures { λ d. ⌜ (d ≡ placeIn eightInch b r) × (d < eightInch .perBlock * eightInch .blocks) ⌝ }
+{
+    format::RECORDS_PER_BLOCK * b + r % format::RECORDS_PER_BLOCK
+}
+
+// Reading record r of the extent that the FCB has come to, in block b.
+fn read_at(image: &[u8], fcb: &mut [u8], buffer: &mut [u8], b: usize, r: usize, cr: usize)
+    requires { ⌜ (length (now image) ≡ imageBytes eightInch) × (length (now fcb) ≡ fcbBytes) × (length (now buffer) ≡ recordBytes)
+        × (b < eightInch .blocks) × (cr ≤ extentRecords) ⌝ }
+    ensures { λ _. ⌜ ((map : Bytes) → lend (now (image .entry)) map (now (fcb .exit)) (now (buffer .exit))
+        ≡ haveRead eightInch b r cr (lend (now (image .entry)) map (now (fcb .entry)) (now (buffer .entry)))) ⌝ }
+{
+    disk::read_record(image, place_in(b, r), buffer);
+    fcb[32] = cr as u8;
+}
+
+// A block that a slot of 0 takes is noted pending for its entry and slot.
+fn note_block(map: &mut [u16], fcb: &[u8], t: usize, j: usize, b: usize)
+    requires { ⌜ (length (now map) ≡ eightInch .blocks) × (length (now fcb) ≡ fcbBytes) × (t < eightInch .entries) × (j < slotCount) × (b < eightInch .blocks) ⌝ }
+    ensures { λ _. ⌜ now (map .exit) ≡ writtenMap (now (map .entry)) (now (fcb .entry)) t j b ⌝ }
+{
+    if fcb[16 + j] != 0 {
+        return;
+    }
+    notes::set_note(map, b, notes::pending_note(t, j));
+}
+
+// The FCB after a write of record r: the block in its slot, the largest count, and cr.
+fn set_written(fcb: &mut [u8], row: [u8; 32], j: usize, b: usize, r: usize, cr: usize)
+    requires { ⌜ (length (now fcb) ≡ fcbBytes) × (j < slotCount) × (b < eightInch .blocks) × (r < extentRecords) × (cr ≤ extentRecords) ⌝ }
+    ensures { λ _. ⌜ now (fcb .exit) ≡ writtenFcb (now (fcb .entry)) row j b r cr ⌝ }
+{
+    let count = rows::count_in(&row, rows::extent(fcb));
+    let rc = targets::larger(targets::larger(fcb[15], count), (r + 1) as u8);
+    fcb[16 + j] = b as u8;
+    fcb[15] = rc;
+    fcb[32] = cr as u8;
+}
+
+// Writing record r of the extent that the FCB has come to, entry t, in slot j and block b.
+fn write_at(
+    image: &mut [u8],
+    map: &mut [u16],
+    fcb: &mut [u8],
+    buffer: &[u8],
+    t: usize,
+    j: usize,
+    b: usize,
+    r: usize,
+    cr: usize,
+)
+    requires { ⌜ (length (now image) ≡ imageBytes eightInch) × (length (now map) ≡ eightInch .blocks) × (length (now fcb) ≡ fcbBytes)
+        × (length (now buffer) ≡ recordBytes) × (t < eightInch .entries) × (j < slotCount) × (b < eightInch .blocks) × (r < extentRecords)
+        × (cr ≤ extentRecords) ⌝ }
+    ensures { λ _. ⌜ lend (now (image .exit)) (now (map .exit)) (now (fcb .exit)) (now (buffer .entry))
+        ≡ haveWritten eightInch t j b r cr (lend (now (image .entry)) (now (map .entry)) (now (fcb .entry)) (now (buffer .entry))) ⌝ }
+{
+    let row = rows::copy_row(image, t);
+    disk::write_record(image, place_in(b, r), buffer);
+    note_block(map, fcb, t, j, b);
+    set_written(fcb, row, j, b, r, cr);
+}
+
+// A plan of 20 or 33 followed.
+fn follow_read(
+    image: &mut [u8],
+    map: &mut [u16],
+    fcb: &mut [u8],
+    buffer: &mut [u8],
+    plan: Plan,
+    target: Target,
+)
+    requires { ⌜ (length (now image) ≡ imageBytes eightInch) × (length (now fcb) ≡ fcbBytes) × (length (now buffer) ≡ recordBytes)
+        × (target .extent < extents) × (target .after ≤ extentRecords) × Within eightInch plan ⌝ }
+    ensures { λ _. ⌜ ((n : ℕ) → target .extent ≡ targetExtent n (now (fcb .entry))
+        → lend (now (image .exit)) (now (map .exit)) (now (fcb .exit)) (now (buffer .exit))
+        ≡ haveRead eightInch (blockOf plan) (target .at) (target .after)
+        (arrived eightInch n (lend (now (image .entry)) (now (map .entry)) (now (fcb .entry)) (now (buffer .entry))) plan)) ⌝ }
+{
+    arrive(image, map, fcb, plan, target.extent);
+    read_at(image, fcb, buffer, block_of(plan), target.at, target.after);
+}
+
+// A plan of 21 or 34 followed.
+fn follow_write(
+    image: &mut [u8],
+    map: &mut [u16],
+    fcb: &mut [u8],
+    buffer: &[u8],
+    plan: Plan,
+    target: Target,
+)
+    requires { ⌜ (length (now image) ≡ imageBytes eightInch) × (length (now map) ≡ eightInch .blocks) × (length (now fcb) ≡ fcbBytes)
+        × (length (now buffer) ≡ recordBytes) × (target .extent < extents) × (target .at < extentRecords) × (target .after ≤ extentRecords)
+        × Within eightInch plan ⌝ }
+    ensures { λ _. ⌜ ((n : ℕ) → target .extent ≡ targetExtent n (now (fcb .entry))
+        → lend (now (image .exit)) (now (map .exit)) (now (fcb .exit)) (now (buffer .entry))
+        ≡ haveWritten eightInch (entryOf plan) (slotFor eightInch (target .extent) (target .at)) (blockOf plan) (target .at) (target .after)
+        (arrived eightInch n (lend (now (image .entry)) (now (map .entry)) (now (fcb .entry)) (now (buffer .entry))) plan)) ⌝ }
+{
+    arrive(image, map, fcb, plan, target.extent);
+    let j = rows::slot_for(target.extent, target.at);
+    write_at(
+        image,
+        map,
+        fcb,
+        buffer,
+        entry_of(plan),
+        j,
+        block_of(plan),
+        target.at,
+        target.after,
+    );
+}
+
+// Calls 20 and 33, once the disk and the parameters are known to be right.
+pub fn read_call(
+    number: u8,
+    image: &mut [u8],
+    map: &mut [u16],
+    fcb: &mut [u8],
+    buffer: &mut [u8],
+    session: Session,
+) -> Answer
+    requires { ⌜ (length (now image) ≡ imageBytes eightInch) × (length (now map) ≡ eightInch .blocks) × (length (now fcb) ≡ fcbBytes)
+        × (length (now buffer) ≡ recordBytes) × (session .user ≤ 15) × (consistent eightInch (now image) ≡ true)
+        × ((number ≡ 20) ⊎ (number ≡ 33)) ⌝ }
+    ensures { λ r. ⌜ ((argument : ℕ) (c : Call number) → outcome r (now (image .exit)) (now (map .exit)) (now (fcb .exit)) (now (buffer .exit))
+        ≡ ownStep eightInch argument (lend (now (image .entry)) (now (map .entry)) (now (fcb .entry)) (now (buffer .entry))) session c) ⌝ }
+{
+    let target = targets::target_of(number, fcb);
+    match rulings::rule_read(number, target, image, map, fcb, session.user) {
+        Ruling::Refuse(code) => answers::refuse(code, session),
+        Ruling::Follow(plan) => {
+            follow_read(image, map, fcb, buffer, plan, target);
+            answers::done(0, session)
+        }
+    }
+}
+
+// Calls 21 and 34, once the disk and the parameters are known to be right.
+pub fn write_call(
+    number: u8,
+    image: &mut [u8],
+    map: &mut [u16],
+    fcb: &mut [u8],
+    buffer: &[u8],
+    session: Session,
+) -> Answer
+    requires { ⌜ (length (now image) ≡ imageBytes eightInch) × (length (now map) ≡ eightInch .blocks) × (length (now fcb) ≡ fcbBytes)
+        × (length (now buffer) ≡ recordBytes) × (session .user ≤ 15) × (consistent eightInch (now image) ≡ true)
+        × ((number ≡ 21) ⊎ (number ≡ 34)) ⌝ }
+    ensures { λ r. ⌜ ((argument : ℕ) (c : Call number) → outcome r (now (image .exit)) (now (map .exit)) (now (fcb .exit)) (now (buffer .entry))
+        ≡ ownStep eightInch argument (lend (now (image .entry)) (now (map .entry)) (now (fcb .entry)) (now (buffer .entry))) session c) ⌝ }
+{
+    let target = targets::target_of(number, fcb);
+    match rulings::rule_write(number, target, image, map, fcb, session.user) {
+        Ruling::Refuse(code) => answers::refuse(code, session),
+        Ruling::Follow(plan) => {
+            follow_write(image, map, fcb, buffer, plan, target);
+            answers::done(0, session)
+        }
+    }
+}
