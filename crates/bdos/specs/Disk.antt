@@ -1,9 +1,9 @@
 -- Row 255, 1 as code decides it: the image first, then, except for 13, the map.
-use mathlib.Core.Path.{_≡_, sym, ap, _∙_}
+use mathlib.Core.Path.{_≡_, _∙_}
 use mathlib.Core.Bool.{true, false}
 use Prim.Native.Nat.{ℕ}
 use borrow.Author.Tests.{eq-eqb, ne-eqb}
-use Rattle.lists.specs.Tests.{_and_, _or_, and-fails-left, and-then, and-both, or-left, or-then}
+use Rattle.lists.specs.Tests.{and-fails-left, and-then, and-both, or-left, or-then}
 use Rattle.format.specs.Diskette.{Geometry}
 use Rattle.format.specs.Consistent.{consistent}
 use Rattle.format.specs.Notes.{mapRight}

@@ -1,10 +1,9 @@
 -- `bdos::disk_right` meets its contract: the image decides, then 13, then the map by the marks that the look at the image left.
-use mathlib.Core.Path.{_≡_, sym, _∙_}
+use mathlib.Core.Path.{sym, _∙_}
 use borrow.Author.Needs.{needs}
 use borrow.Author.Tests.{not-true, not-false}
 use Rattle.lists.specs.Cases.{clash}
 use Rattle.format.specs.Diskette.{eightInch}
-use Rattle.format.specs.Entries.{entryAt}
 use Rattle.bdos.specs.Disk.{image-wrong, log-in-right, map-decides}
 use Rattle.bdos.proofs.disk_right.Statement.{statement}
 use Rattle.bdos.proofs.disk_right.Tie as tie

@@ -1,5 +1,5 @@
 -- `bdos::file_call` meets its contract: each test leaves one number less, and what a call's own function promises is what its number asks.
-use mathlib.Core.Path.{_≡_, _∙_}
+use mathlib.Core.Path.{_∙_}
 use native.Mathlib.Omega.{arith}
 use borrow.Author.Needs.{needs}
 use Rattle.format.specs.Diskette.{eightInch}

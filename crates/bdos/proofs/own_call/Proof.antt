@@ -1,10 +1,9 @@
 -- `bdos::own_call` meets its contract: each test leaves one number less, and what a call's own function promises is what its number asks.
-use mathlib.Core.Path.{_≡_, _∙_}
-use native.Mathlib.Omega.{arith}
+use mathlib.Core.Path.{_∙_}
 use borrow.Author.Needs.{needs}
 use Rattle.format.specs.Diskette.{eightInch}
 use Rattle.table.specs.Own.{call17, call18, call32, call46, call98}
-use Rattle.table.specs.OwnStep.{own-at, own-number}
+use Rattle.table.specs.OwnStep.{own-at}
 use Rattle.bdos.specs.Numbers.{one-rest, not-log-in}
 use Rattle.bdos.proofs.own_call.Statement.{statement}
 use Rattle.bdos.proofs.own_call.Tie as tie
@@ -63,15 +62,13 @@ same-length-8 c = search needs
 returns-5 : tie.Need-returns-5
 returns-5 c = λ k. c .before .before .free-blocks .ensures _ _ _ _ ∙ own-at eightInch _ _ (c .before .before .before .before .if5 .taken) k call98 _
 
-file-call-requires : tie.Need-file-call-requires
-file-call-requires c κs =
-    let p = c .before .before .before .before .before .before .before .before .before .before .before .before .pre in
+disk-call-requires : tie.Need-disk-call-requires
+disk-call-requires c κs =
+    let p = c .before .before .before .before .before .before .before .before .before .before .before .before .before .pre in
     let r = p .1 in (
-      one-rest _ _ _ (c .before .before .before .if5 .left) (one-rest _ _ _ (c .before .before .before .before .if4 .left) (one-rest _ _ _ (c .before .before .before .before .before .if3 .left) (one-rest _ _ _ (c .before .before .before .before .before .before .if2 .left) (one-rest _ _ _ (c .before .before .before .before .before .before .before .if1 .left) (p .0))))),
-      r .fits .image-long,
-      r .fits .map-long,
-      r .fits .fcb-long,
-      r .fits .user-low,
+      one-rest _ _ _ (c .before .before .before .before .if5 .left) (one-rest _ _ _ (c .before .before .before .before .before .if4 .left) (one-rest _ _ _ (c .before .before .before .before .before .before .if3 .left) (one-rest _ _ _ (c .before .before .before .before .before .before .before .if2 .left) (one-rest _ _ _ (c .before .before .before .before .before .before .before .before .if1 .left) (p .0))))),
+      r .fits,
+      r .image-right,
       r .map-right (not-log-in _ (p .0)),
     )
 
@@ -84,8 +81,11 @@ same-length-10 c = search needs
 same-length-11 : tie.Need-same-length-11
 same-length-11 c = search needs
 
+same-length-12 : tie.Need-same-length-12
+same-length-12 c = search needs
+
 returns-6 : tie.Need-returns-6
-returns-6 c = λ k. c .before .before .before .before .before .before .file-call .ensures k _ _
+returns-6 c = λ k. c .before .before .before .before .before .before .before .before .disk-call .ensures k _
 
 pub own-call-spec : {M : Type 1} → statement M
 own-call-spec =
@@ -109,8 +109,9 @@ own-call-spec =
     free-blocks-requires
     same-length-8
     returns-5
-    file-call-requires
+    disk-call-requires
     same-length-9
     same-length-10
     same-length-11
+    same-length-12
     returns-6)
