@@ -23,7 +23,7 @@ use Rattle.table.specs.First.{_&_, NoneHolds, passed-none, none-passed, 
 use Rattle.table.specs.Own.{Call, call13, call15, call16, call17, call18, call19, call20, call21, call22, call23, call32, call33, call34, call35, call36, call46, call98, call-of, ownRows, rowsFor, verdict-rows, verdict-unlisted}
 use Rattle.table.specs.Present.{there-target, file-extent-below}
 use Rattle.table.specs.Facts.{Reads, Own, Ready, AcceptedCall}
-use Rattle.table.specs.Reflect.{found, missed, second-fails, either-found, either-missed, pattern-of, pattern-right, argument-of, argument-right, fits-of, drive-of, parameters-right, image-of, map-of, disk-right, some-of, some-right, none-of, none-right, writable-of, writable-right, positions-of, positions-right}
+use Rattle.table.specs.Reflect.{found, missed, second-fails, either-found, either-missed, pattern-of, pattern-right, argument-of, argument-right, parameters-right, disk-right, ready-of, some-of, some-right, none-of, none-right, writable-of, writable-right, positions-of, positions-right}
 
 -- the target's extent of 33 and 34 is below 2,048 exactly where the random record is at most 262,143
 pub random-extent : (n : ℕ) (fcb : Bytes) → isRandom n ≡ true → targetExtent n fcb ≡ randomOf fcb / 128
@@ -141,14 +141,7 @@ module _ (G : Geometry) (n argument : ℕ) (l : Lent) (s : Session) where
   passed-ready q =
       let c = call-of n (passed-listed q) in
       let none = passed-none (rowsFor G argument l s c) (sym (verdict-rows G argument l s c) ∙ q) in
-      let parameters = not-false (parametersRight G l n s) (none .0) in
-      let disk = not-false (diskRight G l n) (none .1 .0) in
-      record {
-        fits = fits-of G n l s parameters;
-        drive = drive-of G n l s parameters;
-        image-right = image-of G n l s disk;
-        map-right = map-of G n l s disk;
-      }
+      ready-of G n l s (not-false (parametersRight G l n s) (none .0)) (not-false (diskRight G l n) (none .1 .0))
 
   pub passed-own : (c : Call n) → verdict G n argument l s ≡ Passed → Own G l s argument c
   passed-own c q =

@@ -9,3 +9,4 @@ pub mod Carried
 pub mod Total
 pub mod Plans
 pub mod OwnStep
+pub mod Early

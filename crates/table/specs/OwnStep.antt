@@ -1,5 +1,5 @@
 -- One call once the first three rows have passed it: its own rows decide, and then it is carried out. What a call's own function does.
-use mathlib.Core.Path.{_≡_, refl, sym, ap, _∙_}
+use mathlib.Core.Path.{_≡_, refl, sym, ap, _∙_, subst}
 use mathlib.Core.Bool.{not}
 use Prim.Native.Nat.{ℕ}
 use Rattle.format.specs.Diskette.{Geometry}
@@ -85,3 +85,31 @@ module _ (G : Geometry) (a b : ℕ) (l : Lent) (s : Session) where
   own-argument call36 h = own-same call36 refl refl
   own-argument call46 h = own-same call46 refl refl
   own-argument call98 h = own-same call98 refl refl
+
+-- ---- a number has one call
+pub call-one : {n : ℕ} (a b : Call n) → a ≡ b
+call-one call13 call13 = refl
+call-one call15 call15 = refl
+call-one call16 call16 = refl
+call-one call17 call17 = refl
+call-one call18 call18 = refl
+call-one call19 call19 = refl
+call-one call20 call20 = refl
+call-one call21 call21 = refl
+call-one call22 call22 = refl
+call-one call23 call23 = refl
+call-one call32 call32 = refl
+call-one call33 call33 = refl
+call-one call34 call34 = refl
+call-one call35 call35 = refl
+call-one call36 call36 = refl
+call-one call46 call46 = refl
+call-one call98 call98 = refl
+
+-- so what it does goes by the number alone, and, but for 32, not by the argument
+module _ (G : Geometry) (l : Lent) (s : Session) {n m : ℕ} (q : n ≡ m) (c : Call n) (k : Call m) where
+  pub own-at : (a : ℕ) → ownStep G a l s k ≡ ownStep G a l s c
+  own-at a = subst (λ (i : ℕ). (d : Call i) → ownStep G a l s d ≡ ownStep G a l s c) q (λ d. ap (ownStep G a l s) (call-one d c)) k
+
+  pub own-number : (a b : ℕ) → (m ≡ 32 → ⊥) → ownStep G a l s k ≡ ownStep G b l s c
+  own-number a b h = own-argument G a b l s k h ∙ own-at b

@@ -21,7 +21,7 @@ use Rattle.format.specs.declared.Found.the-variants.{At, Nothing}
 use Rattle.model.specs.declared.Session.{Session}
 use Rattle.model.specs.Lent.{Lent, rowsOf}
 use Rattle.model.specs.Table.{usesFcb, lengthsRight, parametersRight, diskRight, anyNamed, anyReadOnly, positionRight}
-use Rattle.table.specs.Facts.{Fits, Positions}
+use Rattle.table.specs.Facts.{Fits, Positions, Ready}
 
 -- ---- tests of look-ups
 pub found : (r : Found) → not (isFound r) ≡ false → FoundAt r
@@ -101,6 +101,10 @@ module _ (G : Geometry) (n : ℕ) (l : Lent) (s : Session) where
   pub disk-right : consistent G (l .image) ≡ true → ((n ≡ 13 → ⊥) → mapRight G (rowsOf G l) (l .map) ≡ true) → diskRight G l n ≡ true
   unfolding diskRight
   disk-right c m = and-both _ _ c (map-right m)
+
+  -- what the first three rows say where they pass
+  pub ready-of : parametersRight G l n s ≡ true → diskRight G l n ≡ true → Ready G n l s
+  ready-of p d = record { fits = fits-of p; drive = drive-of p; image-right = image-of d; map-right = map-of d }
 
 -- ---- the tests of single calls
 module _ (G : Geometry) (l : Lent) (s : Session) where

@@ -1,0 +1,163 @@
+-- `bdos::call` meets its contract: a test that fails is a row that decides, and what passed them all is ready for its own function.
+use mathlib.Core.Path.{refl, sym, _∙_}
+use borrow.Author.Needs.{needs}
+use borrow.Author.Tests.{not-true, not-false}
+use Rattle.format.specs.Diskette.{eightInch}
+use Rattle.table.specs.Own.{call13, call-of}
+use Rattle.table.specs.Reflect.{fits-of, ready-of}
+use Rattle.table.specs.OwnStep.{own-at, step-own}
+use Rattle.table.specs.Early.{unlisted-step, parameter-step, disk-step}
+use Rattle.bdos.specs.Numbers.{listed-own}
+use Rattle.bdos.proofs.call.Statement.{statement}
+use Rattle.bdos.proofs.call.Tie as tie
+
+is-listed-requires : tie.Need-is-listed-requires
+is-listed-requires c κs = search needs
+
+refuse-requires : tie.Need-refuse-requires
+refuse-requires c κs = search needs
+
+returns : tie.Need-returns
+returns c = unlisted-step eightInch _ _ _ _ (sym (c .before .before .is-listed .ensures) ∙ not-true _ (c .before .if1 .taken)) (c .refuse .ensures)
+
+parameters-right-requires : tie.Need-parameters-right-requires
+parameters-right-requires c κs = search needs
+
+refuse-requires-2 : tie.Need-refuse-requires-2
+refuse-requires-2 c κs = search needs
+
+same-length : tie.Need-same-length
+same-length c = search needs
+
+same-length-2 : tie.Need-same-length-2
+same-length-2 c = search needs
+
+same-length-3 : tie.Need-same-length-3
+same-length-3 c = search needs
+
+same-length-4 : tie.Need-same-length-4
+same-length-4 c = search needs
+
+returns-2 : tie.Need-returns-2
+returns-2 c =
+    parameter-step eightInch _ _ _ _ (sym (c .before .before .before .before .before .before .before .before .is-listed .ensures) ∙ not-false _ (c .before .before .before .before .before .before .before .if1 .left))
+    (sym (c .before .before .parameters-right .ensures) ∙ not-true _ (c .before .if2 .taken)) (c .refuse2 .ensures)
+
+slice-aggregate-disk-right : tie.Need-slice-aggregate-disk-right
+slice-aggregate-disk-right c = search needs
+
+disk-right-requires : tie.Need-disk-right-requires
+disk-right-requires c κs =
+    let f = fits-of eightInch _ _ _ (sym (c .before .before .before .before .parameters-right .ensures) ∙ not-false _ (c .before .before .before .if2 .left)) in
+    (f .image-long, f .map-long, search needs)
+
+refuse-requires-3 : tie.Need-refuse-requires-3
+refuse-requires-3 c κs = search needs
+
+same-length-5 : tie.Need-same-length-5
+same-length-5 c = search needs
+
+same-length-6 : tie.Need-same-length-6
+same-length-6 c = search needs
+
+same-length-7 : tie.Need-same-length-7
+same-length-7 c = search needs
+
+same-length-8 : tie.Need-same-length-8
+same-length-8 c = search needs
+
+returns-3 : tie.Need-returns-3
+returns-3 c =
+    disk-step eightInch _ _ _ _ (sym (c .before .before .before .before .before .before .before .before .before .before .before .before .before .before .is-listed .ensures) ∙ not-false _ (c .before .before .before .before .before .before .before .before .before .before .before .before .before .if1 .left))
+    (sym (c .before .before .before .before .before .before .before .before .parameters-right .ensures) ∙ not-false _ (c .before .before .before .before .before .before .before .if2 .left))
+    (sym (c .before .before .before .disk-right .ensures .0 _ _) ∙ not-true _ (c .before .if3 .taken)) (c .refuse3 .ensures)
+
+slice-aggregate-log-in : tie.Need-slice-aggregate-log-in
+slice-aggregate-log-in c = search needs
+
+log-in-requires : tie.Need-log-in-requires
+log-in-requires c κs =
+    let f = fits-of eightInch _ _ _ (sym (c .before .before .before .before .before .before .before .before .before .before .parameters-right .ensures) ∙ not-false _ (c .before .before .before .before .before .before .before .before .before .if2 .left)) in
+    (f .map-long, search needs)
+
+same-length-9 : tie.Need-same-length-9
+same-length-9 c = search needs
+
+same-length-10 : tie.Need-same-length-10
+same-length-10 c = search needs
+
+same-length-11 : tie.Need-same-length-11
+same-length-11 c = search needs
+
+same-length-12 : tie.Need-same-length-12
+same-length-12 c = search needs
+
+returns-4 : tie.Need-returns-4
+returns-4 c =
+    let k = call-of _ (sym (c .before .before .before .before .before .before .before .before .before .before .before .before .before .before .before .before .before .before .before .is-listed .ensures) ∙ not-false _ (c .before .before .before .before .before .before .before .before .before .before .before .before .before .before .before .before .before .before .if1 .left)) in
+    let right = not-false _ (c .before .before .before .before .before .before .if3 .left) in
+    let ready = ready-of eightInch _ _ _ (sym (c .before .before .before .before .before .before .before .before .before .before .before .before .before .parameters-right .ensures) ∙ not-false _ (c .before .before .before .before .before .before .before .before .before .before .before .before .if2 .left)) (sym (c .before .before .before .before .before .before .before .before .disk-right .ensures .0 _ _) ∙ right) in
+    c .before .before .log-in .ensures _ _ _ _ (c .before .before .before .before .before .before .before .before .disk-right .ensures .1 right)
+    ∙ own-at eightInch _ _ (c .before .before .before .before .before .if4 .taken) k call13 _ ∙ sym (step-own eightInch _ _ _ k refl ready)
+
+own-call-requires : tie.Need-own-call-requires
+own-call-requires c κs =
+    let listed = sym (c .before .before .before .before .before .before .before .before .before .before .before .before .before .before .before .before .before .before .is-listed .ensures) ∙ not-false _ (c .before .before .before .before .before .before .before .before .before .before .before .before .before .before .before .before .before .if1 .left) in
+    let ready = ready-of eightInch _ _ _ (sym (c .before .before .before .before .before .before .before .before .before .before .before .before .parameters-right .ensures) ∙ not-false _ (c .before .before .before .before .before .before .before .before .before .before .before .if2 .left))
+    (sym (c .before .before .before .before .before .before .before .disk-right .ensures .0 _ _) ∙ not-false _ (c .before .before .before .before .before .if3 .left)) in
+    (listed-own _ listed (c .before .before .before .before .if4 .left), ready)
+
+same-length-13 : tie.Need-same-length-13
+same-length-13 c = search needs
+
+same-length-14 : tie.Need-same-length-14
+same-length-14 c = search needs
+
+same-length-15 : tie.Need-same-length-15
+same-length-15 c = search needs
+
+same-length-16 : tie.Need-same-length-16
+same-length-16 c = search needs
+
+returns-5 : tie.Need-returns-5
+returns-5 c =
+    let k = call-of _ (sym (c .before .before .before .before .before .before .before .before .before .before .before .before .before .before .before .before .before .before .before .before .before .before .before .before .before .before .before .is-listed .ensures) ∙ not-false _ (c .before .before .before .before .before .before .before .before .before .before .before .before .before .before .before .before .before .before .before .before .before .before .before .before .before .before .if1 .left)) in
+    let ready = ready-of eightInch _ _ _ (sym (c .before .before .before .before .before .before .before .before .before .before .before .before .before .before .before .before .before .before .before .before .before .parameters-right .ensures) ∙ not-false _ (c .before .before .before .before .before .before .before .before .before .before .before .before .before .before .before .before .before .before .before .before .if2 .left))
+    (sym (c .before .before .before .before .before .before .before .before .before .before .before .before .before .before .before .before .disk-right .ensures .0 _ _) ∙ not-false _ (c .before .before .before .before .before .before .before .before .before .before .before .before .before .before .if3 .left)) in
+    c .before .before .before .before .before .before .before .before .own-call .ensures k ∙ sym (step-own eightInch _ _ _ k refl ready)
+
+pub call-spec : {M : Type 1} → statement M
+call-spec =
+    tie.close
+    (tie.spec
+    is-listed-requires
+    refuse-requires
+    returns
+    parameters-right-requires
+    refuse-requires-2
+    same-length
+    same-length-2
+    same-length-3
+    same-length-4
+    returns-2
+    slice-aggregate-disk-right
+    disk-right-requires
+    refuse-requires-3
+    same-length-5
+    same-length-6
+    same-length-7
+    same-length-8
+    returns-3
+    slice-aggregate-log-in
+    log-in-requires
+    same-length-9
+    same-length-10
+    same-length-11
+    same-length-12
+    returns-4
+    own-call-requires
+    same-length-13
+    same-length-14
+    same-length-15
+    same-length-16
+    returns-5)

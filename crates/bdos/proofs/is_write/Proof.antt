@@ -1,0 +1,14 @@
+-- `bdos::is_write` meets its contract: the first number, or the second.
+use mathlib.Core.Path.{sym, _∙_}
+use Rattle.bdos.specs.Numbers.{one-here, one-skip, one-last}
+use Rattle.bdos.proofs.is_write.Statement.{statement}
+use Rattle.bdos.proofs.is_write.Tie as tie
+
+returns : tie.Need-returns
+returns c = sym (one-here _ _ _ (c .if1 .taken))
+
+returns-2 : tie.Need-returns-2
+returns-2 c = sym (one-skip _ _ _ (c .if1 .left) ∙ one-last _ _)
+
+pub is-write-spec : {M : Type 1} → statement M
+is-write-spec = tie.close (tie.spec returns returns-2)

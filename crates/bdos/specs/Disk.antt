@@ -1,0 +1,24 @@
+-- Row 255, 1 as code decides it: the image first, then, except for 13, the map.
+use mathlib.Core.Path.{_≡_, _∙_}
+use mathlib.Core.Bool.{true, false}
+use Prim.Native.Nat.{ℕ}
+use borrow.Author.Tests.{eq-eqb, ne-eqb}
+use Rattle.lists.specs.Tests.{and-fails-left, and-then, and-both, or-left, or-then}
+use Rattle.format.specs.Diskette.{Geometry}
+use Rattle.format.specs.Consistent.{consistent}
+use Rattle.format.specs.Notes.{mapRight}
+use Rattle.model.specs.Lent.{Lent, rowsOf}
+use Rattle.model.specs.Table.{diskRight}
+
+module _ (G : Geometry) (l : Lent) (n : ℕ) where
+  pub image-wrong : consistent G (l .image) ≡ false → diskRight G l n ≡ false
+  unfolding diskRight
+  image-wrong h = and-fails-left _ _ h
+
+  pub log-in-right : consistent G (l .image) ≡ true → n ≡ 13 → diskRight G l n ≡ true
+  unfolding diskRight
+  log-in-right h q = and-both _ _ h (or-left _ _ (eq-eqb n 13 q))
+
+  pub map-decides : consistent G (l .image) ≡ true → (n ≡ 13 → ⊥) → diskRight G l n ≡ mapRight G (rowsOf G l) (l .map)
+  unfolding diskRight
+  map-decides h q = and-then _ _ h ∙ or-then _ _ (ne-eqb n 13 q)
