@@ -7,7 +7,7 @@ ghost use lib.ListN.{length};
 ghost use Rattle.format.specs.Diskette.{Bytes, eightInch, imageBytes};
 ghost use Rattle.format.specs.Entries.{entryAt};
 ghost use Rattle.format.specs.Consistent.{consistent};
-ghost use Rattle.format.specs.Marks.{markCount, Marked};
+ghost use Rattle.facts.specs.Marks.{markCount, Marked};
 ghost use Rattle.format.specs.Notes.{mapRight};
 ghost use Rattle.format.specs.Fcb.{fcbBytes};
 ghost use Rattle.model.specs.Lent.{lend, outcome};
