@@ -2,10 +2,11 @@
 
 use super::image;
 use crate::files;
+use crate::layout::{AREA, BLOCKS, BLOCK_RECORDS};
 use crate::trouble::{Doing, Trouble};
 use crate::words::{Shape, Words};
 use crate::{Desk, Verb};
-use benzokamuri::ENTRIES;
+use benzokamuri::{BUFFER_LEN, ENTRIES};
 
 pub const VERB: Verb = Verb {
     name: "free",
@@ -21,6 +22,9 @@ bytes of a file. -u makes no difference here.",
     run,
 };
 
+/// Records of the blocks behind the directory.
+const ALL_RECORDS: usize = BLOCK_RECORDS * (BLOCKS - AREA);
+
 fn run(mut words: Words, desk: &mut Desk) -> Result<(), Trouble> {
     let image = image(&mut words)?;
     words.end()?;
@@ -28,10 +32,18 @@ fn run(mut words: Words, desk: &mut Desk) -> Result<(), Trouble> {
     let records = disk.space().doing(image.name())?;
     let files = files::all(&mut disk).doing(image.name())?;
     let entries: usize = files.iter().map(|file| file.entries.len()).sum();
-    let blocks = records / 8;
-    writeln!(desk.out, "records {records:>6} of 1928")?;
-    writeln!(desk.out, "blocks  {blocks:>6} of 241")?;
-    writeln!(desk.out, "bytes   {:>6} of 246784", 1_024 * blocks)?;
-    writeln!(desk.out, "entries {:>6} of {ENTRIES}", ENTRIES - entries)?;
+    let records = records as usize;
+    for (what, free, all) in [
+        ("records", records, ALL_RECORDS),
+        (
+            "blocks",
+            records / BLOCK_RECORDS,
+            ALL_RECORDS / BLOCK_RECORDS,
+        ),
+        ("bytes", records * BUFFER_LEN, ALL_RECORDS * BUFFER_LEN),
+        ("entries", ENTRIES - entries, ENTRIES),
+    ] {
+        writeln!(desk.out, "{what:<8}{free:>6} of {all}")?;
+    }
     Ok(())
 }

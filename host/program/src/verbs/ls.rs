@@ -6,7 +6,7 @@ use crate::layout::Row;
 use crate::trouble::{Doing, Trouble};
 use crate::words::{Shape, Words};
 use crate::{Desk, Verb};
-use benzokamuri::{Disk, Pattern};
+use benzokamuri::{Code, Disk, Pattern};
 use std::fmt::Write;
 
 pub const VERB: Verb = Verb {
@@ -22,7 +22,7 @@ used (its byte s1, as CP/M Plus and cpmtools keep it), the size counts those.
   -a        the files of all users
   -l        also each extent: its entry, records and blocks
 
-A file is listed if it matches one of the patterns; see `benzokamuri help names`.",
+Files that match one of the patterns are listed; see `benzokamuri help names`.",
     shape: Shape {
         flags: &["-l", "-a"],
         valued: &[],
@@ -32,12 +32,12 @@ A file is listed if it matches one of the patterns; see `benzokamuri help names`
 
 fn run(mut words: Words, desk: &mut Desk) -> Result<(), Trouble> {
     let file = image(&mut words)?;
-    let patterns = words.rest();
-    let mut patterns: Vec<Pattern> = patterns
+    let given = words.rest();
+    let mut patterns: Vec<Pattern> = given
         .iter()
         .map(|word| named(word))
         .collect::<Result<_, _>>()?;
-    if patterns.is_empty() {
+    if given.is_empty() {
         patterns.push(Pattern::EVERY);
     }
     let users = match (words.has("-a"), words.user()) {
@@ -48,6 +48,9 @@ fn run(mut words: Words, desk: &mut Desk) -> Result<(), Trouble> {
     let mut listed = Vec::new();
     for user in users {
         listed.extend(listed_for(&mut disk, user, &patterns).doing(file.name())?);
+    }
+    if listed.is_empty() && !given.is_empty() {
+        return Err(Code::NothingMatches).doing(file.name());
     }
     let free = disk.space().doing(file.name())?;
     let mut text = format!(
@@ -69,20 +72,25 @@ fn run(mut words: Words, desk: &mut Desk) -> Result<(), Trouble> {
         }
     }
     let records: u32 = listed.iter().map(|file| file.records).sum();
-    let files = match listed.len() {
-        1 => "1 file".into(),
-        count => format!("{count} files"),
-    };
-    let _ = writeln!(text, "{files}, {records} records; {free} records are free");
+    let _ = writeln!(
+        text,
+        "{}, {}; {free} records are free",
+        counted(listed.len(), "file"),
+        counted(records as usize, "record")
+    );
     Ok(desk.out.write_all(text.as_bytes())?)
 }
 
+/// A number of things.
+fn counted(count: usize, what: &str) -> String {
+    match count {
+        1 => format!("1 {what}"),
+        _ => format!("{count} {what}s"),
+    }
+}
+
 /// A user's files that match one of some patterns, each once.
-fn listed_for(
-    disk: &mut Disk,
-    user: u8,
-    patterns: &[Pattern],
-) -> Result<Vec<File>, benzokamuri::Code> {
+fn listed_for(disk: &mut Disk, user: u8, patterns: &[Pattern]) -> Result<Vec<File>, Code> {
     let mut listed = Vec::new();
     for &pattern in patterns {
         listed.extend(files::matching(disk, user, pattern)?);

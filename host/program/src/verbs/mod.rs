@@ -18,7 +18,6 @@ use crate::words::Words;
 use crate::{Desk, Verb};
 use benzokamuri::BadName;
 use std::ffi::OsStr;
-use std::io::Write;
 use std::str::FromStr;
 
 /// All verbs, in the order that help shows them.

@@ -51,8 +51,10 @@ fn run(mut words: Words, desk: &mut Desk) -> Result<(), Trouble> {
     if there && words.has("-f") {
         disk.delete(&mut Fcb::named(name)).doing(&doing)?;
     } else if there {
-        let hint = format!("{doing}: -f replaces it");
-        return Err(Code::EntryExists).doing(hint);
+        let code = Code::EntryExists;
+        let (a, h) = code.numbers();
+        let hint = format!("{doing}: {a}, {h}: {code} -f replaces it.");
+        return Err(Trouble::failed(hint));
     }
     files::write(&mut disk, name, &bytes).doing(&doing)?;
     image.save(&disk)?;
