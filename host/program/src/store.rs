@@ -1,10 +1,11 @@
 //! Images as files: read whole, checked for their length, and saved so that
 //! the file is the old image or the new one, never a part of either.
 
-use crate::layout::{place, Row, BLOCK_RECORDS, ERASED};
+use crate::layout::{place, Row, AREA, BLOCKS, BLOCK_RECORDS, ERASED};
 use crate::trouble::Trouble;
 use benzokamuri::{Code, Disk, Image, NoDisk, WrongLength, BUFFER_LEN, ENTRIES, IMAGE_LEN};
 use std::ffi::OsStr;
+use std::fmt;
 use std::fs::{self, File, OpenOptions};
 use std::io::{self, Write};
 use std::path::{Path, PathBuf};
@@ -83,51 +84,92 @@ impl ImageFile {
     }
 }
 
+/// Why a file's bytes are no image.
+#[derive(Debug, PartialEq, Eq)]
+struct NoImage {
+    length: WrongLength,
+    /// Whether whole sectors are missing, but entries count on them.
+    torn: bool,
+}
+
+impl NoImage {
+    fn with(found: usize) -> NoImage {
+        NoImage {
+            length: WrongLength { found },
+            torn: false,
+        }
+    }
+}
+
+impl fmt::Display for NoImage {
+    fn fmt(&self, f: &mut fmt::Formatter) -> fmt::Result {
+        self.length.fmt(f)?;
+        match self.torn {
+            true => f.write_str(", and entries list records behind its end"),
+            false => Ok(()),
+        }
+    }
+}
+
 /// A file's bytes, unless there are too many for an image.
-fn read(path: &Path) -> io::Result<Result<Vec<u8>, WrongLength>> {
+fn read(path: &Path) -> io::Result<Result<Vec<u8>, NoImage>> {
     let length = fs::metadata(path)?.len();
     if length > IMAGE_LEN as u64 {
         let found = usize::try_from(length).unwrap_or(usize::MAX);
-        return Ok(Err(WrongLength { found }));
+        return Ok(Err(NoImage::with(found)));
     }
     fs::read(path).map(Ok)
 }
 
 /// An image from a file's bytes. Tools that write a sector at a time leave
 /// those out at the end that they never wrote; these are erased ones. Files
-/// that end inside a sector, or before something that the directory lists, are
-/// none of theirs.
-fn filled_up(bytes: Vec<u8>) -> Result<Box<Image>, WrongLength> {
+/// that end inside a sector, inside the directory, or before something that it
+/// lists, are none of theirs.
+fn filled_up(bytes: Vec<u8>) -> Result<Box<Image>, NoImage> {
     let found = bytes.len();
-    let wrong = WrongLength { found };
     let mut image = bytes;
     let short = found < IMAGE_LEN;
+    if short && (!found.is_multiple_of(BUFFER_LEN) || found < directory_end()) {
+        return Err(NoImage::with(found));
+    }
     if short {
         image.resize(IMAGE_LEN, ERASED);
     }
-    let image: Box<Image> = image.into_boxed_slice().try_into().map_err(|_| wrong)?;
-    if short && (found % BUFFER_LEN != 0 || needed(&image) > found) {
-        return Err(wrong);
+    let image: Result<Box<Image>, _> = image.into_boxed_slice().try_into();
+    let image = image.map_err(|_| NoImage::with(found))?;
+    if short && listed_end(&image) > found {
+        return Err(NoImage {
+            torn: true,
+            ..NoImage::with(found)
+        });
     }
     Ok(image)
 }
 
-/// Up to where an image holds something: its directory, and the records that
-/// entries count in the blocks they list.
-fn needed(image: &Image) -> usize {
-    let end = |block: usize, record: usize| place(block, record) + BUFFER_LEN;
-    let directory = (0..2 * BLOCK_RECORDS).map(|d| end(d / BLOCK_RECORDS, d % BLOCK_RECORDS));
+/// Past which byte a record of a block ends.
+fn end(block: usize, record: usize) -> usize {
+    place(block, record) + BUFFER_LEN
+}
+
+/// Past which byte the directory ends.
+fn directory_end() -> usize {
+    let records = 0..AREA * BLOCK_RECORDS;
+    let ends = records.map(|d| end(d / BLOCK_RECORDS, d % BLOCK_RECORDS));
+    ends.max().unwrap_or(0)
+}
+
+/// Past which byte the records end that entries count in the blocks they list.
+fn listed_end(image: &Image) -> usize {
     let counted = (0..ENTRIES).flat_map(|entry| {
         let row = Row::of(image, entry);
         let count = if row.is_used() { row.rc().min(128) } else { 0 };
         (0..usize::from(count)).filter_map(move |record| {
             let block = usize::from(row.slots()[record / BLOCK_RECORDS]);
-            (2..243)
-                .contains(&block)
-                .then(|| end(block, record % BLOCK_RECORDS))
+            let listed = (AREA..BLOCKS).contains(&block);
+            listed.then(|| end(block, record % BLOCK_RECORDS))
         })
     });
-    directory.chain(counted).max().unwrap_or(0)
+    counted.max().unwrap_or(0)
 }
 
 /// Saves an image or what goes with one: a temporary file in the same folder
@@ -245,7 +287,7 @@ mod tests {
         for length in [IMAGE_LEN + 1, IMAGE_LEN + 128, 2 * IMAGE_LEN] {
             let mut long = disk.image().to_vec();
             long.resize(length, ERASED);
-            assert_eq!(filled_up(long), Err(WrongLength { found: length }));
+            assert_eq!(filled_up(long), Err(NoImage::with(length)));
         }
     }
 
@@ -253,17 +295,18 @@ mod tests {
     fn sectors_never_written_may_be_left_out() {
         for records in [0, 1, 8, 9, 100] {
             let disk = disk_with(records);
-            let needed = needed(disk.image());
+            let needed = listed_end(disk.image()).max(directory_end());
             for length in (0..=IMAGE_LEN).step_by(64) {
                 let short = disk.image()[..length].to_vec();
-                let fine = length >= needed && length % 128 == 0;
+                let fine = length >= needed && length.is_multiple_of(128);
                 match filled_up(short) {
                     Ok(image) => assert!(fine && *image == *disk.image(), "{length}"),
-                    Err(wrong) => assert!(!fine && wrong.found == length, "{length}"),
+                    Err(wrong) => assert!(!fine && wrong.length.found == length, "{length}"),
                 }
             }
         }
         // The directory's last sector is physical sector 25 of track 2.
-        assert_eq!(needed(disk_with(0).image()), (26 * 2 + 25) * 128);
+        assert_eq!(directory_end(), (26 * 2 + 25) * 128);
+        assert_eq!(listed_end(disk_with(0).image()), 0);
     }
 }

@@ -15,8 +15,8 @@ pub const VERB: Verb = Verb {
     purpose: "Copy a file onto the disk.",
     usage: "[-u USER] [-f] IMAGE FILE [NAME]",
     help: "\
-FILE is the file to be read, or - for standard input. Where NAME is left out, the
-file gets its own name, in capitals. Its last record is filled up with 1AH.
+FILE is the file to be read, or - for standard input. Where NAME is left out,
+the file gets its own name, in capitals. Its last record is filled up with 1AH.
 
 The image is saved only if all of the file has found room; otherwise it stays as
 it was.
