@@ -295,7 +295,7 @@ fn a_disk_that_lacks_what_its_directory_lists() {
 // -- With cpmtools ------------------------------------------------------------
 
 /// Where cpmtools is not, says so. `BENZOKAMURI_CPMTOOLS` may name a folder
-/// that its programs and its file diskdefs are in.
+/// that its programs, its libraries and its file diskdefs are in.
 fn cpmtools_is_there() -> bool {
     let there = cpmtool("mkfs.cpm").arg("-h").output().is_ok();
     if !there {
@@ -306,7 +306,11 @@ fn cpmtools_is_there() -> bool {
 
 fn cpmtool(name: &str) -> Command {
     match std::env::var_os("BENZOKAMURI_CPMTOOLS") {
-        Some(folder) => Command::new(Path::new(&folder).join(name)),
+        Some(folder) => {
+            let mut command = Command::new(Path::new(&folder).join(name));
+            command.env("LD_LIBRARY_PATH", folder);
+            command
+        }
         None => Command::new(name),
     }
 }
