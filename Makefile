@@ -1,9 +1,27 @@
-# make test   the one test command: proves every crate, then runs the host's tests
-# make run    says what is there
-.PHONY: test run
+# make test      the one test command: proves every crate, then runs the host's tests
+# make run       shows the demo, or says what is there
+# make lib       the archive and the header, in build/lib and build/include
+# make install   archive, header, pkg-config file and program, under PREFIX
+# make fuzz      random calls with new seeds until stopped; REPLAY=file runs a failing sequence again
+# make bench     the library measured beside the reference
+.PHONY: test run lib install fuzz bench
+
+PREFIX ?= /usr/local
 
 test:
 	@bash scripts/test
 
 run:
 	@bash scripts/run
+
+lib:
+	@bash scripts/lib
+
+install:
+	@PREFIX='$(PREFIX)' DESTDIR='$(DESTDIR)' bash scripts/install
+
+fuzz:
+	@REPLAY='$(REPLAY)' SEED='$(SEED)' CALLS='$(CALLS)' bash scripts/fuzz
+
+bench:
+	@bash scripts/bench

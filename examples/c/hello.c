@@ -1,0 +1,42 @@
+/* Makes a file on an empty disk, writes a record, and reads it back. */
+#include <stdio.h>
+#include <string.h>
+
+#include "benzokamuri.h"
+
+static uint8_t image[BENZO_IMAGE_LEN], fcb[BENZO_FCB_LEN], buffer[BENZO_BUFFER_LEN];
+static uint16_t map[BENZO_MAP_LEN];
+static benzo_session session; /* begins at zero */
+
+/* Makes a call and says what came of it. */
+static int call(uint8_t number, const char *what) {
+    benzo_asked asked = {number, 0};
+    benzo_answer answer = benzo_call(asked, image, sizeof image, map, BENZO_MAP_LEN,
+                                     fcb, sizeof fcb, buffer, sizeof buffer, session);
+    session = answer.session;
+    printf("%2d %-16s %d, %d\n", number, what, answer.a, answer.h);
+    return answer.a;
+}
+
+int main(void) {
+    memset(image, 0xE5, sizeof image); /* an empty disk */
+    call(BENZO_LOG_IN, "log in");
+
+    memcpy(fcb + 1, "HELLO   TXT", 11);
+    call(BENZO_MAKE, "make");
+    memset(buffer, 0x1A, sizeof buffer); /* what a text is filled up with */
+    memcpy(buffer, "Hello from a diskette!", 22);
+    call(BENZO_WRITE_NEXT, "write");
+    call(BENZO_CLOSE, "close");
+
+    memset(fcb + 12, 0, sizeof fcb - 12); /* extent 0, from its beginning */
+    memset(buffer, 0, sizeof buffer);
+    call(BENZO_OPEN, "open");
+    call(BENZO_READ_NEXT, "read");
+    printf("%.22s\n", (const char *)buffer);
+    call(BENZO_READ_NEXT, "read past end");
+
+    call(BENZO_SPACE, "space");
+    printf("%d records are free\n", buffer[0] + 256 * buffer[1] + 65536 * buffer[2]);
+    return 0;
+}

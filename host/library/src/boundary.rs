@@ -1,0 +1,91 @@
+//! The boundary: the archive's one function, the types it takes and answers,
+//! and the safe way to it. Nothing compares these declarations with the proved
+//! source; `tests/layout.rs` compares them with the C header.
+
+/// The version of these types and of the function's parameters, the header's
+/// `BENZO_VERSION`.
+pub const VERSION: u32 = 1;
+
+/// Which call is asked for: `benzo_asked`.
+#[repr(C)]
+#[derive(Clone, Copy, Debug, Default, PartialEq, Eq)]
+pub struct Asked {
+    /// The call number.
+    pub number: u8,
+    /// The argument byte, looked at by call 32 only.
+    pub argument: u8,
+}
+
+/// What a caller keeps from one call to the next: `benzo_session`. It begins
+/// at zero, which is [`Session::default`].
+#[repr(C)]
+#[derive(Clone, Copy, Debug, Default, PartialEq, Eq)]
+pub struct Session {
+    /// The user number, 0 to 15.
+    pub user: u8,
+    /// The search pattern: name, type and extent.
+    pub pattern: [u8; 12],
+    /// The search place, 0 to 64.
+    pub place: u16,
+    /// Whether a search is on: 0 is off, anything else is on.
+    pub on: u8,
+}
+
+/// What a call answers: `benzo_answer`.
+#[repr(C)]
+#[derive(Clone, Copy, Debug, Default, PartialEq, Eq)]
+pub struct Answer {
+    /// Register A.
+    pub a: u8,
+    /// Register H.
+    pub h: u8,
+    /// The session for the next call.
+    pub session: Session,
+}
+
+extern "C" {
+    fn benzo_call(
+        asked: Asked,
+        image: *mut u8,
+        image_len: usize,
+        map: *mut u16,
+        map_len: usize,
+        fcb: *mut u8,
+        fcb_len: usize,
+        buffer: *mut u8,
+        buffer_len: usize,
+        session: Session,
+    ) -> Answer;
+}
+
+/// Makes one call with the four buffers as they are lent, right or wrong. A
+/// wrong length is answered with 255, 4.
+#[allow(unsafe_code)]
+pub fn lend(
+    asked: Asked,
+    image: &mut [u8],
+    map: &mut [u16],
+    fcb: &mut [u8],
+    buffer: &mut [u8],
+    session: Session,
+) -> Answer {
+    // SAFETY: each pointer is that of an exclusive slice and goes with its own
+    // length, so the four are readable, writable, aligned and apart from each
+    // other for as long as the call runs. The function keeps none of them. It
+    // asks nothing of the bytes, the notes, the lengths or the session, all of
+    // which may be anything.
+    unsafe {
+        benzo_call(
+            asked,
+            image.as_mut_ptr(),
+            image.len(),
+            map.as_mut_ptr(),
+            map.len(),
+            fcb.as_mut_ptr(),
+            fcb.len(),
+            buffer.as_mut_ptr(),
+            buffer.len(),
+            session,
+        )
+    }
+}

@@ -1,0 +1,199 @@
+//! The codes of the table, with the help card's sentences.
+
+use crate::{Answer, Asked, Session};
+use std::fmt;
+
+/// Writes the cases of the table down as an enum with codes, calls and
+/// sentences.
+macro_rules! codes {
+    ($($code:ident = $a:literal, $h:literal, $calls:expr, $sentence:literal;)*) => {
+        /// Why a call was refused: the cases of the table, in the order they
+        /// are tested. 255, 0 has several, told apart by the call that
+        /// answered it. `Display` is the help card's sentence.
+        #[derive(Clone, Copy, Debug, PartialEq, Eq)]
+        #[non_exhaustive]
+        pub enum Code {
+            $(
+                #[doc = concat!($a, ", ", $h, ": ", $sentence)]
+                $code,
+            )*
+            /// A and H that are not on the help card. The proved archive does
+            /// not answer so; one of another version could.
+            Unknown {
+                /// Register A.
+                a: u8,
+                /// Register H.
+                h: u8,
+            },
+        }
+
+        impl Code {
+            /// All cases of the table.
+            pub const ALL: &'static [Code] = &[$(Code::$code),*];
+
+            /// A and H.
+            pub const fn numbers(self) -> (u8, u8) {
+                match self {
+                    $(Code::$code => ($a, $h),)*
+                    Code::Unknown { a, h } => (a, h),
+                }
+            }
+
+            /// The calls that answer so; all of them where the list is empty.
+            pub const fn calls(self) -> &'static [u8] {
+                match self {
+                    $(Code::$code => &$calls,)*
+                    Code::Unknown { .. } => &[],
+                }
+            }
+
+            /// The help card's sentence.
+            pub const fn sentence(self) -> &'static str {
+                match self {
+                    $(Code::$code => $sentence,)*
+                    Code::Unknown { .. } => "This code is not on the help card.",
+                }
+            }
+        }
+    };
+}
+
+codes! {
+    NotListed = 255, 255, [],
+        "There is no call with this number.";
+    BadCall = 255, 4, [],
+        "A buffer has a wrong length, the session's user is over 15, its search place is over 64, or byte 0 of the FCB is over 1.";
+    BadDisk = 255, 1, [],
+        "The directory of the image is not consistent, or the map does not fit it.";
+    TooFar = 6, 0, [33, 34],
+        "The random record number is over 262,143.";
+    NotCurrent = 9, 0, [20, 21, 33, 34],
+        "The FCB is not current: the file has changed since it was opened, or was never opened.";
+    NotCurrentToClose = 255, 0, [16],
+        "The FCB is not current, so there is nothing that it can close.";
+    OutOfRange = 255, 0, [36],
+        "The FCB's ex is over 31, its s2 is over 63 or its cr is over 128.";
+    NoSuchUser = 255, 0, [32],
+        "The argument is neither 255 nor a user number from 0 to 15.";
+    BadName = 255, 9, [15, 17, 19, 22, 23, 35],
+        "A name has a byte that names may not have, or the extent in byte 12 is over 31.";
+    NothingMatches = 255, 0, [15, 17, 19, 23, 35],
+        "This user has no such file.";
+    NoSearch = 255, 0, [18],
+        "No search is on.";
+    NoMore = 255, 0, [18],
+        "Nothing more matches.";
+    ReadOnly = 255, 3, [19, 21, 23, 34],
+        "The file is read-only.";
+    EntryExists = 255, 8, [22],
+        "The file is there already.";
+    NameTaken = 255, 8, [23],
+        "A file of the new name is there already.";
+    DirectoryFull = 255, 0, [22],
+        "The directory is full: none of its 64 entries is empty.";
+    NotClosed = 3, 0, [20, 21, 33, 34],
+        "The present extent can't be closed, so the move to another can't begin.";
+    NoExtent = 4, 0, [33],
+        "The file has no entry for the extent of this record.";
+    NotThere = 1, 0, [20, 33],
+        "The record is not there.";
+    NoNextExtent = 1, 0, [21],
+        "The next extent has no entry and the directory is full, or the file is as long as a file can be.";
+    NoEntryLeft = 5, 0, [34],
+        "The extent of this record has no entry and the directory is full.";
+    DiskFull = 2, 0, [21, 34],
+        "The disk is full: no block is free.";
+}
+
+impl Code {
+    /// Reads an answer: A where the call was accepted, or why it was refused.
+    /// `before` is the session that the call was given.
+    pub fn read(asked: Asked, before: &Session, answer: &Answer) -> Result<u8, Code> {
+        let Answer { a, h, .. } = *answer;
+        let transfers = matches!(asked.number, 20 | 21 | 33 | 34);
+        if a != 255 && h == 0 && (!transfers || a == 0) {
+            return Ok(a);
+        }
+        let here = |code: &&Code| {
+            let calls = code.calls();
+            code.numbers() == (a, h) && (calls.is_empty() || calls.contains(&asked.number))
+        };
+        let code = Code::ALL.iter().find(here).copied();
+        Err(match code {
+            // A search that is on runs out; without one there is none to.
+            Some(Code::NoSearch) if before.on != 0 => Code::NoMore,
+            Some(code) => code,
+            None => Code::Unknown { a, h },
+        })
+    }
+}
+
+impl fmt::Display for Code {
+    fn fmt(&self, f: &mut fmt::Formatter) -> fmt::Result {
+        f.write_str(self.sentence())
+    }
+}
+
+impl std::error::Error for Code {}
+
+#[cfg(test)]
+mod tests {
+    use super::*;
+
+    fn read(number: u8, on: u8, a: u8, h: u8) -> Result<u8, Code> {
+        let asked = Asked {
+            number,
+            argument: 0,
+        };
+        let session = Session {
+            on,
+            ..Session::default()
+        };
+        Code::read(asked, &session, &Answer { a, h, session })
+    }
+
+    #[test]
+    fn every_case_is_read_back_by_each_of_its_calls() {
+        for &code in Code::ALL {
+            let (a, h) = code.numbers();
+            let every = [13, 15, 18, 20, 46, 99];
+            let calls = if code.calls().is_empty() {
+                &every
+            } else {
+                code.calls()
+            };
+            let on = u8::from(code == Code::NoMore);
+            for &number in calls {
+                assert_eq!(read(number, on, a, h), Err(code), "call {number}");
+            }
+        }
+    }
+
+    #[test]
+    fn what_is_accepted_is_told_from_what_is_not() {
+        for number in [15, 16, 17, 18, 22] {
+            assert!((0..4).all(|a| read(number, 0, a, 0) == Ok(a)));
+        }
+        assert!((0..16).all(|user| read(32, 0, user, 0) == Ok(user)));
+        assert_eq!(read(21, 0, 0, 0), Ok(0));
+        assert_eq!(read(21, 0, 1, 0), Err(Code::NoNextExtent));
+        assert_eq!(read(20, 0, 1, 0), Err(Code::NotThere));
+    }
+
+    #[test]
+    fn what_is_not_on_the_card_says_so() {
+        let unknown = Code::Unknown { a: 255, h: 2 };
+        assert_eq!(read(16, 0, 255, 2), Err(unknown));
+        assert_eq!(unknown.numbers(), (255, 2));
+        assert_eq!(read(33, 0, 200, 0), Err(Code::Unknown { a: 200, h: 0 }));
+    }
+
+    #[test]
+    fn each_case_has_a_sentence_of_its_own() {
+        let mut sentences: Vec<_> = Code::ALL.iter().map(|code| code.to_string()).collect();
+        assert!(sentences.iter().all(|sentence| sentence.ends_with('.')));
+        sentences.sort();
+        sentences.dedup();
+        assert_eq!(sentences.len(), Code::ALL.len());
+    }
+}

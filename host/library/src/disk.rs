@@ -1,0 +1,272 @@
+//! A disk: an image with what the calls need beside it.
+
+use crate::{
+    lend, Asked, Buffer, Call, Code, Entry, Fcb, Image, Map, Session, BUFFER_LEN, ENTRY_LEN,
+    IMAGE_LEN, MAP_LEN,
+};
+use std::fmt;
+
+/// The byte that an erased disk is full of.
+const ERASED: u8 = 0xE5;
+
+/// An image, its map, a transfer buffer and a session. Nothing but the calls
+/// changes image, map and session.
+#[derive(Clone, PartialEq, Eq)]
+pub struct Disk {
+    image: Box<Image>,
+    map: Box<Map>,
+    session: Session,
+    /// The transfer buffer: what writes take and reads give.
+    pub buffer: Buffer,
+}
+
+/// A directory entry that a search found.
+#[derive(Clone, Copy, Debug, PartialEq, Eq)]
+pub struct Found {
+    /// Its number, 0 to 63.
+    pub number: usize,
+    /// Its bytes.
+    pub entry: Entry,
+}
+
+/// Bytes that are no image, for their number.
+#[derive(Clone, Copy, Debug, PartialEq, Eq)]
+pub struct WrongLength {
+    /// How many there are.
+    pub found: usize,
+}
+
+impl fmt::Display for WrongLength {
+    fn fmt(&self, f: &mut fmt::Formatter) -> fmt::Result {
+        write!(
+            f,
+            "the image is {} bytes long and has to be {IMAGE_LEN}",
+            self.found
+        )
+    }
+}
+
+impl std::error::Error for WrongLength {}
+
+/// Why bytes are no disk.
+#[derive(Clone, Copy, Debug, PartialEq, Eq)]
+pub enum NoDisk {
+    /// There are too few or too many of them.
+    WrongLength(WrongLength),
+    /// The log-in was refused.
+    Refused(Code),
+}
+
+impl fmt::Display for NoDisk {
+    fn fmt(&self, f: &mut fmt::Formatter) -> fmt::Result {
+        match self {
+            NoDisk::WrongLength(wrong) => wrong.fmt(f),
+            NoDisk::Refused(code) => code.fmt(f),
+        }
+    }
+}
+
+impl std::error::Error for NoDisk {}
+
+/// Bytes on the heap; an image is too large for the stack.
+fn boxed<T: Copy, const N: usize>(bytes: Vec<T>) -> Result<Box<[T; N]>, WrongLength> {
+    let found = bytes.len();
+    let boxed = bytes.into_boxed_slice().try_into();
+    boxed.map_err(|_| WrongLength { found })
+}
+
+impl Disk {
+    /// An erased disk, logged in: every byte is E5H, so every entry is empty.
+    pub fn erased() -> Disk {
+        let disk = Disk::new(vec![ERASED; IMAGE_LEN]);
+        disk.expect("an erased image is consistent")
+    }
+
+    /// A disk with this image, logged in as user 0.
+    pub fn new(image: Vec<u8>) -> Result<Disk, NoDisk> {
+        let image = boxed(image).map_err(NoDisk::WrongLength)?;
+        let map = boxed(vec![0; MAP_LEN]).map_err(NoDisk::WrongLength)?;
+        let mut disk = Disk::resumed(image, map, Session::default());
+        disk.log_in().map_err(NoDisk::Refused)?;
+        Ok(disk)
+    }
+
+    /// A disk with a map and a session kept from earlier. Nothing is asked of
+    /// them; the calls refuse what does not fit.
+    pub fn resumed(image: Box<Image>, map: Box<Map>, session: Session) -> Disk {
+        Disk {
+            image,
+            map,
+            session,
+            buffer: [0; BUFFER_LEN],
+        }
+    }
+
+    /// The image.
+    pub fn image(&self) -> &Image {
+        &self.image
+    }
+
+    /// The map.
+    pub fn map(&self) -> &Map {
+        &self.map
+    }
+
+    /// The session.
+    pub fn session(&self) -> Session {
+        self.session
+    }
+
+    /// The image alone.
+    pub fn into_image(self) -> Vec<u8> {
+        self.image.to_vec()
+    }
+
+    /// Makes any call: A where it is accepted, or why it is refused.
+    pub fn ask(&mut self, asked: Asked, fcb: &mut Fcb) -> Result<u8, Code> {
+        let before = self.session;
+        let answer = lend(
+            asked,
+            &mut *self.image,
+            &mut *self.map,
+            fcb.bytes_mut(),
+            &mut self.buffer,
+            before,
+        );
+        self.session = answer.session;
+        Code::read(asked, &before, &answer)
+    }
+
+    /// Makes a listed call with argument 0.
+    pub fn call(&mut self, call: Call, fcb: &mut Fcb) -> Result<u8, Code> {
+        let number = call.number();
+        let argument = 0;
+        self.ask(Asked { number, argument }, fcb)
+    }
+
+    /// A call that doesn't use the FCB.
+    fn call_without_fcb(&mut self, call: Call) -> Result<u8, Code> {
+        self.call(call, &mut Fcb::ZERO.clone())
+    }
+
+    /// Call 13: the map becomes the fresh map.
+    pub fn log_in(&mut self) -> Result<(), Code> {
+        self.call_without_fcb(Call::LogIn).map(|_| ())
+    }
+
+    /// Call 15: opens the extent that byte 12 names, and answers its entry's
+    /// number mod 4.
+    pub fn open(&mut self, fcb: &mut Fcb) -> Result<u8, Code> {
+        self.call(Call::Open, fcb)
+    }
+
+    /// Call 16: records what was written to the present extent.
+    pub fn close(&mut self, fcb: &mut Fcb) -> Result<u8, Code> {
+        self.call(Call::Close, fcb)
+    }
+
+    /// Call 17: the first entry that matches.
+    pub fn search_first(&mut self, fcb: &mut Fcb) -> Result<Found, Code> {
+        let a = self.call(Call::SearchFirst, fcb)?;
+        Ok(self.found(a))
+    }
+
+    /// Call 18: the next entry that matches.
+    pub fn search_next(&mut self) -> Result<Found, Code> {
+        let a = self.call_without_fcb(Call::SearchNext)?;
+        Ok(self.found(a))
+    }
+
+    /// The entry that a search has just found: A says which of the four in the
+    /// buffer it is, and the search place is one past it.
+    fn found(&self, a: u8) -> Found {
+        let start = ENTRY_LEN * usize::from(a);
+        Found {
+            number: usize::from(self.session.place).saturating_sub(1),
+            entry: std::array::from_fn(|i| self.buffer[start + i]),
+        }
+    }
+
+    /// Call 19: deletes all files that match.
+    pub fn delete(&mut self, fcb: &mut Fcb) -> Result<(), Code> {
+        self.call(Call::Delete, fcb).map(|_| ())
+    }
+
+    /// Call 20: reads the next record into the buffer.
+    pub fn read_next(&mut self, fcb: &mut Fcb) -> Result<(), Code> {
+        self.call(Call::ReadNext, fcb).map(|_| ())
+    }
+
+    /// Call 21: writes the buffer as the next record.
+    pub fn write_next(&mut self, fcb: &mut Fcb) -> Result<(), Code> {
+        self.call(Call::WriteNext, fcb).map(|_| ())
+    }
+
+    /// Call 22: makes the extent that byte 12 names, and answers its entry's
+    /// number mod 4.
+    pub fn make(&mut self, fcb: &mut Fcb) -> Result<u8, Code> {
+        self.call(Call::Make, fcb)
+    }
+
+    /// Call 23: renames a file.
+    pub fn rename(&mut self, fcb: &mut Fcb) -> Result<(), Code> {
+        self.call(Call::Rename, fcb).map(|_| ())
+    }
+
+    /// Call 32 with argument 255: the user number.
+    pub fn user(&mut self) -> Result<u8, Code> {
+        let asked = Asked {
+            number: Call::User.number(),
+            argument: 255,
+        };
+        self.ask(asked, &mut Fcb::ZERO.clone())
+    }
+
+    /// Call 32: sets the user number, 0 to 15.
+    pub fn set_user(&mut self, user: u8) -> Result<(), Code> {
+        // 255 would ask for the user, and no other argument is a user's.
+        let argument = user.min(254);
+        let asked = Asked {
+            number: Call::User.number(),
+            argument,
+        };
+        self.ask(asked, &mut Fcb::ZERO.clone()).map(|_| ())
+    }
+
+    /// Call 33: reads the FCB's random record into the buffer.
+    pub fn read_random(&mut self, fcb: &mut Fcb) -> Result<(), Code> {
+        self.call(Call::ReadRandom, fcb).map(|_| ())
+    }
+
+    /// Call 34: writes the buffer as the FCB's random record.
+    pub fn write_random(&mut self, fcb: &mut Fcb) -> Result<(), Code> {
+        self.call(Call::WriteRandom, fcb).map(|_| ())
+    }
+
+    /// Call 35: the file's size in records, which the FCB's random record
+    /// becomes too.
+    pub fn size(&mut self, fcb: &mut Fcb) -> Result<u32, Code> {
+        self.call(Call::Size, fcb)?;
+        Ok(fcb.random())
+    }
+
+    /// Call 36: the FCB's position in the file, which its random record
+    /// becomes too.
+    pub fn random_record(&mut self, fcb: &mut Fcb) -> Result<u32, Code> {
+        self.call(Call::RandomRecord, fcb)?;
+        Ok(fcb.random())
+    }
+
+    /// Call 46: the free records, eight to a block.
+    pub fn space(&mut self) -> Result<u32, Code> {
+        let kept = self.buffer;
+        self.call_without_fcb(Call::Space)?;
+        let told = std::mem::replace(&mut self.buffer, kept);
+        Ok(u32::from_le_bytes([told[0], told[1], told[2], 0]))
+    }
+
+    /// Call 98: frees the blocks that are pending.
+    pub fn free_blocks(&mut self) -> Result<(), Code> {
+        self.call_without_fcb(Call::FreeBlocks).map(|_| ())
+    }
+}

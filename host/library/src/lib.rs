@@ -1,0 +1,74 @@
+//! The file calls of CP/M Plus over an image of the 8-inch single-density
+//! diskette, as the proved archive does them, safe to call from Rust.
+//!
+//! ```
+//! use benzokamuri::{Disk, Fcb, Name};
+//!
+//! # fn main() -> Result<(), Box<dyn std::error::Error>> {
+//! let mut disk = Disk::erased();
+//! let mut fcb = Fcb::named("HELLO.TXT".parse::<Name>()?);
+//! disk.make(&mut fcb)?;
+//! disk.buffer.fill(b'!');
+//! disk.write_next(&mut fcb)?;
+//! disk.close(&mut fcb)?;
+//! assert_eq!(disk.space()?, 1_920);
+//! # Ok(())
+//! # }
+//! ```
+//!
+//! * [`Disk`] owns an image, its map, a transfer buffer and a session. Lengths
+//!   can't be wrong there, and only calls change the image.
+//! * [`Fcb`], [`Name`] and [`Pattern`] are what calls are given.
+//! * [`Code`] says why a call was refused, in the help card's sentence.
+//! * [`lend`] is the archive's function itself, which takes buffers of any
+//!   length and any session: wrong ones are refused, not undefined.
+//!
+//! This crate alone holds `unsafe`, in one place: the call across the C
+//! boundary.
+
+#![deny(unsafe_code)]
+#![warn(missing_docs)]
+
+mod boundary;
+mod calls;
+mod codes;
+mod disk;
+mod fcb;
+mod names;
+
+pub use boundary::{lend, Answer, Asked, Session, VERSION};
+pub use calls::Call;
+pub use codes::Code;
+pub use disk::{Disk, Found, NoDisk, WrongLength};
+pub use fcb::Fcb;
+pub use names::{BadName, Name, Pattern};
+
+/// Bytes of an image: 77 tracks of 26 sectors of 128 bytes.
+pub const IMAGE_LEN: usize = 256_256;
+
+/// Notes of a map, one a block.
+pub const MAP_LEN: usize = 243;
+
+/// Bytes of an FCB.
+pub const FCB_LEN: usize = 36;
+
+/// Bytes of a transfer buffer, and of a record.
+pub const BUFFER_LEN: usize = 128;
+
+/// Bytes of a directory entry.
+pub const ENTRY_LEN: usize = 32;
+
+/// Entries of the directory.
+pub const ENTRIES: usize = 64;
+
+/// A whole image.
+pub type Image = [u8; IMAGE_LEN];
+
+/// A whole map.
+pub type Map = [u16; MAP_LEN];
+
+/// A transfer buffer.
+pub type Buffer = [u8; BUFFER_LEN];
+
+/// A directory entry.
+pub type Entry = [u8; ENTRY_LEN];

@@ -1,0 +1,29 @@
+/* Prints the sizes and places that the header's types have for C. */
+#include <stdio.h>
+
+#include "benzokamuri.h"
+
+#define SIZE(type) printf(#type " %zu\n", sizeof(type))
+#define PLACE(type, field) printf(#type "." #field " %zu\n", offsetof(type, field))
+#define VALUE(name) printf(#name " %d\n", name)
+
+int main(void) {
+    SIZE(benzo_asked);
+    PLACE(benzo_asked, number);
+    PLACE(benzo_asked, argument);
+    SIZE(benzo_session);
+    PLACE(benzo_session, user);
+    PLACE(benzo_session, pattern);
+    PLACE(benzo_session, place);
+    PLACE(benzo_session, on);
+    SIZE(benzo_answer);
+    PLACE(benzo_answer, a);
+    PLACE(benzo_answer, h);
+    PLACE(benzo_answer, session);
+    VALUE(BENZO_VERSION);
+    VALUE(BENZO_IMAGE_LEN);
+    VALUE(BENZO_MAP_LEN);
+    VALUE(BENZO_FCB_LEN);
+    VALUE(BENZO_BUFFER_LEN);
+    return 0;
+}

@@ -1,0 +1,49 @@
+//! The C examples, compiled, run, and compared with what must come out.
+
+mod common;
+
+/// What the program of `examples/c/hello.c` has to print.
+const HELLO: &str = "\
+13 log in           0, 0
+22 make             0, 0
+21 write            0, 0
+16 close            0, 0
+15 open             0, 0
+20 read             0, 0
+Hello from a diskette!
+20 read past end    1, 0
+46 space            0, 0
+1920 records are free
+";
+
+/// What the program of `examples/c/lengths.c` has to print.
+const LENGTHS: &str = "459 calls, 425 of them refused for a length\n";
+
+/// The memory checker's words.
+const MEMCHECK: [&str; 4] = [
+    "--quiet",
+    "--error-exitcode=99",
+    "--leak-check=full",
+    "--errors-for-leak-kinds=all",
+];
+
+#[test]
+fn hello() {
+    let hello = common::compile("examples/c/hello.c");
+    assert_eq!(hello.run(), HELLO);
+    check_memory(&hello, HELLO);
+}
+
+#[test]
+fn every_length_wrong_in_turn() {
+    let lengths = common::compile("examples/c/lengths.c");
+    assert_eq!(lengths.run(), LENGTHS);
+    check_memory(&lengths, LENGTHS);
+}
+
+fn check_memory(program: &common::Compiled, expected: &str) {
+    match program.run_under("valgrind", &MEMCHECK) {
+        Some(printed) => assert_eq!(printed, expected),
+        None => println!("skipped: valgrind is not there, so memory is not checked"),
+    }
+}

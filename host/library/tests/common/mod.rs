@@ -1,0 +1,61 @@
+//! What the tests share: C programs compiled with the archive.
+
+#![allow(dead_code)]
+
+use std::path::{Path, PathBuf};
+use std::process::Command;
+
+/// The repository's folder.
+pub fn repository() -> PathBuf {
+    Path::new(env!("CARGO_MANIFEST_DIR")).join("../..")
+}
+
+/// A C program, compiled.
+pub struct Compiled {
+    program: PathBuf,
+}
+
+/// Compiles a C program of the repository with every warning an error, and
+/// links it with the archive.
+pub fn compile(source: &str) -> Compiled {
+    let source = repository().join(source);
+    let name = source.file_stem().expect("a file has a name");
+    let program = Path::new(env!("CARGO_TARGET_TMPDIR")).join(name);
+    let compiled = Command::new("cc")
+        .args(["-std=c99", "-O2", "-g", "-Wall", "-Wextra", "-Werror"])
+        .args(["-Wpedantic", "-Wconversion"])
+        .arg("-I")
+        .arg(repository().join("include"))
+        .arg(&source)
+        .arg(env!("ARCHIVE"))
+        .arg("-o")
+        .arg(&program)
+        .output()
+        .expect("the C compiler cc is on the path");
+    let errors = String::from_utf8_lossy(&compiled.stderr);
+    assert!(compiled.status.success(), "{errors}");
+    Compiled { program }
+}
+
+impl Compiled {
+    /// What it prints. It has to end well.
+    pub fn run(&self) -> String {
+        self.run_by(&mut Command::new(&self.program))
+    }
+
+    /// What it prints under another program, where that is there.
+    pub fn run_under(&self, other: &str, words: &[&str]) -> Option<String> {
+        let there = Command::new(other).arg("--version").output();
+        there.ok().filter(|output| output.status.success())?;
+        let mut command = Command::new(other);
+        Some(self.run_by(command.args(words).arg(&self.program)))
+    }
+
+    fn run_by(&self, command: &mut Command) -> String {
+        let output = command.output().expect("it can be run");
+        let text = String::from_utf8_lossy(&output.stdout).into_owned();
+        let errors = String::from_utf8_lossy(&output.stderr);
+        assert!(output.status.success(), "{}: {text}{errors}", output.status);
+        text
+    }
+}

@@ -1,0 +1,72 @@
+//! The help card's sentences are the same wherever they stand.
+
+mod common;
+
+use benzokamuri::{Call, Code};
+
+/// A text with every run of white space, and what C comments add, as one
+/// space.
+fn flat(text: &str) -> String {
+    let words = text.split_whitespace().filter(|&word| word != "*");
+    words.collect::<Vec<_>>().join(" ")
+}
+
+fn read(path: &str) -> String {
+    let path = common::repository().join(path);
+    std::fs::read_to_string(&path).unwrap_or_else(|e| panic!("{}: {e}", path.display()))
+}
+
+fn calls(code: Code, between: &str) -> String {
+    let calls: Vec<String> = code.calls().iter().map(u8::to_string).collect();
+    calls.join(between)
+}
+
+#[test]
+fn the_header_has_every_case_in_order() {
+    let header = flat(&read("include/benzokamuri.h"));
+    let mut rest = header.as_str();
+    for &code in Code::ALL {
+        let (a, h) = code.numbers();
+        let line = flat(&format!("{a}, {h} {} {code}", calls(code, " ")));
+        let (_, behind) = rest
+            .split_once(&line)
+            .unwrap_or_else(|| panic!("not in the header, or out of order: {line}"));
+        rest = behind;
+    }
+}
+
+#[test]
+fn the_help_card_has_every_case_in_order() {
+    let card = read("docs/HELP-CARD.md");
+    let rows: Vec<&str> = card
+        .lines()
+        .filter(|line| line.starts_with("| ") && line.contains(", "))
+        .filter(|line| !line.starts_with("| A, H"))
+        .collect();
+    let expected: Vec<String> = Code::ALL
+        .iter()
+        .map(|&code| {
+            let (a, h) = code.numbers();
+            let calls = match code.calls() {
+                [] => "every call".to_string(),
+                _ => calls(code, ", "),
+            };
+            format!("| {a}, {h} | {calls} | {code} |")
+        })
+        .collect();
+    assert_eq!(rows, expected);
+}
+
+#[test]
+fn the_header_has_every_call() {
+    let header = read("include/benzokamuri.h");
+    for &call in Call::ALL {
+        let number = format!(" {}", call.number());
+        let defined = |line: &&str| {
+            let line = line.split("/*").next().unwrap_or("").trim_end();
+            let a_call = line.starts_with("#define BENZO_") && !line.contains("_LEN ");
+            a_call && line.ends_with(&number)
+        };
+        assert_eq!(header.lines().filter(defined).count(), 1, "{call}");
+    }
+}

@@ -1,0 +1,120 @@
+//! The program `benzokamuri`: files on diskette images of CP/M, by the proved
+//! calls.
+//!
+//! Everything a verb does on a disk goes through the calls of [`benzokamuri`];
+//! nothing else changes an image. A verb reads the image file, makes its calls
+//! on the copy in memory, and saves that copy at the end if all went well.
+
+#![forbid(unsafe_code)]
+#![warn(missing_docs)]
+
+pub mod changes;
+pub mod check;
+pub mod files;
+mod help;
+mod hex;
+pub mod layout;
+pub mod picture;
+mod state;
+pub mod store;
+pub mod trouble;
+mod verbs;
+mod words;
+
+use std::ffi::OsString;
+use std::io::Write;
+use trouble::Trouble;
+use words::{Shape, Words};
+
+/// Where a verb prints.
+pub struct Desk<'a> {
+    /// What was asked for.
+    pub out: &'a mut dyn Write,
+    /// What went wrong, and what is worth a remark.
+    pub err: &'a mut dyn Write,
+    /// Whether `out` shows colours.
+    pub colours: bool,
+}
+
+/// A verb of the program.
+struct Verb {
+    name: &'static str,
+    /// What it is for, in a line.
+    purpose: &'static str,
+    /// What stands behind it on the command line.
+    usage: &'static str,
+    /// Everything else worth knowing.
+    help: &'static str,
+    shape: Shape,
+    run: fn(Words, &mut Desk) -> Result<(), Trouble>,
+}
+
+/// Runs a command line, without the program's own name, and gives the exit
+/// status.
+pub fn run(words: &[OsString], desk: &mut Desk) -> u8 {
+    let done = obey(words, desk).and_then(|()| Ok(desk.out.flush()?));
+    let Err(trouble) = done else {
+        return trouble::DONE;
+    };
+    if !matches!(trouble, Trouble::Unheard) {
+        // Nobody is left to be told where this fails.
+        let _ = desk.out.flush();
+        let _ = writeln!(desk.err, "benzokamuri: {trouble}");
+    }
+    if let Trouble::Usage(_) = trouble {
+        let _ = writeln!(desk.err, "{}", help::hint(verb_of(words)));
+    }
+    trouble.status()
+}
+
+/// The verb of a command line, if it has one.
+fn verb_of(words: &[OsString]) -> Option<&'static Verb> {
+    let named = |verb: &&Verb| words.iter().any(|word| word == verb.name);
+    verbs::ALL.iter().find(named)
+}
+
+fn obey(words: &[OsString], desk: &mut Desk) -> Result<(), Trouble> {
+    // `-u` may stand before the verb too.
+    let before_verb = Shape {
+        flags: &["--version"],
+        valued: &[],
+    };
+    let is_option = |word: &OsString| word.to_str().is_some_and(|text| text.starts_with('-'));
+    let mut at = 0;
+    while words.get(at).is_some_and(is_option) {
+        let has_value = words[at] == "-u" || words[at] == "--user";
+        at += if has_value { 2 } else { 1 };
+    }
+    let at = at.min(words.len());
+    let first = Words::sorted(&words[..at], before_verb)?;
+    if first.has("--version") {
+        let version = env!("CARGO_PKG_VERSION");
+        writeln!(
+            desk.out,
+            "benzokamuri {version}, interface {}",
+            benzokamuri::VERSION
+        )?;
+        return Ok(());
+    }
+    let Some((name, rest)) = words[at..].split_first() else {
+        return match first.help() {
+            true => help::all(desk),
+            false => Err(Trouble::usage("a verb is missing")),
+        };
+    };
+    if name == "help" {
+        return help::about(rest, desk);
+    }
+    let Some(verb) = verbs::ALL.iter().find(|verb| name == verb.name) else {
+        let name = name.display();
+        return Err(Trouble::usage(format!("there is no verb {name}")));
+    };
+    if first.help() {
+        return help::verb(verb, desk);
+    }
+    let words = Words::sorted(rest, verb.shape)?.or_user(first.given_user());
+    match words.help() {
+        true => help::verb(verb, desk),
+        false => (verb.run)(words, desk),
+    }
+}

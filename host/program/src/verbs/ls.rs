@@ -1,0 +1,154 @@
+//! `ls`: the files of a user.
+
+use super::{image, named};
+use crate::files::{self, File, LAST_USER};
+use crate::layout::Row;
+use crate::trouble::{Doing, Trouble};
+use crate::words::{Shape, Words};
+use crate::{Desk, Verb};
+use benzokamuri::{Code, Disk, Pattern};
+use std::fmt::Write;
+
+pub const VERB: Verb = Verb {
+    name: "ls",
+    purpose: "List files: user, name, attributes, records and size in bytes.",
+    usage: "[-u USER | -a] [-l] IMAGE [PATTERN...]",
+    help: "\
+Attributes are ro (read-only), sys (system), arc (archived) and f1 to f8. A
+record is 128 bytes. Where an entry says how many bytes of the last record are
+used (its byte s1, as CP/M Plus and cpmtools keep it), the size counts those.
+
+  -u USER   the files of this user; 0 where it is left out
+  -a        the files of all users
+  -l        also each extent: its entry, records and blocks
+
+Files that match one of the patterns are listed; see `benzokamuri help names`.",
+    shape: Shape {
+        flags: &["-l", "-a"],
+        valued: &[],
+    },
+    run,
+};
+
+fn run(mut words: Words, desk: &mut Desk) -> Result<(), Trouble> {
+    let file = image(&mut words)?;
+    let given = words.rest();
+    let mut patterns: Vec<Pattern> = given
+        .iter()
+        .map(|word| named(word))
+        .collect::<Result<_, _>>()?;
+    if given.is_empty() {
+        patterns.push(Pattern::EVERY);
+    }
+    let users = match (words.has("-a"), words.user()) {
+        (true, _) => 0..=LAST_USER,
+        (false, user) => user..=user,
+    };
+    let mut disk = file.log_in(words.user())?;
+    let mut listed = Vec::new();
+    for user in users {
+        listed.extend(listed_for(&mut disk, user, &patterns).doing(file.name())?);
+    }
+    if listed.is_empty() && !given.is_empty() {
+        return Err(Code::NothingMatches).doing(file.name());
+    }
+    let free = disk.space().doing(file.name())?;
+    let mut text = format!(
+        "{:>4}  {:<12}  {:<10}  {:>7}  {:>8}\n",
+        "user", "name", "attributes", "records", "size"
+    );
+    for file in &listed {
+        let _ = writeln!(
+            text,
+            "{:>4}  {:<12}  {:<10}  {:>7}  {:>8}",
+            file.user,
+            file.name,
+            file.attributes().join(" "),
+            file.records,
+            file.bytes()
+        );
+        if words.has("-l") {
+            text.push_str(&extents(file));
+        }
+    }
+    let records: u32 = listed.iter().map(|file| file.records).sum();
+    let _ = writeln!(
+        text,
+        "{}, {}; {free} records are free",
+        counted(listed.len(), "file"),
+        counted(records as usize, "record")
+    );
+    Ok(desk.out.write_all(text.as_bytes())?)
+}
+
+/// A number of things.
+fn counted(count: usize, what: &str) -> String {
+    match count {
+        1 => format!("1 {what}"),
+        _ => format!("{count} {what}s"),
+    }
+}
+
+/// A user's files that match one of some patterns, each once.
+fn listed_for(disk: &mut Disk, user: u8, patterns: &[Pattern]) -> Result<Vec<File>, Code> {
+    let mut listed = Vec::new();
+    for &pattern in patterns {
+        listed.extend(files::matching(disk, user, pattern)?);
+    }
+    listed.sort_by_key(|file| file.name);
+    listed.dedup_by_key(|file| file.name);
+    Ok(listed)
+}
+
+/// A line for each extent of a file.
+fn extents(file: &File) -> String {
+    let mut text = String::new();
+    for found in &file.entries {
+        let row = Row(&found.entry);
+        let _ = write!(
+            text,
+            "      entry {:>2}, extent {:>4}: rc {:>3}, ",
+            found.number,
+            row.extent(),
+            row.rc()
+        );
+        if row.s1() != 0 {
+            let _ = write!(text, "s1 {:>3}, ", row.s1());
+        }
+        let blocks = runs(row.blocks());
+        let _ = match blocks.is_empty() {
+            true => writeln!(text, "no blocks"),
+            false => writeln!(text, "blocks {blocks}"),
+        };
+    }
+    text
+}
+
+/// Numbers with neighbours drawn together: 2-5 9 11-12.
+fn runs(numbers: impl Iterator<Item = u8>) -> String {
+    let mut runs: Vec<(u8, u8)> = Vec::new();
+    for number in numbers {
+        match runs.last_mut() {
+            Some((_, last)) if last.checked_add(1) == Some(number) => *last = number,
+            _ => runs.push((number, number)),
+        }
+    }
+    let written = |&(first, last): &(u8, u8)| match first == last {
+        true => first.to_string(),
+        false => format!("{first}-{last}"),
+    };
+    let written: Vec<String> = runs.iter().map(written).collect();
+    written.join(" ")
+}
+
+#[cfg(test)]
+mod tests {
+    use super::*;
+
+    #[test]
+    fn neighbours_are_drawn_together() {
+        assert_eq!(runs([2, 3, 4, 9, 11, 12, 7].into_iter()), "2-4 9 11-12 7");
+        assert_eq!(runs([254, 255, 0].into_iter()), "254-255 0");
+        assert_eq!(runs([].into_iter()), "");
+    }
+}

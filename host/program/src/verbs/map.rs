@@ -1,0 +1,49 @@
+//! `map`: the blocks as a picture.
+
+use super::check::read_state;
+use super::{colours, image};
+use crate::picture::Picture;
+use crate::trouble::{Doing, Trouble};
+use crate::words::{Shape, Words};
+use crate::{Desk, Verb};
+use benzokamuri::Disk;
+
+pub const VERB: Verb = Verb {
+    name: "map",
+    purpose: "Show the 243 blocks as a picture.",
+    usage: "[--svg FILE] [--colour WHEN] [--state FILE] IMAGE",
+    help: "\
+Each file has a letter and a colour. # is the directory, . is free, and ~ before
+a letter is a block that is pending: written to, but waiting for the file to be
+closed. A disk that has just been read has no pending blocks.
+
+  --svg FILE      write the picture to FILE as SVG, or to standard output for -
+  --colour WHEN   always, never, or auto: where standard output is a terminal
+  --state FILE    with the map that `call --state FILE` keeps",
+    shape: Shape {
+        flags: &[],
+        valued: &["--svg", "--colour", "--color", "--state"],
+    },
+    run,
+};
+
+fn run(mut words: Words, desk: &mut Desk) -> Result<(), Trouble> {
+    let image = image(&mut words)?;
+    words.end()?;
+    let colours = colours(&words, desk)?;
+    let disk = match words.value("--state") {
+        None => image.log_in(0)?,
+        Some(path) => {
+            let state = read_state(path)?;
+            Disk::resumed(image.copy(), state.map, state.session)
+        }
+    };
+    let picture = Picture::of(&disk).doing(image.name())?;
+    match words.value("--svg") {
+        None => desk.out.write_all(picture.text(colours).as_bytes())?,
+        Some(path) if path == "-" => desk.out.write_all(picture.svg(&image.name()).as_bytes())?,
+        Some(path) => std::fs::write(path, picture.svg(&image.name()))
+            .map_err(|error| Trouble::file(path.display(), &error))?,
+    }
+    Ok(())
+}

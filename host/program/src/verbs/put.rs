@@ -1,0 +1,71 @@
+//! `put`: a file onto the disk.
+
+use super::{image, named, tell_if_longer};
+use crate::files;
+use crate::trouble::{Doing, Trouble};
+use crate::words::{Shape, Words};
+use crate::{Desk, Verb};
+use benzokamuri::{Code, Fcb, Name};
+use std::ffi::OsStr;
+use std::io::Read;
+use std::path::Path;
+
+pub const VERB: Verb = Verb {
+    name: "put",
+    purpose: "Copy a file onto the disk.",
+    usage: "[-u USER] [-f] IMAGE FILE [NAME]",
+    help: "\
+FILE is the file to be read, or - for standard input. Where NAME is left out,
+the file gets its own name, in capitals. Its last record is filled up with 1AH.
+
+The image is saved only if all of the file has found room; otherwise it stays as
+it was.
+
+  -f   replace a file that is there already",
+    shape: Shape {
+        flags: &["-f"],
+        valued: &[],
+    },
+    run,
+};
+
+fn run(mut words: Words, desk: &mut Desk) -> Result<(), Trouble> {
+    let image = image(&mut words)?;
+    let source = words.next("the file to be copied")?;
+    let name = words.next_if_any();
+    words.end()?;
+    let name: Name = match (&name, Path::new(&source).file_name()) {
+        (Some(name), _) => named(name)?,
+        (None, Some(own)) if source != "-" => named(own)?,
+        _ => return Err(Trouble::usage("the name on the disk is missing")),
+    };
+    let bytes = read_in(&source)?;
+    let mut disk = image.log_in(words.user())?;
+    let doing = format!("{}: {name}", image.name());
+    // Make asks for extent 0 alone, and a file may lack it.
+    let there = match disk.size(&mut Fcb::named(name)) {
+        Ok(_) => true,
+        Err(Code::NothingMatches) => false,
+        Err(code) => return Err(code).doing(doing),
+    };
+    if there && words.has("-f") {
+        disk.delete(&mut Fcb::named(name)).doing(&doing)?;
+    } else if there {
+        let code = Code::EntryExists;
+        let (a, h) = code.numbers();
+        let hint = format!("{doing}: {a}, {h}: {code} -f replaces it.");
+        return Err(Trouble::failed(hint));
+    }
+    files::write(&mut disk, name, &bytes).doing(&doing)?;
+    image.save(&disk)?;
+    tell_if_longer(&image, desk)
+}
+
+fn read_in(source: &OsStr) -> Result<Vec<u8>, Trouble> {
+    let mut bytes = Vec::new();
+    let read = match source == "-" {
+        true => std::io::stdin().read_to_end(&mut bytes).map(|_| bytes),
+        false => std::fs::read(source),
+    };
+    read.map_err(|error| Trouble::file(source.display(), &error))
+}

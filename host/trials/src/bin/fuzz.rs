@@ -1,0 +1,96 @@
+//! `fuzz [--seed SEED] [--calls CALLS] [--folder FOLDER]` runs the proved
+//! library beside the reference on random calls from new seeds, until it is
+//! stopped or has made so many calls. A failing sequence is written to the
+//! folder, and `fuzz --replay FILE` runs it again.
+//!
+//! Exit status: 0 no difference; 1 a difference; 2 wrong usage.
+
+use std::io::{self, Write};
+use std::path::PathBuf;
+use std::process::ExitCode;
+use trials::fuzz::{again, keep, new_seed, search};
+use trials::library;
+
+/// What the words ask for.
+struct Wanted {
+    seed: u64,
+    calls: Option<usize>,
+    folder: PathBuf,
+    replay: Option<PathBuf>,
+}
+
+fn main() -> ExitCode {
+    let wanted = match wanted(std::env::args().skip(1)) {
+        Ok(wanted) => wanted,
+        Err(wrong) => {
+            eprintln!("fuzz: {wrong}");
+            eprintln!(
+                "usage: fuzz [--seed SEED] [--calls CALLS] [--folder FOLDER] | --replay FILE"
+            );
+            return ExitCode::from(2);
+        }
+    };
+    let out = &mut io::stdout();
+    let done = match &wanted.replay {
+        Some(file) => replayed(file, out),
+        None => searched(&wanted, out),
+    };
+    match done {
+        Ok(true) => ExitCode::SUCCESS,
+        Ok(false) => ExitCode::FAILURE,
+        Err(error) => {
+            eprintln!("fuzz: {error}");
+            ExitCode::from(2)
+        }
+    }
+}
+
+fn wanted(mut words: impl Iterator<Item = String>) -> Result<Wanted, String> {
+    let mut wanted = Wanted {
+        seed: new_seed(),
+        calls: None,
+        folder: PathBuf::from("."),
+        replay: None,
+    };
+    while let Some(word) = words.next() {
+        let value = words.next().ok_or(format!("{word} lacks its value"))?;
+        let number = || value.parse().map_err(|_| format!("{value} is no number"));
+        match word.as_str() {
+            "--seed" => wanted.seed = number()?,
+            "--calls" => wanted.calls = Some(number()? as usize),
+            "--folder" => wanted.folder = value.into(),
+            "--replay" => wanted.replay = Some(value.into()),
+            _ => return Err(format!("there is no option {word}")),
+        }
+    }
+    Ok(wanted)
+}
+
+/// Whether no difference was found.
+fn searched(wanted: &Wanted, out: &mut dyn Write) -> io::Result<bool> {
+    let (mut left, mut right) = (reference::call, library);
+    match search(wanted.seed, wanted.calls, &mut left, &mut right, out)? {
+        Ok(counts) => {
+            writeln!(out, "{counts}")?;
+            Ok(true)
+        }
+        Err(failure) => {
+            for file in keep(&failure, &wanted.folder)? {
+                writeln!(
+                    out,
+                    "run it again with `make fuzz REPLAY={}`",
+                    file.display()
+                )?;
+            }
+            Ok(false)
+        }
+    }
+}
+
+/// Whether a kept sequence shows no difference any more.
+fn replayed(file: &PathBuf, out: &mut dyn Write) -> io::Result<bool> {
+    let text = std::fs::read_to_string(file)?;
+    let sequence = text.parse().map_err(io::Error::other)?;
+    let (mut left, mut right) = (reference::call, library);
+    Ok(again(&sequence, &mut left, &mut right, out)?.is_ok())
+}

@@ -1,0 +1,370 @@
+//! What must come out, kept in files: each scenario is told call by call, ends
+//! with sums of image and map, and has to read as it is kept. The reference
+//! has to tell the same.
+
+use reference::{Answer, Asked, Session};
+use std::fmt::Write;
+
+type Call = fn(Asked, &mut [u8], &mut [u16], &mut [u8], &mut [u8], Session) -> Answer;
+
+type Fcb = [u8; 36];
+
+/// A disk with all that goes with it, and what is told of it.
+struct Stage {
+    call: Call,
+    image: Vec<u8>,
+    map: Vec<u16>,
+    buffer: Vec<u8>,
+    session: Session,
+    told: String,
+}
+
+impl Stage {
+    /// An erased disk, logged in.
+    fn erased(call: Call) -> Stage {
+        let mut stage = Stage {
+            call,
+            image: vec![0xE5; 256_256],
+            map: vec![0; 243],
+            buffer: vec![0; 128],
+            session: Session::default(),
+            told: String::new(),
+        };
+        stage.ask(13, "log in", &mut [0; 36]);
+        stage
+    }
+
+    /// Makes a call that is not told.
+    fn silently(&mut self, number: u8, fcb: &mut Fcb) -> (u8, u8) {
+        let asked = Asked {
+            number,
+            argument: 0,
+        };
+        let before = (self.image.clone(), self.map.clone(), self.buffer.clone());
+        let (fcb_before, session) = (*fcb, self.session);
+        let Answer { a, h, session } = (self.call)(
+            asked,
+            &mut self.image,
+            &mut self.map,
+            fcb,
+            &mut self.buffer,
+            session,
+        );
+        self.session = session;
+        if a == 255 || (matches!(number, 20 | 21 | 33 | 34) && a != 0) {
+            let same = before == (self.image.clone(), self.map.clone(), self.buffer.clone());
+            assert!(
+                same && fcb_before == *fcb,
+                "a refused {number} changed something"
+            );
+        }
+        (a, h)
+    }
+
+    /// Makes a call and tells it.
+    fn ask(&mut self, number: u8, what: &str, fcb: &mut Fcb) -> (u8, u8) {
+        let notes = self.map.clone();
+        let (a, h) = self.silently(number, fcb);
+        let _ = write!(self.told, "{number:>2} {what}: {a}, {h}");
+        let pairs = notes.iter().zip(&self.map).enumerate();
+        let changed: Vec<_> = pairs.filter(|(_, (was, is))| was != is).collect();
+        match &changed[..] {
+            [] => {}
+            _ if number == 13 => {}
+            [(block, (was, is))] => {
+                let _ = write!(self.told, "; note {block} {was} -> {is}");
+            }
+            _ => {
+                let _ = write!(self.told, "; {} notes change", changed.len());
+            }
+        }
+        self.told.push('\n');
+        (a, h)
+    }
+
+    /// Makes a call many times, which has to be answered 0, 0, and tells it
+    /// once.
+    fn repeat(&mut self, times: usize, number: u8, what: &str, fcb: &mut Fcb) {
+        for time in 0..times {
+            let (a, h) = self.silently(number, fcb);
+            assert!(h == 0 && a < 4, "time {time}: {a}, {h}");
+        }
+        let _ = writeln!(self.told, "{number:>2} {what}, {times} times: accepted");
+    }
+
+    fn space(&mut self) {
+        let kept = self.buffer.clone();
+        let (a, h) = self.silently(46, &mut [0; 36]);
+        let told = std::mem::replace(&mut self.buffer, kept);
+        let free = u32::from_le_bytes([told[0], told[1], told[2], 0]);
+        let _ = writeln!(self.told, "46 space: {a}, {h}; {free} records");
+    }
+
+    fn say(&mut self, what: &str) {
+        self.told.push_str(what);
+        self.told.push('\n');
+    }
+
+    fn tell_fcb(&mut self, what: &str, fcb: &Fcb) {
+        let hex: String = fcb.iter().map(|byte| format!("{byte:02X}")).collect();
+        let _ = writeln!(self.told, "   {what} {hex}");
+    }
+
+    /// Everything told, with sums of what is left.
+    fn end(mut self) -> String {
+        let notes: Vec<u8> = self
+            .map
+            .iter()
+            .flat_map(|note| note.to_le_bytes())
+            .collect();
+        let (image, map) = (sum(&self.image), sum(&notes));
+        let _ = writeln!(
+            self.told,
+            "sums {image:016X} of the image, {map:016X} of the map"
+        );
+        self.told
+    }
+}
+
+/// A sum that tells bytes and their places apart (FNV-1a).
+fn sum(bytes: &[u8]) -> u64 {
+    bytes.iter().fold(0xCBF2_9CE4_8422_2325, |sum, &byte| {
+        (sum ^ u64::from(byte)).wrapping_mul(0x100_0000_01B3)
+    })
+}
+
+/// An FCB with a name, everything else 0.
+fn fcb(name: &str) -> Fcb {
+    let mut fcb = [0; 36];
+    fcb[1..12].fill(b' ');
+    let (name, kind) = name.split_once('.').unwrap_or((name, ""));
+    fcb[1..1 + name.len()].copy_from_slice(name.as_bytes());
+    fcb[9..9 + kind.len()].copy_from_slice(kind.as_bytes());
+    fcb
+}
+
+/// Runs a scenario on both and compares it with what is kept.
+fn compare(scenario: fn(Stage) -> String, kept: &str) {
+    let library = scenario(Stage::erased(trials::library));
+    let reference = scenario(Stage::erased(reference::call));
+    assert_eq!(library, reference, "the two do not tell the same");
+    assert!(library == kept, "not what is kept:\n{library}");
+}
+
+/// "On an empty disk make a file, open it in a second FCB, write record 0
+/// through both: blocks 2 and 3. The first closes. The second's close is
+/// 255, 0 and its write 9; space is 1,912, after call 98 it is 1,920."
+#[test]
+fn the_double_job() {
+    compare(
+        |mut stage| {
+            let (mut first, mut second) = (fcb("JOB.DAT"), fcb("JOB.DAT"));
+            stage.space();
+            stage.ask(22, "make JOB.DAT, first FCB", &mut first);
+            stage.ask(15, "open JOB.DAT, second FCB", &mut second);
+            stage.buffer.fill(1);
+            stage.ask(21, "write record 0, first FCB", &mut first);
+            stage.buffer.fill(2);
+            stage.ask(21, "write record 0, second FCB", &mut second);
+            stage.tell_fcb("first ", &first);
+            stage.tell_fcb("second", &second);
+            assert_eq!((first[16], second[16]), (2, 3));
+            stage.ask(16, "close, first FCB", &mut first);
+            let closed = stage.ask(16, "close, second FCB", &mut second);
+            assert_eq!(closed, (255, 0));
+            let written = stage.ask(21, "write, second FCB", &mut second);
+            assert_eq!(written, (9, 0));
+            let read = stage.ask(20, "read, second FCB", &mut second);
+            assert_eq!(read, (9, 0), "not even for reading");
+            stage.space();
+            stage.ask(98, "free blocks", &mut [0; 36]);
+            stage.space();
+            first[32] = 0;
+            stage.ask(20, "read record 0, first FCB", &mut first);
+            assert_eq!(stage.buffer, [1; 128]);
+            stage.end()
+        },
+        include_str!("expected/double-job.txt"),
+    );
+}
+
+/// 241 blocks stand behind the directory's two; there is no 242nd.
+#[test]
+fn the_242nd_block() {
+    compare(
+        |mut stage| {
+            let mut file = fcb("BIG.DAT");
+            stage.ask(22, "make BIG.DAT", &mut file);
+            stage.buffer.fill(0x42);
+            stage.repeat(241 * 8, 21, "write", &mut file);
+            stage.space();
+            stage.tell_fcb("FCB", &file);
+            let refused = stage.ask(21, "write record 1,928", &mut file);
+            assert_eq!(refused, (2, 0));
+            let mut other = fcb("OTHER.DAT");
+            stage.ask(22, "make OTHER.DAT", &mut other);
+            assert_eq!(
+                stage.ask(34, "random write of record 0", &mut other),
+                (2, 0)
+            );
+            stage.ask(16, "close BIG.DAT", &mut file);
+            file[33..].copy_from_slice(&[0, 0, 0]);
+            stage.ask(33, "random read of record 0", &mut file);
+            stage.ask(
+                34,
+                "random write of record 0, which has its block",
+                &mut file,
+            );
+            stage.ask(19, "delete BIG.DAT", &mut fcb("BIG.DAT"));
+            stage.space();
+            stage.ask(34, "random write of record 0 of OTHER.DAT", &mut other);
+            stage.end()
+        },
+        include_str!("expected/242nd-block.txt"),
+    );
+}
+
+/// 64 entries fit; a 65th is refused by 22, 21 and 34, each in its own way.
+#[test]
+fn the_65th_entry() {
+    compare(
+        |mut stage| {
+            for number in 0..64u8 {
+                let mut file = fcb(&format!("F{number}"));
+                let (a, h) = stage.silently(22, &mut file);
+                assert_eq!((a, h), (number % 4, 0));
+            }
+            stage.say("22 make F0 to F63: 0 to 3 in turn, 0");
+            let mut last = fcb("F64");
+            assert_eq!(stage.ask(22, "make F64", &mut last), (255, 0));
+            let mut file = fcb("F0");
+            stage.ask(15, "open F0", &mut file);
+            file[32] = 128;
+            let refused = stage.ask(21, "write record 128, which needs an entry", &mut file);
+            assert_eq!(refused, (1, 0));
+            file[34] = 2;
+            let refused = stage.ask(34, "random write of record 512", &mut file);
+            assert_eq!(refused, (5, 0));
+            stage.ask(19, "delete F31", &mut fcb("F31"));
+            assert_eq!(stage.ask(22, "make F64", &mut last), (3, 0));
+            stage.end()
+        },
+        include_str!("expected/65th-entry.txt"),
+    );
+}
+
+#[test]
+fn rename_to_itself() {
+    compare(
+        |mut stage| {
+            let mut file = fcb("SAME.TXT");
+            stage.ask(22, "make SAME.TXT", &mut file);
+            let mut both = fcb("SAME.TXT");
+            both[17..28].copy_from_slice(b"SAME    TXT");
+            let refused = stage.ask(23, "rename SAME.TXT to SAME.TXT", &mut both);
+            assert_eq!(refused, (255, 8));
+            both[20] |= 0x80;
+            let refused = stage.ask(23, "the same with an attribute", &mut both);
+            assert_eq!(refused, (255, 8));
+            both[20] = b'X';
+            stage.ask(23, "rename SAME.TXT to SAMX.TXT", &mut both);
+            stage.end()
+        },
+        include_str!("expected/rename-to-itself.txt"),
+    );
+}
+
+/// Every call is refused with 255, 4, but for one that is not listed.
+#[test]
+fn an_image_one_byte_short() {
+    compare(
+        |mut stage| {
+            let mut file = fcb("A");
+            stage.ask(22, "make A", &mut file);
+            stage.image.pop();
+            for number in [
+                13, 15, 16, 17, 18, 19, 20, 21, 22, 23, 32, 33, 34, 35, 36, 46, 98,
+            ] {
+                let refused = stage.ask(number, "with the image one byte short", &mut file);
+                assert_eq!(refused, (255, 4));
+            }
+            let refused = stage.ask(14, "is not listed", &mut file);
+            assert_eq!(refused, (255, 255));
+            stage.image.push(0xE5);
+            stage.ask(16, "close A, with the whole image", &mut file);
+            stage.end()
+        },
+        include_str!("expected/one-byte-short.txt"),
+    );
+}
+
+/// 64 hits, one a time, and the end of the search.
+#[test]
+fn a_search_over_a_full_directory() {
+    compare(
+        |mut stage| {
+            for number in 0..64 {
+                let mut file = fcb(&format!("N{number}.X"));
+                file[12] = number % 32;
+                let (_, h) = stage.silently(22, &mut file);
+                assert_eq!(h, 0);
+            }
+            stage.say("22 make N0.X to N63.X, with extents 0 to 31 in turn");
+            let mut pattern = [0x3F; 36];
+            pattern[0] = 0;
+            let mut number = 17;
+            for entry in 0..64u16 {
+                let (a, h) = stage.ask(number, "search for anything", &mut pattern);
+                assert_eq!((u16::from(a), h), (entry % 4, 0));
+                assert_eq!(stage.session.place, entry + 1);
+                let start = 32 * usize::from(a);
+                let name = String::from_utf8_lossy(&stage.buffer[start + 1..start + 12]);
+                let line = format!("   entry {entry}: {name}, ex {}", stage.buffer[start + 12]);
+                stage.say(&line);
+                number = 18;
+            }
+            assert_eq!(stage.ask(18, "search for anything", &mut pattern), (255, 0));
+            assert_eq!((stage.session.place, stage.session.on), (0, 0));
+            assert_eq!(stage.ask(18, "with no search on", &mut pattern), (255, 0));
+            pattern[12] = 31;
+            stage.ask(17, "search for extent 31", &mut pattern);
+            stage.ask(18, "search for extent 31", &mut pattern);
+            stage.ask(18, "search for extent 31", &mut pattern);
+            stage.end()
+        },
+        include_str!("expected/full-search.txt"),
+    );
+}
+
+/// The copy knows nothing of the block that the close recorded.
+#[test]
+fn an_fcb_copied_before_a_write_and_used_after_the_close() {
+    compare(
+        |mut stage| {
+            let mut file = fcb("COPY.DAT");
+            stage.ask(22, "make COPY.DAT", &mut file);
+            let copy = file;
+            stage.buffer.fill(7);
+            stage.ask(21, "write record 0", &mut file);
+            stage.ask(16, "close", &mut file);
+            for (number, what, due) in [
+                (16, "close, by the copy", (255, 0)),
+                (20, "read, by the copy", (9, 0)),
+                (21, "write, by the copy", (9, 0)),
+                (33, "random read, by the copy", (9, 0)),
+                (34, "random write, by the copy", (9, 0)),
+            ] {
+                assert_eq!(stage.ask(number, what, &mut copy.clone()), due);
+            }
+            let mut copy = copy;
+            stage.ask(35, "size, by the copy's name", &mut copy);
+            stage.tell_fcb("copy", &copy);
+            stage.ask(15, "open, by the copy's name", &mut copy);
+            stage.ask(20, "read record 0", &mut copy);
+            assert_eq!(stage.buffer, [7; 128]);
+            stage.tell_fcb("copy", &copy);
+            stage.end()
+        },
+        include_str!("expected/copied-fcb.txt"),
+    );
+}

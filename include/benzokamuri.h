@@ -1,0 +1,144 @@
+/* Benzokamuri: the file calls of CP/M Plus over a lent image of the 8-inch
+ * single-density diskette.
+ *
+ * There is one function, benzo_call. It keeps nothing between calls: what a
+ * call works on is lent to it, and what it has to remember is the session that
+ * it answers with. It never fails otherwise than by a code: any bytes, any
+ * notes, any lengths and any session are answered, and a refused call changes
+ * none of the four buffers.
+ *
+ *   static uint8_t image[BENZO_IMAGE_LEN], fcb[BENZO_FCB_LEN], buffer[BENZO_BUFFER_LEN];
+ *   static uint16_t map[BENZO_MAP_LEN];
+ *   benzo_session session = {0};
+ *
+ *   benzo_asked log_in = {BENZO_LOG_IN, 0};
+ *   benzo_answer answer = benzo_call(log_in, image, sizeof image, map, BENZO_MAP_LEN,
+ *                                    fcb, sizeof fcb, buffer, sizeof buffer, session);
+ *   session = answer.session;
+ *
+ * An image that is all E5H is an empty disk.
+ */
+#ifndef BENZOKAMURI_H
+#define BENZOKAMURI_H
+
+#include <stddef.h>
+#include <stdint.h>
+
+#ifdef __cplusplus
+extern "C" {
+#endif
+
+/* Changes whenever the types below or the function's parameters do. */
+#define BENZO_VERSION 1
+
+/* The lengths that every call is due, whether it uses the buffer or not. The
+ * map's is in notes of sixteen bits, the others in bytes. Any other length is
+ * refused with 255, 4. */
+#define BENZO_IMAGE_LEN 256256
+#define BENZO_MAP_LEN 243
+#define BENZO_FCB_LEN 36
+#define BENZO_BUFFER_LEN 128
+
+/* The calls. */
+#define BENZO_LOG_IN 13        /* the map becomes the fresh map: make this call first */
+#define BENZO_OPEN 15
+#define BENZO_CLOSE 16
+#define BENZO_SEARCH_FIRST 17
+#define BENZO_SEARCH_NEXT 18
+#define BENZO_DELETE 19
+#define BENZO_READ_NEXT 20
+#define BENZO_WRITE_NEXT 21
+#define BENZO_MAKE 22
+#define BENZO_RENAME 23
+#define BENZO_USER 32          /* argument 255 asks, 0 to 15 sets */
+#define BENZO_READ_RANDOM 33
+#define BENZO_WRITE_RANDOM 34
+#define BENZO_SIZE 35
+#define BENZO_RANDOM_RECORD 36
+#define BENZO_SPACE 46
+#define BENZO_FREE_BLOCKS 98
+
+/* Which call is asked for. The argument is looked at by call 32 only. */
+typedef struct {
+    uint8_t number, argument;
+} benzo_asked;
+
+/* What a caller keeps from one call to the next. It begins at zero, and each
+ * answer has the session for the call after it. */
+typedef struct {
+    uint8_t user;        /* 0 to 15 */
+    uint8_t pattern[12]; /* of the last search: name, type and extent */
+    uint16_t place;      /* where the search goes on, 0 to 64 */
+    uint8_t on;          /* a search is on: anything but 0 */
+} benzo_session;
+
+/* What a call answers: the registers A and H, and the session.
+ *
+ * An accepted call has H 0, and A 0 but for these: the entry's number mod 4 in
+ * 15, 16, 17, 18 and 22, and the user in 32 with argument 255.
+ *
+ * A refused call has one of these codes, tested in this order:
+ *
+ *   A, H       calls               meaning
+ *   255, 255                       There is no call with this number.
+ *   255, 4                         A buffer has a wrong length, the session's
+ *                                  user is over 15, its search place is over
+ *                                  64, or byte 0 of the FCB is over 1.
+ *   255, 1                         The directory of the image is not
+ *                                  consistent, or the map does not fit it.
+ *   6, 0       33 34               The random record number is over 262,143.
+ *   9, 0       20 21 33 34         The FCB is not current: the file has changed
+ *                                  since it was opened, or was never opened.
+ *   255, 0     16                  The FCB is not current, so there is nothing
+ *                                  that it can close.
+ *   255, 0     36                  The FCB's ex is over 31, its s2 is over 63
+ *                                  or its cr is over 128.
+ *   255, 0     32                  The argument is neither 255 nor a user
+ *                                  number from 0 to 15.
+ *   255, 9     15 17 19 22 23 35   A name has a byte that names may not have,
+ *                                  or the extent in byte 12 is over 31.
+ *   255, 0     15 17 19 23 35      This user has no such file.
+ *   255, 0     18                  No search is on.
+ *   255, 0     18                  Nothing more matches.
+ *   255, 3     19 21 23 34         The file is read-only.
+ *   255, 8     22                  The file is there already.
+ *   255, 8     23                  A file of the new name is there already.
+ *   255, 0     22                  The directory is full: none of its 64
+ *                                  entries is empty.
+ *   3, 0       20 21 33 34         The present extent can't be closed, so the
+ *                                  move to another can't begin.
+ *   4, 0       33                  The file has no entry for the extent of this
+ *                                  record.
+ *   1, 0       20 33               The record is not there.
+ *   1, 0       21                  The next extent has no entry and the
+ *                                  directory is full, or the file is as long as
+ *                                  a file can be.
+ *   5, 0       34                  The extent of this record has no entry and
+ *                                  the directory is full.
+ *   2, 0       21 34               The disk is full: no block is free.
+ *
+ * A refusal hands the session back as it came; only a 17 that finds nothing
+ * and an 18 that finds no more end the search. */
+typedef struct {
+    uint8_t a, h;
+    benzo_session session;
+} benzo_answer;
+
+/* Makes one call.
+ *
+ * Each pointer has to be good for reading and writing as many bytes, or notes,
+ * as the length behind it says, even where that length is a wrong one. The four
+ * buffers must not overlap. They are the caller's again when the call returns.
+ * Calls over different buffers may run at the same time. */
+benzo_answer benzo_call(benzo_asked asked,
+                        uint8_t *image, size_t image_len,
+                        uint16_t *map, size_t map_len,
+                        uint8_t *fcb, size_t fcb_len,
+                        uint8_t *buffer, size_t buffer_len,
+                        benzo_session session);
+
+#ifdef __cplusplus
+}
+#endif
+
+#endif
