@@ -32,10 +32,10 @@ fn disk_right(number: u8, image: &[u8], map: &[u16], marks: &mut [u8]) -> bool
     if !consistent::is_consistent(image, marks, &mut users) {
         return false;
     }
-    if number == 13 {
-        return true;
+    if number != 13 {
+        return notes::map_right(map, marks, &users);
     }
-    notes::map_right(map, marks, &users)
+    true
 }
 
 // The calls on files and extents: 15, 16, 19, 22, 23, 35 and 36.

@@ -1,15 +1,39 @@
 -- `bdos::call` meets its contract: a test that fails is a row that decides, and what passed them all is ready for its own function.
-use mathlib.Core.Path.{refl, sym, _∙_}
+use mathlib.Core.Path.{_≡_, refl, sym, _∙_}
+use mathlib.Core.Bool.{true}
 use borrow.Author.Needs.{needs}
 use borrow.Author.Tests.{not-true, not-false}
 use Rattle.format.specs.Diskette.{eightInch}
+use Rattle.model.specs.Lent.{Lent, lend}
+use Rattle.model.specs.Table.{isListed, parametersRight}
 use Rattle.table.specs.Own.{call13, call-of}
+use Rattle.table.specs.Facts.{Ready}
 use Rattle.table.specs.Reflect.{fits-of, ready-of}
 use Rattle.table.specs.OwnStep.{own-at, step-own}
 use Rattle.table.specs.Early.{unlisted-step, parameter-step, disk-step}
 use Rattle.bdos.specs.Numbers.{listed-own}
 use Rattle.bdos.proofs.call.Statement.{statement}
 use Rattle.bdos.proofs.call.Tie as tie
+
+-- what the call was given
+abbrev given : tie.Start → Lent
+given c = lend (c .args .image .now) (c .args .map .now) (c .args .fcb .now) (c .args .buffer .now)
+
+-- what each passed test says
+listed : (c : tie.Else1) → isListed (c .before .before .before .before .before .before .args .asked .number) ≡ true
+listed c = sym (c .before .is-listed .ensures) ∙ not-false _ (c .if1 .left)
+
+parameters : (c : tie.Else2) →
+    let s = c .before .before .before .before .before .before .before .before .before .before .before .before in
+    parametersRight eightInch (given s) (s .args .asked .number) (s .args .session) ≡ true
+parameters c = sym (c .before .parameters-right .ensures) ∙ not-false _ (c .if2 .left)
+
+ready : (c : tie.Else3) →
+    let s = c .before .before .before .before .before .before .before .before .before .before .before .before .before .before .before .before .before .before in
+    Ready eightInch (s .args .asked .number) (given s) (s .args .session)
+ready c =
+    ready-of eightInch _ _ _ (parameters (c .before .before .before .before .before .before))
+    (sym (c .before .before .disk-right .ensures .0 _ _) ∙ not-false _ (c .if3 .left))
 
 is-listed-requires : tie.Need-is-listed-requires
 is-listed-requires c κs = search needs
@@ -40,16 +64,14 @@ same-length-4 c = search needs
 
 returns-2 : tie.Need-returns-2
 returns-2 c =
-    parameter-step eightInch _ _ _ _ (sym (c .before .before .before .before .before .before .before .before .is-listed .ensures) ∙ not-false _ (c .before .before .before .before .before .before .before .if1 .left))
-    (sym (c .before .before .parameters-right .ensures) ∙ not-true _ (c .before .if2 .taken)) (c .refuse2 .ensures)
+    parameter-step eightInch _ _ _ _ (listed (c .before .before .before .before .before .before .before)) (sym (c .before .before .parameters-right .ensures) ∙ not-true _ (c .before .if2 .taken)) (c .refuse2 .ensures)
 
 slice-aggregate-disk-right : tie.Need-slice-aggregate-disk-right
 slice-aggregate-disk-right c = search needs
 
 disk-right-requires : tie.Need-disk-right-requires
 disk-right-requires c κs =
-    let f = fits-of eightInch _ _ _ (sym (c .before .before .before .before .parameters-right .ensures) ∙ not-false _ (c .before .before .before .if2 .left)) in
-    (f .image-long, f .map-long, search needs)
+    let f = fits-of eightInch _ _ _ (parameters (c .before .before .before)) in (f .image-long, f .map-long, search needs)
 
 refuse-requires-3 : tie.Need-refuse-requires-3
 refuse-requires-3 c κs = search needs
@@ -68,17 +90,14 @@ same-length-8 c = search needs
 
 returns-3 : tie.Need-returns-3
 returns-3 c =
-    disk-step eightInch _ _ _ _ (sym (c .before .before .before .before .before .before .before .before .before .before .before .before .before .before .is-listed .ensures) ∙ not-false _ (c .before .before .before .before .before .before .before .before .before .before .before .before .before .if1 .left))
-    (sym (c .before .before .before .before .before .before .before .before .parameters-right .ensures) ∙ not-false _ (c .before .before .before .before .before .before .before .if2 .left))
+    disk-step eightInch _ _ _ _ (listed (c .before .before .before .before .before .before .before .before .before .before .before .before .before)) (parameters (c .before .before .before .before .before .before .before))
     (sym (c .before .before .before .disk-right .ensures .0 _ _) ∙ not-true _ (c .before .if3 .taken)) (c .refuse3 .ensures)
 
 slice-aggregate-log-in : tie.Need-slice-aggregate-log-in
 slice-aggregate-log-in c = search needs
 
 log-in-requires : tie.Need-log-in-requires
-log-in-requires c κs =
-    let f = fits-of eightInch _ _ _ (sym (c .before .before .before .before .before .before .before .before .before .before .parameters-right .ensures) ∙ not-false _ (c .before .before .before .before .before .before .before .before .before .if2 .left)) in
-    (f .map-long, search needs)
+log-in-requires c κs = (ready (c .before .before .before) .fits .map-long, search needs)
 
 same-length-9 : tie.Need-same-length-9
 same-length-9 c = search needs
@@ -94,18 +113,12 @@ same-length-12 c = search needs
 
 returns-4 : tie.Need-returns-4
 returns-4 c =
-    let k = call-of _ (sym (c .before .before .before .before .before .before .before .before .before .before .before .before .before .before .before .before .before .before .before .is-listed .ensures) ∙ not-false _ (c .before .before .before .before .before .before .before .before .before .before .before .before .before .before .before .before .before .before .if1 .left)) in
-    let right = not-false _ (c .before .before .before .before .before .before .if3 .left) in
-    let ready = ready-of eightInch _ _ _ (sym (c .before .before .before .before .before .before .before .before .before .before .before .before .before .parameters-right .ensures) ∙ not-false _ (c .before .before .before .before .before .before .before .before .before .before .before .before .if2 .left)) (sym (c .before .before .before .before .before .before .before .before .disk-right .ensures .0 _ _) ∙ right) in
-    c .before .before .log-in .ensures _ _ _ _ (c .before .before .before .before .before .before .before .before .disk-right .ensures .1 right)
-    ∙ own-at eightInch _ _ (c .before .before .before .before .before .if4 .taken) k call13 _ ∙ sym (step-own eightInch _ _ _ k refl ready)
+    let k = call-of _ (listed (c .before .before .before .before .before .before .before .before .before .before .before .before .before .before .before .before .before .before)) in
+    c .before .before .log-in .ensures _ _ _ _ (c .before .before .before .before .before .before .before .before .disk-right .ensures .1 (not-false _ (c .before .before .before .before .before .before .if3 .left)))
+    ∙ own-at eightInch _ _ (c .before .before .before .before .before .if4 .taken) k call13 _ ∙ sym (step-own eightInch _ _ _ k refl (ready (c .before .before .before .before .before .before)))
 
 own-call-requires : tie.Need-own-call-requires
-own-call-requires c κs =
-    let listed = sym (c .before .before .before .before .before .before .before .before .before .before .before .before .before .before .before .before .before .before .is-listed .ensures) ∙ not-false _ (c .before .before .before .before .before .before .before .before .before .before .before .before .before .before .before .before .before .if1 .left) in
-    let ready = ready-of eightInch _ _ _ (sym (c .before .before .before .before .before .before .before .before .before .before .before .before .parameters-right .ensures) ∙ not-false _ (c .before .before .before .before .before .before .before .before .before .before .before .if2 .left))
-    (sym (c .before .before .before .before .before .before .before .disk-right .ensures .0 _ _) ∙ not-false _ (c .before .before .before .before .before .if3 .left)) in
-    (listed-own _ listed (c .before .before .before .before .if4 .left), ready)
+own-call-requires c κs = (listed-own _ (listed (c .before .before .before .before .before .before .before .before .before .before .before .before .before .before .before .before .before)) (c .before .before .before .before .if4 .left), ready (c .before .before .before .before .before))
 
 same-length-13 : tie.Need-same-length-13
 same-length-13 c = search needs
@@ -121,10 +134,8 @@ same-length-16 c = search needs
 
 returns-5 : tie.Need-returns-5
 returns-5 c =
-    let k = call-of _ (sym (c .before .before .before .before .before .before .before .before .before .before .before .before .before .before .before .before .before .before .before .before .before .before .before .before .before .before .before .is-listed .ensures) ∙ not-false _ (c .before .before .before .before .before .before .before .before .before .before .before .before .before .before .before .before .before .before .before .before .before .before .before .before .before .before .if1 .left)) in
-    let ready = ready-of eightInch _ _ _ (sym (c .before .before .before .before .before .before .before .before .before .before .before .before .before .before .before .before .before .before .before .before .before .parameters-right .ensures) ∙ not-false _ (c .before .before .before .before .before .before .before .before .before .before .before .before .before .before .before .before .before .before .before .before .if2 .left))
-    (sym (c .before .before .before .before .before .before .before .before .before .before .before .before .before .before .before .before .disk-right .ensures .0 _ _) ∙ not-false _ (c .before .before .before .before .before .before .before .before .before .before .before .before .before .before .if3 .left)) in
-    c .before .before .before .before .before .before .before .before .own-call .ensures k ∙ sym (step-own eightInch _ _ _ k refl ready)
+    let k = call-of _ (listed (c .before .before .before .before .before .before .before .before .before .before .before .before .before .before .before .before .before .before .before .before .before .before .before .before .before .before)) in
+    c .before .before .before .before .before .before .before .before .own-call .ensures k ∙ sym (step-own eightInch _ _ _ k refl (ready (c .before .before .before .before .before .before .before .before .before .before .before .before .before .before)))
 
 pub call-spec : {M : Type 1} → statement M
 call-spec =

@@ -1,4 +1,4 @@
--- `bdos::disk_right` meets its contract: the image decides, then 13, then the map by the marks that the look at the image left.
+-- `bdos::disk_right` meets its contract: the image decides, then, except for 13, the map by the marks that the look at the image left.
 use mathlib.Core.Path.{sym, _∙_}
 use borrow.Author.Needs.{needs}
 use borrow.Author.Tests.{not-true, not-false}
@@ -22,30 +22,29 @@ returns c =
     let e = c .before .before .before .before .is-consistent .ensures in
     (λ fcb buffer. sym (image-wrong eightInch _ _ (sym (e .0) ∙ not-true _ (c .if1 .taken))), λ t. clash (sym t))
 
-same-length-2 : tie.Need-same-length-2
-same-length-2 c = search needs
-
-returns-2 : tie.Need-returns-2
-returns-2 c =
-    let e = c .before .before .before .before .before .is-consistent .ensures in
-    let r = not-false _ (c .before .if1 .left) in
-    (λ fcb buffer. sym (log-in-right eightInch _ _ (sym (e .0) ∙ r) (c .if2 .taken)), λ t. e .1 r)
-
 slice-aggregate-map-right : tie.Need-slice-aggregate-map-right
 slice-aggregate-map-right c = search needs
 
 map-right-requires : tie.Need-map-right-requires
 map-right-requires c κs = search needs
 
+same-length-2 : tie.Need-same-length-2
+same-length-2 c = search needs
+
+returns-2 : tie.Need-returns-2
+returns-2 c =
+    let e = c .before .before .before .before .before .before .before .before .is-consistent .ensures in
+    let r = not-false _ (c .before .before .before .before .if1 .left) in
+    (λ fcb buffer. c .map-right .ensures _ (e .1 r) (e .2 r) ∙ sym (map-decides eightInch _ _ (sym (e .0) ∙ r) (c .before .before .before .if2 .taken)), λ t. e .1 r)
+
 same-length-3 : tie.Need-same-length-3
 same-length-3 c = search needs
 
 returns-3 : tie.Need-returns-3
 returns-3 c =
-    let b = c .before .before .before .before in
-    let e = b .before .before .before .before .is-consistent .ensures in
-    let r = not-false _ (b .if1 .left) in
-    (λ fcb buffer. c .map-right .ensures _ (e .1 r) (e .2 r) ∙ sym (map-decides eightInch _ _ (sym (e .0) ∙ r) (c .before .before .before .if2 .left)), λ t. e .1 r)
+    let e = c .before .before .before .before .before .is-consistent .ensures in
+    let r = not-false _ (c .before .if1 .left) in
+    (λ fcb buffer. sym (log-in-right eightInch _ _ (sym (e .0) ∙ r) (c .if2 .left)), λ t. e .1 r)
 
 pub disk-right-spec : {M : Type 1} → statement M
 disk-right-spec =
@@ -55,9 +54,9 @@ disk-right-spec =
     is-consistent-requires
     same-length
     returns
-    same-length-2
-    returns-2
     slice-aggregate-map-right
     map-right-requires
+    same-length-2
+    returns-2
     same-length-3
     returns-3)
