@@ -47,3 +47,21 @@ fn check_memory(program: &common::Compiled, expected: &str) {
         None => println!("skipped: valgrind is not there, so memory is not checked"),
     }
 }
+
+/// The header is fit for C++ too.
+#[test]
+fn the_header_compiles_as_cpp() {
+    let header = common::repository().join("include/benzokamuri.h");
+    let compiled = std::process::Command::new("c++")
+        .args(["-x", "c++", "-std=c++11", "-Wall", "-Wextra", "-Werror"])
+        .arg("-fsyntax-only")
+        .arg(header)
+        .output();
+    match compiled {
+        Ok(output) => {
+            let errors = String::from_utf8_lossy(&output.stderr);
+            assert!(output.status.success(), "{errors}");
+        }
+        Err(_) => println!("skipped: c++ is not there"),
+    }
+}

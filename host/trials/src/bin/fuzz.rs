@@ -71,7 +71,10 @@ fn searched(wanted: &Wanted, out: &mut dyn Write) -> io::Result<bool> {
     let (mut left, mut right) = (reference::call, library);
     match search(wanted.seed, wanted.calls, &mut left, &mut right, out)? {
         Ok(counts) => {
-            writeln!(out, "{counts}")?;
+            // The table says how often things come up in 300,000 calls.
+            if counts.calls >= 300_000 {
+                writeln!(out, "{counts}")?;
+            }
             Ok(true)
         }
         Err(failure) => {
