@@ -16,7 +16,10 @@ fn main() -> ExitCode {
     let words: Vec<String> = std::env::args().skip(1).collect();
     let words: Vec<&str> = words.iter().map(String::as_str).collect();
     let done = match words[..] {
-        [] => Some(both_tables()),
+        [] => {
+            both_tables();
+            Some(())
+        }
         ["--once", "library", fullness, case] => once::<Library>(fullness, case),
         ["--once", "reference", fullness, case] => once::<Reference>(fullness, case),
         _ => None,
