@@ -1,6 +1,5 @@
 -- `assured::make_call` meets its contract: the FCB and the buffer are the script's, and the call is the step of that request.
 use borrow.Author.Needs.{needs}
-use Rattle.format.specs.Diskette.{eightInch}
 use Rattle.assured.specs.Script.{requestAt}
 use Rattle.assured.specs.Demands.{met-after}
 use Rattle.assured.proofs.make_call.Statement.{statement}
@@ -53,7 +52,7 @@ same-length-2 c = search needs
 
 returns : tie.Need-returns
 unfolding requestAt
-returns c = met-after eightInch _ (requestAt (c .before .before .before .before .before .before .before .before .before .before .before .before .before .before .before .before .before .before .before .before .before .before .before .args .script .now) (c .before .before .before .before .before .before .before .before .before .before .before .before .before .before .before .before .before .before .before .before .before .before .before .args .i)) _ _ _ (c .before .before .before .before .before .before .before .call .ensures) (c .before .before .before .before .before .before .before .before .before .before .before .before .before .before .before .before .before .before .get .ensures) (c .before .before .before .before .before .before .before .before .before .before .before .before .before .before .before .get2 .ensures)
+returns c = met-after _ (requestAt (c .before .before .before .before .before .before .before .before .before .before .before .before .before .before .before .before .before .before .before .before .before .before .before .args .script .now) (c .before .before .before .before .before .before .before .before .before .before .before .before .before .before .before .before .before .before .before .before .before .before .before .args .i)) _ _ _ (c .before .before .before .before .before .before .before .call .ensures) (c .before .before .before .before .before .before .before .before .before .before .before .before .before .before .before .before .before .before .get .ensures) (c .before .before .before .before .before .before .before .before .before .before .before .before .before .before .before .get2 .ensures)
 
 pub make-call-spec : {M : Type 1} → statement M
 make-call-spec =
