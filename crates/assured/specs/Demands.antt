@@ -91,13 +91,14 @@ module _ (d : Disk) (q : Request) (o : Outcome) (f b : Bytes) (meets : o ≡ ste
 
     -- call 33 through the FCB handed back, with r0 to r2 set to the record
     pub reads-again : (qs : List Request) → LeftAlone d q qs → (e : Disk) → e ≡ run eightInch (left o) qs
-        → (g back : Bytes) → g ≡ splice (o .lent .fcb) 33 (threeBytes (extentRecords * targetExtent (q .asked .number) (q .fcb) + targetRecord (q .asked .number) (q .fcb)))
-        → length back ≡ recordBytes → (p : Outcome) → p ≡ step eightInch (ask 33 0) (lend (e .image) (e .map) g back) (e .session)
-        → p .lent .buffer ≡ q .buffer
+        → (x r : ℕ) → x ≡ targetExtent (q .asked .number) (q .fcb) → r ≡ targetRecord (q .asked .number) (q .fcb)
+        → (g back : Bytes) → g ≡ splice (o .lent .fcb) 33 (threeBytes (extentRecords * x + r)) → length back ≡ recordBytes
+        → (p : Outcome) → p ≡ step eightInch (ask 33 0) (lend (e .image) (e .map) g back) (e .session) → p .lent .buffer ≡ q .buffer
     unfolding readFcb atRecord outcomeOf
-    reads-again qs alone e r g back is long p m =
-        let same : g ≡ readFcb eightInch d q = is ∙ ap (λ (x : Outcome). atRecord (x .lent .fcb) (extentRecords * targetExtent (q .asked .number) (q .fcb) + targetRecord (q .asked .number) (q .fcb))) met in
-        let all : p ≡ outcomeOf eightInch (run eightInch (after eightInch d q) qs) (request (ask 33 0) (readFcb eightInch d q) back) =
-        m ∙ ap (λ (x : Bytes). step eightInch (ask 33 0) (lend (e .image) (e .map) x back) (e .session)) same
-        ∙ ap (λ (x : Disk). outcomeOf eightInch x (request (ask 33 0) (readFcb eightInch d q) back)) (met-run qs e r) in
-        ap (λ (x : Outcome). x .lent .buffer) all ∙ eight-read-back d q writes accepted qs alone (ask 33 0) refl back long .is-buffer
+    reads-again qs alone e made x r ext rec g back is long p m =
+        let f : Bytes = readFcb eightInch d q in
+        let same : g ≡ f = is ∙ (rw (ext, rec, met)) in
+        let all : p ≡ outcomeOf eightInch (run eightInch (after eightInch d q) qs) (request (ask 33 0) f back) =
+        m ∙ ap (λ (y : Bytes). step eightInch (ask 33 0) (lend (e .image) (e .map) y back) (e .session)) same
+        ∙ ap (λ (y : Disk). outcomeOf eightInch y (request (ask 33 0) f back)) (met-run qs e made) in
+        ap (λ (y : Outcome). y .lent .buffer) all ∙ eight-read-back d q writes accepted qs alone (ask 33 0) refl back long .is-buffer
