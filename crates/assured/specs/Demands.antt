@@ -5,21 +5,24 @@ use mathlib.Core.List.{List, [], _∷_}
 use Prim.Native.Nat.{ℕ, _+_, _*_, _<_}
 use lib.ListN.{length}
 use borrow.Author.Tests.{eq-eqb, ne-eqb}
+use Rattle.lists.specs.Cases.{split}
 use Rattle.lists.specs.Tests.{_and_, _or_, and-both}
 use Rattle.lists.specs.Splice.{copies, splice}
 use Rattle.format.specs.Diskette.{Bytes, eightInch, recordBytes}
 use Rattle.format.specs.Fcb.{fcbBytes}
 use Rattle.disk.specs.Eight.{eight-sound}
 use Rattle.model.specs.declared.Asked.{Asked}
+use Rattle.model.specs.declared.Session.{Session}
 use Rattle.model.specs.declared.Answer.{Answer}
-use Rattle.model.specs.Lent.{lend, Outcome}
+use Rattle.model.specs.declared.Code.{Code}
+use Rattle.model.specs.Lent.{Lent, lend, Outcome}
 use Rattle.model.specs.Entering.{threeBytes}
 use Rattle.model.specs.Target.{extents, extentRecords, targetExtent, targetRecord}
 use Rattle.model.specs.Table.{oneOf}
-use Rattle.model.specs.Step.{step}
+use Rattle.model.specs.Step.{refused, effect, step}
 use Rattle.table.specs.First.{_&_}
 use Rattle.table.specs.Own.{at-one}
-use Rattle.table.specs.Total.{ask}
+use Rattle.table.specs.Total.{ask, RefusedBy, CarriedOut, eight-total}
 use Rattle.effects.specs.Book.{Book, nothingHeld, acceptedAnswer}
 use Rattle.demands.specs.Runs.{Request, Disk, outcomeOf, left, accepts, after, run, bookRun}
 use Rattle.demands.specs.NothingLost.{NothingLost}
@@ -41,6 +44,15 @@ bookFrom d q qs = bookRun eightInch (after eightInch d q) qs nothingHeld
 -- the calls that follow a write leave its file alone
 abbrev pub LeftAlone : Disk → Request → List Request → Type 0
 LeftAlone d w qs = AllLeaveAlone eightInch (outcomeOf eightInch d w .lent .fcb) (after eightInch d w) qs
+
+-- ---- demand 1: an outcome is a refusal with the code of the first row of the table that holds, or the call was carried out
+pub data Told (asked : Asked) (l : Lent) (s : Session) (o : Outcome) : Type 0 where
+  told-refused : (c : Code) → RefusedBy eightInch asked l s c → o ≡ refused c s l → Told asked l s o
+  told-carried : CarriedOut eightInch asked l s → o ≡ effect eightInch (asked .number) (asked .argument) l s → Told asked l s o
+
+pub told : (asked : Asked) (l : Lent) (s : Session) (o : Outcome) → o ≡ step eightInch asked l s → Told asked l s o
+told asked l s o m =
+    split (eight-total asked l s) (λ r. told-refused (r .0) (r .1) (m ∙ r .1 .is)) (λ c. told-carried c (m ∙ c .is))
 
 -- ---- answers that say that a call was accepted
 log-in-accepted : (a : Answer) → a .h ≡ 0 → (a .a ≡ 255 → ⊥) → acceptedAnswer 13 a ≡ true

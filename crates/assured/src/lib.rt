@@ -6,11 +6,13 @@ ghost use Prim.Native.Nat.{_+_, _*_, _≤_};
 ghost use lib.ListN.{length};
 ghost use Rattle.format.specs.Diskette.{eightInch, recordBytes};
 ghost use Rattle.format.specs.Fcb.{fcbBytes};
+ghost use Rattle.model.specs.Lent.{lend, outcome};
 ghost use Rattle.model.specs.Table.{oneOf};
 ghost use Rattle.demands.specs.Runs.{after, run};
 ghost use Rattle.demands.specs.NothingLost.{NothingLost};
 ghost use Rattle.assured.specs.Script.{callBytes, requestAt, requests, diskOf};
-ghost use Rattle.assured.specs.Demands.{request, logIn, bookFrom, LeftAlone};
+ghost use Rattle.assured.specs.Demands.{Told, request, logIn, bookFrom, LeftAlone};
+use model::Answer;
 use model::Asked;
 use model::Session;
 
@@ -21,6 +23,21 @@ const CALL_BYTES: usize = 166;
 pub struct Ran {
     pub accepted: bool,
     pub session: Session,
+}
+
+// Demand 1, of `call` itself: it is refused, by the first row of the table that holds and with nothing changed, or carried out.
+pub fn one_call(
+    asked: Asked,
+    image: &mut [u8],
+    map: &mut [u16],
+    fcb: &mut [u8],
+    buffer: &mut [u8],
+    session: Session,
+) -> Answer
+    ensures { λ r. ⌜ Told asked (lend (now (image .entry)) (now (map .entry)) (now (fcb .entry)) (now (buffer .entry))) session
+        (outcome r (now (image .exit)) (now (map .exit)) (now (fcb .exit)) (now (buffer .exit))) ⌝ }
+{
+    bdos::call(asked, image, map, fcb, buffer, session)
 }
 
 // One call of a script.

@@ -1,5 +1,5 @@
 -- `assured::write_and_read` meets its contract: the write's answer says that it was accepted, so the record that it wrote is read back.
-use mathlib.Core.Path.{_≡_, refl, sym, _∙_}
+use mathlib.Core.Path.{refl, sym, _∙_}
 use Prim.Native.Nat.{_<_}
 use native.Mathlib.Omega.{arith}
 use borrow.Author.Needs.{needs}
