@@ -1,0 +1,161 @@
+// The demands once more, of `call` itself: functions above it that go by its contract alone.
+ghost use mathlib.Core.Path.{_≡_};
+ghost use mathlib.Core.Bool.{true};
+ghost use mathlib.Core.List.{[], _∷_};
+ghost use Prim.Native.Nat.{_+_, _*_, _≤_};
+ghost use lib.ListN.{length};
+ghost use Rattle.format.specs.Diskette.{eightInch, recordBytes};
+ghost use Rattle.format.specs.Fcb.{fcbBytes};
+ghost use Rattle.model.specs.Lent.{lend, outcome};
+ghost use Rattle.model.specs.Table.{oneOf};
+ghost use Rattle.demands.specs.Runs.{after, run};
+ghost use Rattle.demands.specs.NothingLost.{NothingLost};
+ghost use Rattle.assured.specs.Script.{callBytes, requestAt, requests, diskOf};
+ghost use Rattle.assured.specs.Demands.{Told, request, logIn, bookFrom, LeftAlone};
+use model::Answer;
+use model::Asked;
+use model::Session;
+
+// The bytes of a call in a script: its number, its argument, its FCB and its buffer.
+const CALL_BYTES: usize = 166;
+
+// What a run comes to: whether its first call was accepted, and the session that it left.
+pub struct Ran {
+    pub accepted: bool,
+    pub session: Session,
+}
+
+// Demand 1, of `call` itself: it is refused, by the first row of the table that holds and with nothing changed, or carried out.
+pub fn one_call(
+    asked: Asked,
+    image: &mut [u8],
+    map: &mut [u16],
+    fcb: &mut [u8],
+    buffer: &mut [u8],
+    session: Session,
+) -> Answer
+    ensures { λ r. ⌜ Told asked (lend (now (image .entry)) (now (map .entry)) (now (fcb .entry)) (now (buffer .entry))) session
+        (outcome r (now (image .exit)) (now (map .exit)) (now (fcb .exit)) (now (buffer .exit))) ⌝ }
+{
+    bdos::call(asked, image, map, fcb, buffer, session)
+}
+
+// One call of a script.
+fn make_call(
+    script: &[u8],
+    i: usize,
+    image: &mut [u8],
+    map: &mut [u16],
+    session: Session,
+) -> Session
+    requires { ⌜ callBytes * (i + 1) ≤ length (now script) ⌝ }
+    ensures { λ r. ⌜ diskOf (now (image .exit)) (now (map .exit)) r
+        ≡ after eightInch (diskOf (now (image .entry)) (now (map .entry)) session) (requestAt (now (script .entry)) i) ⌝ }
+{
+    let at = CALL_BYTES * i;
+    let mut fcb = [0u8; format::FCB_BYTES];
+    lists::get(script, at + 2, &mut fcb);
+    let mut buffer = [0u8; format::RECORD_BYTES];
+    lists::get(script, at + 38, &mut buffer);
+    let asked = Asked {
+        number: script[at],
+        argument: script[at + 1],
+    };
+    let r = bdos::call(asked, image, map, &mut fcb, &mut buffer, session);
+    r.session
+}
+
+// The first n calls of a script, one after the other.
+pub fn run_calls(
+    script: &[u8],
+    n: usize,
+    image: &mut [u8],
+    map: &mut [u16],
+    session: Session,
+) -> Session
+    requires { ⌜ callBytes * n ≤ length (now script) ⌝ }
+    ensures { λ r. ⌜ diskOf (now (image .exit)) (now (map .exit)) r
+        ≡ run eightInch (diskOf (now (image .entry)) (now (map .entry)) session) (requests (now (script .entry)) n) ⌝ }
+{
+    let mut s = session;
+    let mut i = 0;
+    while i < n {
+        s = make_call(script, i, image, map, s);
+        i += 1;
+    }
+    s
+}
+
+// Demand 3, of `call` itself: a log-in that is accepted, then the first n calls of any script, and nothing is lost.
+pub fn log_in_and_run(
+    script: &[u8],
+    n: usize,
+    image: &mut [u8],
+    map: &mut [u16],
+    session: Session,
+) -> Ran
+    requires { ⌜ callBytes * n ≤ length (now script) ⌝ }
+    ensures { λ r. ⌜ (r .accepted ≡ true → NothingLost eightInch (diskOf (now (image .exit)) (now (map .exit)) (r .session))
+        (bookFrom (diskOf (now (image .entry)) (now (map .entry)) session) logIn (requests (now (script .entry)) n))) ⌝ }
+{
+    let mut fcb = [0u8; format::FCB_BYTES];
+    let mut buffer = [0u8; format::RECORD_BYTES];
+    let asked = Asked {
+        number: 13,
+        argument: 0,
+    };
+    let a = bdos::call(asked, image, map, &mut fcb, &mut buffer, session);
+    if a.h != 0 {
+        return Ran {
+            accepted: false,
+            session,
+        };
+    }
+    if a.a == 255 {
+        return Ran {
+            accepted: false,
+            session,
+        };
+    }
+    Ran {
+        accepted: true,
+        session: run_calls(script, n, image, map, a.session),
+    }
+}
+
+// Demand 2, of `call` itself: a write that is accepted, then the first n calls of any script that leave its file alone, and call 33
+// gives the bytes that were written. The answer is whether the write was accepted.
+pub fn write_and_read(
+    asked: Asked,
+    script: &[u8],
+    n: usize,
+    image: &mut [u8],
+    map: &mut [u16],
+    fcb: &mut [u8],
+    written: &mut [u8],
+    back: &mut [u8],
+    session: Session,
+) -> bool
+    requires { ⌜ (oneOf (asked .number) (21 ∷ 34 ∷ []) ≡ true) × (callBytes * n ≤ length (now script))
+        × (length (now fcb) ≡ fcbBytes) × (length (now back) ≡ recordBytes) ⌝ }
+    ensures { λ r. ⌜ (r ≡ true → LeftAlone (diskOf (now (image .entry)) (now (map .entry)) session)
+        (request asked (now (fcb .entry)) (now (written .entry))) (requests (now (script .entry)) n) → now (back .exit) ≡ now (written .entry)) ⌝ }
+{
+    let target = targets::target_of(asked.number, fcb);
+    let w = bdos::call(asked, image, map, fcb, written, session);
+    if w.h != 0 {
+        return false;
+    }
+    if w.a != 0 {
+        return false;
+    }
+    let s = run_calls(script, n, image, map, w.session);
+    let at = format::EXTENT_RECORDS * target.extent + target.at;
+    entering::put_three(fcb, 33, at);
+    let read = Asked {
+        number: 33,
+        argument: 0,
+    };
+    bdos::call(read, image, map, fcb, back, s);
+    true
+}
