@@ -24,12 +24,12 @@ use Rattle.current.specs.Current.{current-says, current-low}
 use Rattle.table.specs.OwnStep.{ownStep, refuses-own, carries-own}
 
 -- ---- a row and a map, from their parts
-pub closed-row : (row fcb es fs m r : Bytes) (n : ℕ) → es ≡ slotsOf row → fs ≡ slotsOf fcb → m ≡ mergedSlots es fs → n ≡ closedCount row fcb
-    → r ≡ splice (set row 15 n) 16 m → r ≡ closedRow row fcb
+pub closed-row : (G : Geometry) (row fcb es fs m r : Bytes) (n : ℕ) → es ≡ slotsOf row → fs ≡ slotsOf fcb → m ≡ mergedSlots es fs → n ≡ closedCount G row fcb
+    → r ≡ splice (set row 15 n) 16 m → r ≡ closedRow G row fcb
 unfolding closedRow
-closed-row row fcb es fs m r n a b c d e = rw (e, c, d, a, b)
+closed-row G row fcb es fs m r n a b c d e = rw (e, c, d, a, b)
 
-pub closed-image : (G : Geometry) (img fcb row r i : Bytes) (e : ℕ) → row ≡ entryAt G img e → r ≡ closedRow row fcb → i ≡ withEntry G img e r
+pub closed-image : (G : Geometry) (img fcb row r i : Bytes) (e : ℕ) → row ≡ entryAt G img e → r ≡ closedRow G row fcb → i ≡ withEntry G img e r
     → i ≡ closedImage G img e fcb
 unfolding closedImage
 closed-image G img fcb row r i e a b c = rw (c, b, a)

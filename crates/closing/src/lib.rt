@@ -53,7 +53,7 @@ fn merge(es: [u8; 16], fs: [u8; 16]) -> [u8; 16]
 // The entry's count after a close: it stays unless the FCB's is larger.
 fn closed_count(row: &[u8], fcb: &[u8]) -> u8
     requires { ⌜ (entryBytes ≤ length (now row)) × (entryBytes ≤ length (now fcb)) ⌝ }
-    ensures { λ r. ⌜ r ≡ closedCount (now (row .entry)) (now (fcb .entry)) ⌝ }
+    ensures { λ r. ⌜ r ≡ closedCount eightInch (now (row .entry)) (now (fcb .entry)) ⌝ }
 {
     if rows::count_in(row, rows::extent(fcb)) < fcb[15] {
         return fcb[15];
@@ -64,7 +64,7 @@ fn closed_count(row: &[u8], fcb: &[u8]) -> u8
 // The entry's row after a close.
 fn closed_row(row: [u8; 32], fcb: &[u8]) -> [u8; 32]
     requires { ⌜ length (now fcb) ≡ fcbBytes ⌝ }
-    ensures { λ r. ⌜ r ≡ closedRow row (now (fcb .entry)) ⌝ }
+    ensures { λ r. ⌜ r ≡ closedRow eightInch row (now (fcb .entry)) ⌝ }
 {
     let merged = merge(rows::slots(&row), rows::slots(fcb));
     let mut r = row;

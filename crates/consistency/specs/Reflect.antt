@@ -33,14 +33,14 @@ used-full r u = let h : userOf r ≤ 15 = used-low r u in ne-eqb (userOf r) 229 
 pub numbers-elim : (r : Bytes) → numbersRight r ≡ true → Numbers r
 unfolding numbersRight
 numbers-elim r h = record {
-  ex = leb-true _ _ (and-left _ _ h);
-  s2 = leb-true _ _ (and-left _ _ (and-right _ _ h));
-  rc = leb-true _ _ (and-right _ _ (and-right _ _ h));
+  ex = leb-true _ _ (and-left _ _ (and-left _ _ h));
+  s2 = leb-true _ _ (and-right _ _ (and-left _ _ h));
+  rc = leb-true _ _ (and-right _ _ h);
 }
 
 pub numbers-intro : (r : Bytes) → Numbers r → numbersRight r ≡ true
 unfolding numbersRight
-numbers-intro r n = and-both _ _ (le-leb _ _ (n .ex)) (and-both _ _ (le-leb _ _ (n .s2)) (le-leb _ _ (n .rc)))
+numbers-intro r n = and-both _ _ (and-both _ _ (le-leb _ _ (n .ex)) (le-leb _ _ (n .s2))) (le-leb _ _ (n .rc))
 
 module _ (G : Geometry) where
   -- a slot that is right and is not 0 holds the number of a block past the directory
@@ -106,37 +106,37 @@ module _ (d : Rows) where
       (λ z. or-right _ _ (ap not (any-empty (λ (k : ℕ). eqb (listed d k) (listed d y)) y (λ x h. ne-eqb _ _ (λ e. z (f x h e))))))
 
 -- ---- one entry a user, name and extent
-pub same-elim : (r t : Bytes) → sameFile r t ≡ true → SameFile r t
+pub same-elim : (G : Geometry) (r t : Bytes) → sameFile G r t ≡ true → SameFile r t
 unfolding sameFile isFile named covers
-same-elim r t h =
+same-elim G r t h =
     let f = and-right _ _ (and-right _ _ h) in
     let n = and-left _ _ f in
     record { user = eqb-true _ _ (and-left _ _ n); name = and-right _ _ n; extent = eqb-true _ _ (and-right _ _ f) }
 
-pub same-intro : (r t : Bytes) → used r ≡ true → used t ≡ true → SameFile r t → sameFile r t ≡ true
+pub same-intro : (G : Geometry) (r t : Bytes) → used r ≡ true → used t ≡ true → SameFile r t → sameFile G r t ≡ true
 unfolding sameFile isFile named covers
-same-intro r t u v s =
+same-intro G r t u v s =
     and-both _ _ u (and-both _ _ v (and-both _ _ (and-both _ _ (eq-eqb _ _ (s .user)) (s .name)) (eq-eqb _ _ (s .extent))))
 
-pub same-used-left : (r t : Bytes) → sameFile r t ≡ true → used r ≡ true
+pub same-used-left : (G : Geometry) (r t : Bytes) → sameFile G r t ≡ true → used r ≡ true
 unfolding sameFile
-same-used-left r t h = and-left _ _ h
+same-used-left G r t h = and-left _ _ h
 
-pub same-used-right : (r t : Bytes) → sameFile r t ≡ true → used t ≡ true
+pub same-used-right : (G : Geometry) (r t : Bytes) → sameFile G r t ≡ true → used t ≡ true
 unfolding sameFile
-same-used-right r t h = and-left _ _ (and-right _ _ h)
+same-used-right G r t h = and-left _ _ (and-right _ _ h)
 
 pub same-sym : (r t : Bytes) → SameFile r t → SameFile t r
 same-sym r t s = record { user = sym (s .user); name = like-sym t 1 r 1 (s .name); extent = sym (s .extent) }
 
-module _ (d : Rows) where
-  pub alone-elim : (e f : ℕ) → alone d e ≡ true → f < e → sameFile (d e) (d f) ≡ true → ⊥
+module _ (G : Geometry) (d : Rows) where
+  pub alone-elim : (e f : ℕ) → alone G d e ≡ true → f < e → sameFile G (d e) (d f) ≡ true → ⊥
   unfolding alone
-  alone-elim e f t h s = not-both (sameFile (d e) (d f)) s (any-never _ e (not-true _ t) f h)
+  alone-elim e f t h s = not-both (sameFile G (d e) (d f)) s (any-never _ e (not-true _ t) f h)
 
-  pub alone-intro : (e : ℕ) → ((f : ℕ) → f < e → sameFile (d e) (d f) ≡ true → ⊥) → alone d e ≡ true
+  pub alone-intro : (e : ℕ) → ((f : ℕ) → f < e → sameFile G (d e) (d f) ≡ true → ⊥) → alone G d e ≡ true
   unfolding alone
-  alone-intro e g = ap not (any-empty (λ (f : ℕ). sameFile (d e) (d f)) e (λ f h. sym (refute _ (g f h))))
+  alone-intro e g = ap not (any-empty (λ (f : ℕ). sameFile G (d e) (d f)) e (λ f h. sym (refute _ (g f h))))
 
 -- ---- the directory
 module _ (G : Geometry) (d : Rows) where
@@ -152,8 +152,8 @@ module _ (G : Geometry) (d : Rows) where
       (λ m. absurd (s .real (sym q ∙ once-elim d y x (all-at _ (slotsInAll G) t x (stands-place G d b e j s)) m (r ∙ sym q))))
       (λ m. omega arith))
 
-  apart-order : (t : allBelow (alone d) (G .entries) ≡ true) (e f : ℕ) → e < G .entries → used (d e) ≡ true → used (d f) ≡ true → SameFile (d e) (d f) → f < e → ⊥
-  apart-order t e f l u v s h = alone-elim d e f (all-at _ (G .entries) t e l) h (same-intro (d e) (d f) u v s)
+  apart-order : (t : allBelow (alone G d) (G .entries) ≡ true) (e f : ℕ) → e < G .entries → used (d e) ≡ true → used (d f) ≡ true → SameFile (d e) (d f) → f < e → ⊥
+  apart-order t e f l u v s h = alone-elim G d e f (all-at _ (G .entries) t e l) h (same-intro G (d e) (d f) u v s)
 
   pub consistent-facts : consistentRows G d ≡ true → Consistent G d
   unfolding consistentRows
@@ -184,10 +184,10 @@ module _ (G : Geometry) (d : Rows) where
       let b : x % slotCount ≡ y % slotCount = c .once-slot (listed d y) (x / slotCount) (x % slotCount) (y / slotCount) (y % slotCount) s u in
       absurd (omega arith)))
 
-  facts-alone : Consistent G d → (e : ℕ) → e < G .entries → alone d e ≡ true
+  facts-alone : Consistent G d → (e : ℕ) → e < G .entries → alone G d e ≡ true
   facts-alone c e h =
-      alone-intro d e
-      (λ f l t. let q : e ≡ f = c .apart e f h (omega arith) (same-used-left (d e) (d f) t) (same-used-right (d e) (d f) t) (same-elim (d e) (d f) t) in omega arith)
+      alone-intro G d e
+      (λ f l t. let q : e ≡ f = c .apart e f h (omega arith) (same-used-left G (d e) (d f) t) (same-used-right G (d e) (d f) t) (same-elim G (d e) (d f) t) in omega arith)
 
   pub facts-consistent : Consistent G d → consistentRows G d ≡ true
   unfolding consistentRows

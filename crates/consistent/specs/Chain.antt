@@ -12,16 +12,16 @@ use borrow.Author.Tests.{eqb-true, eqb-false, eq-eqb, ne-eqb}
 use Rattle.lists.specs.Cases.{split, bool-cases, lt-or-le, eq-or-ne, refute, not-both}
 use Rattle.lists.specs.Tests.{and-then}
 use Rattle.lists.specs.Below.{any-at, any-empty, lastBelow, last-none, last-hit, last-miss, last-high, last-holds, last-after}
-use Rattle.format.specs.Diskette.{Bytes}
+use Rattle.format.specs.Diskette.{Bytes, Geometry}
 use Rattle.format.specs.Entries.{Rows, userOf, used, isFile, extentOf}
 use Rattle.format.specs.Consistent.{sameFile, alone}
 use Rattle.consistency.specs.Reflect.{same-elim, same-used-right}
 use Rattle.consistent.specs.Key.{keyCount, keyOf, key-same, key-below}
 
 -- of used rows the look-up of one by the other decides
-pub file-same : (r t : Bytes) (ext : ℕ) → used r ≡ true → used t ≡ true → ext ≡ extentOf t → isFile (userOf t) t 1 ext r ≡ sameFile r t
+pub file-same : (G : Geometry) (r t : Bytes) (ext : ℕ) → used r ≡ true → used t ≡ true → ext ≡ extentOf t → isFile G (userOf t) t 1 ext r ≡ sameFile G r t
 unfolding sameFile
-file-same r t ext u v q = sym (and-then _ _ u ∙ and-then _ _ v ∙ rw q)
+file-same G r t ext u v q = sym (and-then _ _ u ∙ and-then _ _ v ∙ rw q)
 
 -- the key of entry f; keyCount, which is no key, where it is not used
 unfoldable pub keyIn : Rows → ℕ → ℕ
@@ -104,19 +104,20 @@ module _ (d : Rows) where
   links-take e k r lasts links p q h l s t =
       links-more e (getD lasts k 0) links l (s .last k h ∙ ap (λ (x : ℕ). lastBelow (hasKey d x) e) (q ∙ ap keyOf p)) t
 
-  -- ---- the walk back from entry e, which has come to the number f
+-- ---- the walk back from entry e, which has come to the number f
+module _ (G : Geometry) (d : Rows) where
   pub record Walk (e f : ℕ) : Type 0 where
     pub high : f ≤ e
-    pub passed : (g : ℕ) → f ≤ g → g < e → sameFile (d e) (d g) ≡ false
+    pub passed : (g : ℕ) → f ≤ g → g < e → sameFile G (d e) (d g) ≡ false
     pub key : 0 < f → keyIn d (f - 1) ≡ keyOf (d e)
 
   -- an entry of another key is of another file
-  other-key : (e g : ℕ) → (keyIn d g ≡ keyOf (d e) → ⊥) → sameFile (d e) (d g) ≡ false
+  other-key : (e g : ℕ) → (keyIn d g ≡ keyOf (d e) → ⊥) → sameFile G (d e) (d g) ≡ false
   other-key e g n =
-      sym (refute _ (λ t. n (key-used g (same-used-right (d e) (d g) t) ∙ sym (key-same (d e) (d g) (same-elim (d e) (d g) t)))))
+      sym (refute _ (λ t. n (key-used d g (same-used-right G (d e) (d g) t) ∙ sym (key-same (d e) (d g) (same-elim G (d e) (d g) t)))))
 
   -- a step to the last entry below n that has e's key, from which on all were passed
-  walk-to : (e n f : ℕ) → n ≤ e → f ≡ lastBelow (hasKey d (keyOf (d e))) n → ((g : ℕ) → n ≤ g → g < e → sameFile (d e) (d g) ≡ false) → Walk e f
+  walk-to : (e n f : ℕ) → n ≤ e → f ≡ lastBelow (hasKey d (keyOf (d e))) n → ((g : ℕ) → n ≤ g → g < e → sameFile G (d e) (d g) ≡ false) → Walk e f
   walk-to e n f h q p =
       let k : f ≤ n = rw q (last-high (hasKey d (keyOf (d e))) n) in
       record {
@@ -133,16 +134,16 @@ module _ (d : Rows) where
   walk-start e links u s = walk-to e e (getD links e 0) (omega arith) (s .link e (omega arith) u) (λ g l r. absurd (omega arith))
 
   pub walk-used : (e f : ℕ) → Walk e f → 0 < f → used (d (f - 1)) ≡ true
-  walk-used e f w l = key-tells (f - 1) (keyOf (d e)) (key-below (d e)) (w .key l)
+  walk-used e f w l = key-tells d (f - 1) (keyOf (d e)) (key-below (d e)) (w .key l)
 
-  pub walk-more : (e f : ℕ) (links : Bytes) → Links d (e + 1) links → Walk e f → 0 < f → sameFile (d e) (d (f - 1)) ≡ false → Walk e (getD links (f - 1) 0)
+  pub walk-more : (e f : ℕ) (links : Bytes) → Links d (e + 1) links → Walk e f → 0 < f → sameFile G (d e) (d (f - 1)) ≡ false → Walk e (getD links (f - 1) 0)
   walk-more e f links s w l n =
       let high = w .high in
       let u : used (d (f - 1)) ≡ true = walk-used e f w l in
-      let same : keyOf (d (f - 1)) ≡ keyOf (d e) = sym (key-used (f - 1) u) ∙ w .key l in
+      let same : keyOf (d (f - 1)) ≡ keyOf (d e) = sym (key-used d (f - 1) u) ∙ w .key l in
       walk-to e (f - 1) (getD links (f - 1) 0) (omega arith)
       (s .link (f - 1) (omega arith) u ∙ ap (λ (k : ℕ). lastBelow (hasKey d k) (f - 1)) same)
-      (λ g a r. split (lt-or-le g f) (λ z. let q : f - 1 ≡ g = omega arith in ap (λ (k : ℕ). sameFile (d e) (d k)) (sym q) ∙ n) (λ z. w .passed g z r))
+      (λ g a r. split (lt-or-le g f) (λ z. let q : f - 1 ≡ g = omega arith in ap (λ (k : ℕ). sameFile G (d e) (d k)) (sym q) ∙ n) (λ z. w .passed g z r))
 
   -- each step goes further back
   pub walk-less : (e f : ℕ) (links : Bytes) → Links d (e + 1) links → Walk e f → 0 < f → getD links (f - 1) 0 < f
@@ -152,10 +153,10 @@ module _ (d : Rows) where
       rw (s .link (f - 1) (omega arith) (walk-used e f w l)) (last-high (hasKey d (keyOf (d (f - 1)))) (f - 1)) in
       omega arith
 
-  pub walk-hit : (e f : ℕ) → Walk e f → 0 < f → sameFile (d e) (d (f - 1)) ≡ true → alone d e ≡ false
+  pub walk-hit : (e f : ℕ) → Walk e f → 0 < f → sameFile G (d e) (d (f - 1)) ≡ true → alone G d e ≡ false
   unfolding alone
-  walk-hit e f w l t = let high = w .high in ap not (any-at (λ (g : ℕ). sameFile (d e) (d g)) e (f - 1) (omega arith) t)
+  walk-hit e f w l t = let high = w .high in ap not (any-at (λ (g : ℕ). sameFile G (d e) (d g)) e (f - 1) (omega arith) t)
 
-  pub walk-end : (e f : ℕ) → Walk e f → f ≡ 0 → alone d e ≡ true
+  pub walk-end : (e f : ℕ) → Walk e f → f ≡ 0 → alone G d e ≡ true
   unfolding alone
-  walk-end e f w z = ap not (any-empty (λ (g : ℕ). sameFile (d e) (d g)) e (λ g r. w .passed g (omega arith) r))
+  walk-end e f w z = ap not (any-empty (λ (g : ℕ). sameFile G (d e) (d g)) e (λ g r. w .passed g (omega arith) r))

@@ -27,7 +27,7 @@ rowRight r = used r and nameRight false r 1 and numbersRight r
 -- entry e passes: it is right, its blocks do not stand before, and it is alone
 unfoldable pub entryFits : Geometry → Rows → ℕ → Bool
 entryFits G d e =
-    entryRight G (d e) and allBelow (λ (j : ℕ). listedOnce d (slotCount * e + j)) slotCount and alone d e
+    entryRight G (d e) and allBelow (λ (j : ℕ). listedOnce d (slotCount * e + j)) slotCount and alone G d e
 
 -- 1 at the used entries below n, 0 at the others
 pub record Users (G : Geometry) (d : Rows) (n : ℕ) (users : Bytes) : Type 0 where
@@ -96,7 +96,7 @@ module _ (G : Geometry) (d : Rows) (e : ℕ) where
       let u : used (d e) ≡ false = empty-unused (d e) h in
       and-both _ _ (empty-right G (d e) h)
       (and-both _ _ (all-intro _ slotCount (unused-once u))
-      (alone-intro d e (λ f l t. not-both (used (d e)) (same-used-left (d e) (d f) t) u)))
+      (alone-intro G d e (λ f l t. not-both (used (d e)) (same-used-left G (d e) (d f) t) u)))
 
   -- of an entry that is not empty the rest of the rule decides
   full-right : empty (d e) ≡ false → entryRight G (d e) ≡ (rowRight (d e) and slotsRight G (d e))
@@ -126,7 +126,7 @@ module _ (G : Geometry) (d : Rows) (e : ℕ) where
         sym (refute _ (λ t. not-both _
         (free ∙ and-both _ _ (and-right _ _ (sym (full-right full) ∙ and-left _ _ t)) (and-left _ _ (and-right _ _ t))) f))
 
-    pub alone-decides : slotsFree l (d e) ≡ true → entryFits G d e ≡ alone d e
+    pub alone-decides : slotsFree l (d e) ≡ true → entryFits G d e ≡ alone G d e
     unfolding entryFits
     alone-decides f =
         let both = sym free ∙ f in

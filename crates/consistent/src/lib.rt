@@ -108,7 +108,7 @@ fn key(r: &[u8]) -> usize
 // Whether two used rows are of one file.
 fn same_file(r: &[u8], t: &[u8]) -> bool
     requires { ⌜ (entryBytes ≤ length (now r)) × (entryBytes ≤ length (now t)) × (used (now r) ≡ true) × (used (now t) ≡ true) ⌝ }
-    ensures { λ b. ⌜ b ≡ sameFile (now (r .entry)) (now (t .entry)) ⌝ }
+    ensures { λ b. ⌜ b ≡ sameFile eightInch (now (r .entry)) (now (t .entry)) ⌝ }
 {
     rows::is_file(t[0], t, 1, rows::extent(t), r)
 }
@@ -117,7 +117,7 @@ fn same_file(r: &[u8], t: &[u8]) -> bool
 fn is_alone(image: &[u8], e: usize, links: &[u8]) -> bool
     requires { ⌜ (length (now image) ≡ imageBytes eightInch) × (e < eightInch .entries) × (length (now links) ≡ eightInch .entries)
         × (used (entryAt eightInch (now image) e) ≡ true) × Links (entryAt eightInch (now image)) (e + 1) (now links) ⌝ }
-    ensures { λ b. ⌜ b ≡ alone (entryAt eightInch (now (image .entry))) e ⌝ }
+    ensures { λ b. ⌜ b ≡ alone eightInch (entryAt eightInch (now (image .entry))) e ⌝ }
 {
     let r = rows::row(image, e);
     let mut f = lists::wide(links[e]);
@@ -135,7 +135,7 @@ fn take_key(image: &[u8], e: usize, r: &[u8], lasts: &mut [u8], links: &mut [u8]
     requires { ⌜ (length (now image) ≡ imageBytes eightInch) × (e < eightInch .entries) × (length (now links) ≡ eightInch .entries)
         × (entryBytes ≤ length (now r)) × (now r ≡ entryAt eightInch (now image) e) × (used (now r) ≡ true)
         × Lasts (entryAt eightInch (now image)) e (now lasts) × Links (entryAt eightInch (now image)) e (now links) ⌝ }
-    ensures { λ b. ⌜ (b ≡ alone (entryAt eightInch (now (image .entry))) e)
+    ensures { λ b. ⌜ (b ≡ alone eightInch (entryAt eightInch (now (image .entry))) e)
         × Lasts (entryAt eightInch (now (image .entry))) (e + 1) (now (lasts .exit))
         × Links (entryAt eightInch (now (image .entry))) (e + 1) (now (links .exit)) ⌝ }
 {

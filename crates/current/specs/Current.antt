@@ -114,7 +114,7 @@ module _ (G : Geometry) (d : Rows) (map : Bytes) (user : ℕ) (fcb : Bytes) wher
       (λ f. absurd (at-not-nothing e (sym q ∙ current-wrong f)))
 
   -- the entry of a current FCB is the first of its file
-  pub current-file : (e : ℕ) → Current G d map user fcb e → FirstAt (fileTest d user fcb 1 (extentOf fcb)) 0 (G .entries) e
+  pub current-file : (e : ℕ) → Current G d map user fcb e → FirstAt (fileTest G d user fcb 1 (extentOf fcb)) 0 (G .entries) e
   current-file e c = file-says G d user fcb 1 (extentOf fcb) e (c .found)
 
   pub current-low : (e : ℕ) → Current G d map user fcb e → e < G .entries

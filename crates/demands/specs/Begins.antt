@@ -223,11 +223,11 @@ module _ {G : Geometry} (S : Sound G) (some : 0 < G .entries) (size : ℕ) (is :
       void : (e : ℕ) → e < G .entries → empty (entryAt G (d .image) e) ≡ true
       void e h = ap (λ (i : Bytes). empty (entryAt G i e)) image ∙ erased-empty S size is e h
 
-      none : (e : ℕ) → e < G .entries → isFile (d .session .user) (q .fcb) 1 (exOf (q .fcb)) (entryAt G (d .image) e) ≡ false
+      none : (e : ℕ) → e < G .entries → isFile G (d .session .user) (q .fcb) 1 (exOf (q .fcb)) (entryAt G (d .image) e) ≡ false
       none e h =
-          split (bool-cases (isFile (d .session .user) (q .fcb) 1 (exOf (q .fcb)) (entryAt G (d .image) e)))
+          split (bool-cases (isFile G (d .session .user) (q .fcb) 1 (exOf (q .fcb)) (entryAt G (d .image) e)))
           (λ t. not-both (empty (entryAt G (d .image) e)) (void e h)
-          (used-full (entryAt G (d .image) e) (file-used (d .session .user) (q .fcb) 1 (exOf (q .fcb)) (entryAt G (d .image) e) t (range .user))))
+          (used-full (entryAt G (d .image) e) (file-used G (d .session .user) (q .fcb) 1 (exOf (q .fcb)) (entryAt G (d .image) e) t (range .user))))
           (λ f. f)
 
   -- log in, make a file, write its first record

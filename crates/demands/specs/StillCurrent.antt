@@ -55,8 +55,8 @@ module _ {G : Geometry} (S : Sound G) (argument : ℕ) (l : Lent) (s : Session) 
       record {
         entry = e;
         cur = entered-cur G (viewOf G (l .image) (l .map)) (s .user) (l .fcb) (rowsOf G l e) e (k .below) refl
-            (file-user (s .user) (l .fcb) 1 (exOf (l .fcb)) (rowsOf G l e) (k .holds)) (f .fcb-long)
-            (g .inv .dir .fine e (k .below) (file-used (s .user) (l .fcb) 1 (exOf (l .fcb)) (rowsOf G l e) (k .holds) (f .user-low))) cr;
+            (file-user G (s .user) (l .fcb) 1 (exOf (l .fcb)) (rowsOf G l e) (k .holds)) (f .fcb-long)
+            (g .inv .dir .fine e (k .below) (file-used G (s .user) (l .fcb) 1 (exOf (l .fcb)) (rowsOf G l e) (k .holds) (f .user-low))) cr;
       }
 
   -- 16

@@ -66,7 +66,7 @@ module _ {G : Geometry} (S : Sound G) (n : ℕ) (l : Lent) (s : Session) (g : Go
   present-cur = current-cur G (l .image) (l .map) (s .user) (l .fcb) e (f .map-long) at
 
   pub present-named : byName (s .user) (l .fcb) (rowsOf G l e) ≡ true
-  present-named = file-named (s .user) (l .fcb) 1 (extentOf (l .fcb)) (rowsOf G l e) (present-cur .file)
+  present-named = file-named G (s .user) (l .fcb) 1 (extentOf (l .fcb)) (rowsOf G l e) (present-cur .file)
 
   pub present-before : entryBefore G n (s .user) l ≡ e
   unfolding entryBefore presentEntry
@@ -119,7 +119,7 @@ module _ {G : Geometry} (S : Sound G) (n : ℕ) (l : Lent) (s : Session) (g : Go
       ∙ sym (like-at (l .fcb) 1 row 1 (named-like false (s .user) (l .fcb) 1 row nm) i h)
 
   module _ (go : stays n (l .fcb) ≡ false) (t : ℕ) (target : targetEntry G n (s .user) l ≡ At t) where
-    file : isFile (s .user) (l .fcb) 1 (targetExtent n (l .fcb)) (rowsOf G l t) ≡ true
+    file : isFile G (s .user) (l .fcb) 1 (targetExtent n (l .fcb)) (rowsOf G l t) ≡ true
     file = target-file S n l s g f e at t target
 
     below : t < G .entries
@@ -132,8 +132,8 @@ module _ {G : Geometry} (S : Sound G) (n : ℕ) (l : Lent) (s : Session) (g : Go
     other : t ≡ e → ⊥
     other q =
         moves-extent n (l .fcb) go
-        (sym (file-extent (s .user) (l .fcb) 1 (targetExtent n (l .fcb)) (rowsOf G l t) file)
-        ∙ ap (λ (x : ℕ). extentOf (rowsOf G l x)) q ∙ file-extent (s .user) (l .fcb) 1 (extentOf (l .fcb)) (rowsOf G l e) (present-cur .file))
+        (sym (file-extent G (s .user) (l .fcb) 1 (targetExtent n (l .fcb)) (rowsOf G l t) file)
+        ∙ ap (λ (x : ℕ). extentOf (rowsOf G l x)) q ∙ file-extent G (s .user) (l .fcb) 1 (extentOf (l .fcb)) (rowsOf G l e) (present-cur .file))
 
     target-stays : entryAt G (closedImage G (l .image) e (l .fcb)) t ≡ rowsOf G l t
     target-stays = closed-there S (l .image) (l .map) g (s .user) (f .user-low) (l .fcb) e present-cur t below other
@@ -144,21 +144,21 @@ module _ {G : Geometry} (S : Sound G) (n : ℕ) (l : Lent) (s : Session) (g : Go
     move-theirs : (blockThere G n (s .user) l ≡ 0 → ⊥) → Theirs G (l .image) (l .map) (byName (s .user) (l .fcb)) (blockThere G n (s .user) l)
     move-theirs z =
         was-theirs t (listed (targetSlot G n (l .fcb)) record { entry = below; place = place; uses = uses; is = move-slot; real = z })
-        (file-named (s .user) (l .fcb) 1 (targetExtent n (l .fcb)) (rowsOf G l t) file)
+        (file-named G (s .user) (l .fcb) 1 (targetExtent n (l .fcb)) (rowsOf G l t) file)
 
     pub move-came : CameTo G n (s .user) l (moved G n l e t) t W (settledBy (rowsOf G l e) (l .fcb))
     unfolding moved
     move-came =
         let hf : 32 ≤ length (l .fcb) = (let q : length (l .fcb) ≡ 36 = f .fcb-long in omega arith) in
         let row : Bytes = rowsOf G l t in
-        let nm = file-named (s .user) (l .fcb) 1 (targetExtent n (l .fcb)) row file in
+        let nm = file-named G (s .user) (l .fcb) 1 (targetExtent n (l .fcb)) row file in
         record {
           change = closed-by;
           cur = entered-cur G (viewOf G (closedImage G (l .image) e (l .fcb)) (closedMap (rowsOf G l e) (l .fcb) (l .map))) (s .user) (l .fcb) row t below target-stays
-              (file-user (s .user) (l .fcb) 1 (targetExtent n (l .fcb)) row file) (f .fcb-long) (g .inv .dir .fine t below uses)
+              (file-user G (s .user) (l .fcb) 1 (targetExtent n (l .fcb)) row file) (f .fcb-long) (g .inv .dir .fine t below uses)
               (fcb-says (l .fcb) (present-cur .right) .cr);
           mine = ap (byName (s .user) (l .fcb)) target-stays ∙ nm;
-          extent = extent-entered (l .fcb) row hf ∙ file-extent (s .user) (l .fcb) 1 (targetExtent n (l .fcb)) row file;
+          extent = extent-entered (l .fcb) row hf ∙ file-extent G (s .user) (l .fcb) 1 (targetExtent n (l .fcb)) row file;
           long = length-entered (l .fcb) row hf ∙ f .fcb-long;
           first = first-entered (l .fcb) row hf;
           name = entered-name row nm;
@@ -190,7 +190,7 @@ module _ {G : Geometry} (S : Sound G) (n : ℕ) (l : Lent) (s : Session) (g : Go
     -- the new row is of the user's file
     next-user : userOf (nextMade G n l e) ≡ s .user
     unfolding nextMade
-    next-user = user-next (rowsOf G l e) (targetExtent n (l .fcb)) long ∙ file-user (s .user) (l .fcb) 1 (extentOf (l .fcb)) (rowsOf G l e) (present-cur .file)
+    next-user = user-next (rowsOf G l e) (targetExtent n (l .fcb)) long ∙ file-user G (s .user) (l .fcb) 1 (extentOf (l .fcb)) (rowsOf G l e) (present-cur .file)
 
     next-extent : extentOf (nextMade G n l e) ≡ targetExtent n (l .fcb)
     unfolding nextMade
@@ -198,7 +198,7 @@ module _ {G : Geometry} (S : Sound G) (n : ℕ) (l : Lent) (s : Session) (g : Go
 
     next-named : byName (s .user) (l .fcb) (nextMade G n l e) ≡ true
     unfolding nextMade
-    next-named = file-named (s .user) (l .fcb) 1 (targetExtent n (l .fcb)) (nextMade G n l e) (next-file S n l s g f e at t room none low)
+    next-named = file-named G (s .user) (l .fcb) 1 (targetExtent n (l .fcb)) (nextMade G n l e) (next-file S n l s g f e at t room none low)
 
     next-fine : Fine G (nextMade G n l e)
     unfolding nextMade

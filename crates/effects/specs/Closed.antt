@@ -38,8 +38,8 @@ module _ {G : Geometry} (S : Sound G) (img map : Bytes) (g : Good G img map) (us
   long : length (entryAt G img e) ≡ entryBytes
   long = length-entryAt S img (g .image-long) e (c .low)
 
-  whole : length (closedRow (entryAt G img e) fcb) ≡ entryBytes
-  whole = length-closedRow (entryAt G img e) fcb long
+  whole : length (closedRow G (entryAt G img e) fcb) ≡ entryBytes
+  whole = length-closedRow G (entryAt G img e) fcb long
 
   pub closed-there : (k : ℕ) → k < G .entries → (k ≡ e → ⊥) → entryAt G (closedImage G img e fcb) k ≡ entryAt G img k
   closed-there k l n = row-closedImage-other S img (g .image-long) e (c .low) fcb k l (λ z. n (sym z))
@@ -68,7 +68,7 @@ module _ {G : Geometry} (S : Sound G) (img map : Bytes) (g : Good G img map) (us
         effect = one-effect G s t (byName user fcb) (g .inv) closed-recs e closed-there (by-name-used G img map user fcb hu) nm;
         keeps = keeps-by G s t (byName user fcb)
             (λ b l. split (closed-notes b l) (λ q. inl q) (λ t. inr (held-named s (byName user fcb) b e (t .slot) (t .below) nm (taken-noted b t))));
-        frame = λ i. split (entry-or-same S img (g .image-long) e (c .low) (closedRow (entryAt G img e) fcb) whole i) (λ q. inl q) (λ p. inr (in-entry e p nm));
+        frame = λ i. split (entry-or-same S img (g .image-long) e (c .low) (closedRow G (entryAt G img e) fcb) whole i) (λ q. inl q) (λ p. inr (in-entry e p nm));
         good = good-closed S img map g user hu fcb e (cur-facts G img map user fcb e (g .inv .dir) hu c);
         book = λ u tr. closed-tracks G u (entryAt G img e) fcb map (g .map-long) tr;
       }

@@ -26,7 +26,7 @@ use Rattle.fields.specs.Naming.{file-named, file-used, file-found}
 pub record Cur (G : Geometry) (s : View) (user : ℕ) (f : Bytes) (e : ℕ) : Type 0 where
   pub right : fcbRight f ≡ true
   pub low : e < G .entries
-  pub file : isFile user f 1 (extentOf f) (s .rows e) ≡ true
+  pub file : isFile G user f 1 (extentOf f) (s .rows e) ≡ true
   pub fits : (j : ℕ) → j < slotCount → (slotOf f j ≡ slotOf (s .rows e) j) ⊎ Held G (s .rows) (s .notes) e j (slotOf f j)
 
 -- ---- the test and the facts, both ways
@@ -67,10 +67,10 @@ module _ (G : Geometry) (img map : Bytes) (user : ℕ) (f : Bytes) (e : ℕ) whe
 -- ---- what a current FCB has
 module _ (G : Geometry) (s : View) (user : ℕ) (hu : user ≤ 15) (f : Bytes) (e : ℕ) (c : Cur G s user f e) where
   pub cur-uses : used (s .rows e) ≡ true
-  cur-uses = file-used user f 1 (extentOf f) (s .rows e) (c .file) hu
+  cur-uses = file-used G user f 1 (extentOf f) (s .rows e) (c .file) hu
 
   pub cur-named : named false user f 1 (s .rows e) ≡ true
-  cur-named = file-named user f 1 (extentOf f) (s .rows e) (c .file)
+  cur-named = file-named G user f 1 (extentOf f) (s .rows e) (c .file)
 
   -- its blocks are its entry's
   pub cur-mine : (j : ℕ) → j < slotCount → (slotOf f j ≡ 0 → ⊥) → Mine G s (slotOf f j) e
@@ -110,7 +110,7 @@ module _ {G : Geometry} (S : Sound G) (s t : View) (N : Names) (user : ℕ) (hu 
         record {
           right = c .right;
           low = c .low;
-          file = ap (isFile user f 1 (extentOf f)) row ∙ c .file;
+          file = ap (isFile G user f 1 (extentOf f)) row ∙ c .file;
           fits = λ j l. split (c .fits j l) (λ q. inl (q ∙ sym (ap (λ (r : Bytes). slotOf r j) row)))
               (λ g. inr record {
                 was = ap (λ (r : Bytes). slotOf r j) row ∙ g .was;

@@ -50,8 +50,8 @@ module _ (G : Geometry) (s : View) (user : ℕ) (f row : Bytes) (t : ℕ) (low :
   took-cur mine right name extent slots = record {
     right = right;
     low = low;
-    file = ap (isFile user f 1 (extentOf f)) is
-        ∙ file-intro user f 1 (extentOf f) row (named-intro false user f 1 row mine (like-intro f 1 row 1 name)) (sym extent);
+    file = ap (isFile G user f 1 (extentOf f)) is
+        ∙ file-intro G user f 1 (extentOf f) row (named-intro false user f 1 row mine (like-intro f 1 row 1 name)) (sym extent);
     fits = λ j l. inl (slots j l ∙ ap (λ (r : Bytes). slotOf r j) (sym is));
   }
 
@@ -89,7 +89,7 @@ module _ (G : Geometry) (s : View) (user : ℕ) (f g : Bytes) (e : ℕ) where
   like-cur right name extent slots c = record {
     right = right;
     low = c .low;
-    file = isFile-asked g 1 f 1 name user (extentOf g) (s .rows e) ∙ ap (λ (x : ℕ). isFile user f 1 x (s .rows e)) extent ∙ c .file;
+    file = isFile-asked g 1 f 1 name G user (extentOf g) (s .rows e) ∙ ap (λ (x : ℕ). isFile G user f 1 x (s .rows e)) extent ∙ c .file;
     fits = λ j l. split (c .fits j l) (λ q. inl (slots j l ∙ q)) (λ h. inr (subst (Held G (s .rows) (s .notes) e j) (sym (slots j l)) h));
   }
 
@@ -103,21 +103,21 @@ set-cur G s user f cr e hf h c =
 
 -- a right FCB stays so when a record is written through it
 pub right-written : (G : Geometry) (f row : Bytes) (j b r cr : ℕ) → length f ≡ fcbBytes → j < slotCount → rcOf row ≤ 128 → r < extentRecords → cr ≤ 128
-    → fcbRight f ≡ true → fcbRight (writtenFcb f row j b r cr) ≡ true
+    → fcbRight f ≡ true → fcbRight (writtenFcb G f row j b r cr) ≡ true
 unfolding countIn
 right-written G f row j b r cr hf hj rc hr hc h =
-    right-like f (writtenFcb f row j b r cr) (name-written f row j b r cr) (λ i p q. head-written f row j b r cr i (omega arith) q)
-    (rw (rc-written f row j b r cr hf hj) (count-written-high f row r 128 (fcb-says f h .numbers .rc) rc hr))
-    (rw (cr-written f row j b r cr hf hj) hc) h
+    right-like f (writtenFcb G f row j b r cr) (name-written G f row j b r cr) (λ i p q. head-written G f row j b r cr i (omega arith) q)
+    (rw (rc-written G f row j b r cr hf hj) (count-written-high G f row r 128 (fcb-says f h .numbers .rc) rc hr))
+    (rw (cr-written G f row j b r cr hf hj) hc) h
 
 -- one that was closed: its entry has all its blocks now
 module _ {G : Geometry} (S : Sound G) (img map : Bytes) (g : Good G img map) (user : ℕ) (hu : user ≤ 15) (fcb : Bytes) (hf : length fcb ≡ fcbBytes) (e : ℕ)
     (c : Cur G (viewOf G img map) user fcb e) where
-  slots-closed : (j : ℕ) → j < slotCount → slotOf fcb j ≡ slotOf (closedRow (entryAt G img e) fcb) j
+  slots-closed : (j : ℕ) → j < slotCount → slotOf fcb j ≡ slotOf (closedRow G (entryAt G img e) fcb) j
   slots-closed j l =
       let long = length-entryAt S img (g .image-long) e (c .low) in
-      split (eq-or-ne (slotOf (entryAt G img e) j) 0) (λ z. sym (slot-closed-new (entryAt G img e) fcb long j l z))
-      (λ z. split (c .fits j l) (λ q. q ∙ sym (slot-closed-old (entryAt G img e) fcb long j l z)) (λ h. absurd (z (h .was))))
+      split (eq-or-ne (slotOf (entryAt G img e) j) 0) (λ z. sym (slot-closed-new G (entryAt G img e) fcb long j l z))
+      (λ z. split (c .fits j l) (λ q. q ∙ sym (slot-closed-old G (entryAt G img e) fcb long j l z)) (λ h. absurd (z (h .was))))
 
   pub closed-cur : Cur G (viewOf G (closedImage G img e fcb) (closedMap (entryAt G img e) fcb map)) user (closedFcb fcb) e
   closed-cur =
@@ -127,9 +127,9 @@ module _ {G : Geometry} (S : Sound G) (img map : Bytes) (g : Good G img map) (us
       record {
         right = fcbRight-closedFcb fcb hf′ ∙ c .right;
         low = c .low;
-        file = ap (isFile user (closedFcb fcb) 1 (extentOf (closedFcb fcb))) here
-            ∙ isFile-cong user (closedFcb fcb) 1 (extentOf (closedFcb fcb)) (closedRow (entryAt G img e) fcb) (entryAt G img e) (file-closed (entryAt G img e) fcb long)
-            ∙ isFile-asked (closedFcb fcb) 1 fcb 1 (name-closedFcb fcb hf′) user (extentOf (closedFcb fcb)) (entryAt G img e)
-            ∙ ap (λ (x : ℕ). isFile user fcb 1 x (entryAt G img e)) (extent-closedFcb fcb hf′) ∙ c .file;
+        file = ap (isFile G user (closedFcb fcb) 1 (extentOf (closedFcb fcb))) here
+            ∙ isFile-cong G user (closedFcb fcb) 1 (extentOf (closedFcb fcb)) (closedRow G (entryAt G img e) fcb) (entryAt G img e) (file-closed G (entryAt G img e) fcb long)
+            ∙ isFile-asked (closedFcb fcb) 1 fcb 1 (name-closedFcb fcb hf′) G user (extentOf (closedFcb fcb)) (entryAt G img e)
+            ∙ ap (λ (x : ℕ). isFile G user fcb 1 x (entryAt G img e)) (extent-closedFcb fcb hf′) ∙ c .file;
         fits = λ j l. inl (slot-closedFcb fcb hf′ j l ∙ slots-closed j l ∙ sym (ap (λ (r : Bytes). slotOf r j) here));
       }

@@ -115,13 +115,13 @@ module _ {G : Geometry} (S : Sound G) (img map : Bytes) (g : Good G img map) (us
         }
 
   -- ---- the FCB afterwards, with cr as it is given
-  module _ (cr : ℕ) (right : fcbRight (writtenFcb f (entryAt G img t) j b r cr) ≡ true) where
+  module _ (cr : ℕ) (right : fcbRight (writtenFcb G f (entryAt G img t) j b r cr) ≡ true) where
     Fits : ℕ → Type 0
-    Fits i = (slotOf (writtenFcb f (entryAt G img t) j b r cr) i ≡ slotOf (entryAt G (withRecord G img (placeIn G b r) buf) t) i)
-        ⊎ Held G (entryAt G (withRecord G img (placeIn G b r) buf)) (noteAt (writtenMap map f t j b)) t i (slotOf (writtenFcb f (entryAt G img t) j b r cr) i)
+    Fits i = (slotOf (writtenFcb G f (entryAt G img t) j b r cr) i ≡ slotOf (entryAt G (withRecord G img (placeIn G b r) buf) t) i)
+        ⊎ Held G (entryAt G (withRecord G img (placeIn G b r) buf)) (noteAt (writtenMap map f t j b)) t i (slotOf (writtenFcb G f (entryAt G img t) j b r cr) i)
 
     -- a slot that stays, with notes that stay where they are pending
-    stays-fit : (i : ℕ) → i < slotCount → slotOf (writtenFcb f (entryAt G img t) j b r cr) i ≡ slotOf f i → Fits i
+    stays-fit : (i : ℕ) → i < slotCount → slotOf (writtenFcb G f (entryAt G img t) j b r cr) i ≡ slotOf f i → Fits i
     unfolding Fits
     stays-fit i l q =
         let row = put-rows t (c .low) in
@@ -142,7 +142,7 @@ module _ {G : Geometry} (S : Sound G) (img map : Bytes) (g : Good G img map) (us
     here-fits : Fits j
     unfolding Fits
     here-fits =
-        let w = slot-written f (entryAt G img t) j b r cr hf put-slot in
+        let w = slot-written G f (entryAt G img t) j b r cr hf put-slot in
         split (eq-or-ne (slotOf f j) 0)
         (λ z. inr (subst (Held G (entryAt G (withRecord G img (placeIn G b r) buf)) (noteAt (writtenMap map f t j b)) t j) (sym w) record {
           was = ap (λ (x : Bytes). slotOf x j) (put-rows t (c .low)) ∙ cur-zero G (viewOf G img map) user hu f t c j put-slot z;
@@ -151,30 +151,30 @@ module _ {G : Geometry} (S : Sound G) (img map : Bytes) (g : Good G img map) (us
         }))
         (λ z. stays-fit j put-slot (w ∙ sym (k .own z)))
 
-    pub put-cur : Cur G (viewOf G (withRecord G img (placeIn G b r) buf) (writtenMap map f t j b)) user (writtenFcb f (entryAt G img t) j b r cr) t
+    pub put-cur : Cur G (viewOf G (withRecord G img (placeIn G b r) buf) (writtenMap map f t j b)) user (writtenFcb G f (entryAt G img t) j b r cr) t
     unfolding Fits
     put-cur =
-        let w : Bytes = writtenFcb f (entryAt G img t) j b r cr in
+        let w : Bytes = writtenFcb G f (entryAt G img t) j b r cr in
         record {
           right = right;
           low = c .low;
-          file = ap (isFile user w 1 (extentOf w)) (put-rows t (c .low))
-              ∙ isFile-asked w 1 f 1 (name-written f (entryAt G img t) j b r cr) user (extentOf w) (entryAt G img t)
-              ∙ ap (λ (x : ℕ). isFile user f 1 x (entryAt G img t)) (extent-written f (entryAt G img t) j b r cr) ∙ c .file;
+          file = ap (isFile G user w 1 (extentOf w)) (put-rows t (c .low))
+              ∙ isFile-asked w 1 f 1 (name-written G f (entryAt G img t) j b r cr) G user (extentOf w) (entryAt G img t)
+              ∙ ap (λ (x : ℕ). isFile G user f 1 x (entryAt G img t)) (extent-written G f (entryAt G img t) j b r cr) ∙ c .file;
           fits = λ i l. split (eq-or-ne i j) (λ q. subst Fits (sym q) here-fits)
-              (λ q. stays-fit i l (slot-written-other f (entryAt G img t) j b r cr i l q));
+              (λ q. stays-fit i l (slot-written-other G f (entryAt G img t) j b r cr i l q));
         }
 
-    pub put-holds : Holds G (viewOf G (withRecord G img (placeIn G b r) buf) (writtenMap map f t j b)) user (writtenFcb f (entryAt G img t) j b r cr) t r buf
+    pub put-holds : Holds G (viewOf G (withRecord G img (placeIn G b r) buf) (writtenMap map f t j b)) user (writtenFcb G f (entryAt G img t) j b r cr) t r buf
     put-holds =
-        let w : Bytes = writtenFcb f (entryAt G img t) j b r cr in
-        let i : slotFor G (extentOf w) r ≡ j = ap (λ (x : ℕ). slotFor G x r) (extent-written f (entryAt G img t) j b r cr) ∙ sym hj in
-        let q : recSlot G w r ≡ b = ap (slotOf w) i ∙ slot-written f (entryAt G img t) j b r cr hf put-slot in
+        let w : Bytes = writtenFcb G f (entryAt G img t) j b r cr in
+        let i : slotFor G (extentOf w) r ≡ j = ap (λ (x : ℕ). slotFor G x r) (extent-written G f (entryAt G img t) j b r cr) ∙ sym hj in
+        let q : recSlot G w r ≡ b = ap (slotOf w) i ∙ slot-written G f (entryAt G img t) j b r cr hf put-slot in
         record {
           cur = put-cur;
           inside = hr;
           real = λ z. omega (arith, put-low, S .area-some);
-          counted = rw (rc-written f (entryAt G img t) j b r cr hf put-slot) (count-written-target f (entryAt G img t) r);
+          counted = rw (rc-written G f (entryAt G img t) j b r cr hf put-slot) (count-written-target G f (entryAt G img t) r);
           dat = ap (λ (x : ℕ). recordAt G (withRecord G img (placeIn G b r) buf) (placeIn G x r)) q
               ∙ record-written S img (g .image-long) (placeIn G b r) place buf hb;
         }

@@ -115,7 +115,7 @@ module _ {G : Geometry} (S : Sound G) (n : ℕ) (l : Lent) (s : Session) (g : Go
     full : length (there .buffer) ≡ recordBytes
     full = ap length (came .buffer) ∙ f .buffer-long
 
-    right : fcbRight (writtenFcb (there .fcb) (entryAt G (there .image) t) j b r (crAfter n (l .fcb))) ≡ true
+    right : fcbRight (writtenFcb G (there .fcb) (entryAt G (there .image) t) j b r (crAfter n (l .fcb))) ≡ true
     right =
         right-written G (there .fcb) (entryAt G (there .image) t) j b r (crAfter n (l .fcb)) (came .long) j-below
         (here-good .inv .dir .fine t (came .cur .low) (cur-uses G (viewOf G (there .image) (there .map)) (s .user) (f .user-low) (there .fcb) t (came .cur)) .numbers .rc)
@@ -136,21 +136,21 @@ module _ {G : Geometry} (S : Sound G) (n : ℕ) (l : Lent) (s : Session) (g : Go
         (there .buffer) full (byName (s .user) (l .fcb)) (came .mine))
 
     held : Holds G (viewOf G (withRecord G (there .image) (placeIn G b r) (there .buffer)) (writtenMap (there .map) (there .fcb) t j b)) (s .user)
-        (writtenFcb (there .fcb) (entryAt G (there .image) t) j b r (crAfter n (l .fcb))) t r (there .buffer)
+        (writtenFcb G (there .fcb) (entryAt G (there .image) t) j b r (crAfter n (l .fcb))) t r (there .buffer)
     held =
         put-holds S (there .image) (there .map) here-good (s .user) (f .user-low) (there .fcb) (came .long) t (came .cur) r r-below j slot-is b for-slot
         (there .buffer) full (crAfter n (l .fcb)) right
 
-    new-slot : slotOf (writtenFcb (there .fcb) (entryAt G (there .image) t) j b r (crAfter n (l .fcb))) j ≡ b
-    new-slot = slot-written (there .fcb) (entryAt G (there .image) t) j b r (crAfter n (l .fcb)) (came .long) j-below
+    new-slot : slotOf (writtenFcb G (there .fcb) (entryAt G (there .image) t) j b r (crAfter n (l .fcb))) j ≡ b
+    new-slot = slot-written G (there .fcb) (entryAt G (there .image) t) j b r (crAfter n (l .fcb)) (came .long) j-below
 
     after : entryAfter G n (s .user) l left ≡ t
     unfolding entryAfter left haveWritten j r
     after =
         ap (numberOf (G .entries))
         (file-found G (entryAt G (withRecord G (there .image) (placeIn G b r) (there .buffer))) (whole .good .inv .dir) (s .user) (f .user-low)
-        (writtenFcb (there .fcb) (entryAt G (there .image) t) j b r (crAfter n (l .fcb))) 1
-        (extentOf (writtenFcb (there .fcb) (entryAt G (there .image) t) j b r (crAfter n (l .fcb)))) t (came .cur .low) (held .cur .file))
+        (writtenFcb G (there .fcb) (entryAt G (there .image) t) j b r (crAfter n (l .fcb))) 1
+        (extentOf (writtenFcb G (there .fcb) (entryAt G (there .image) t) j b r (crAfter n (l .fcb)))) t (came .cur .low) (held .cur .file))
 
     left-slot : slotOf (left .fcb) (targetSlot G n (l .fcb)) ≡ b
     unfolding left haveWritten j r
@@ -168,10 +168,10 @@ module _ {G : Geometry} (S : Sound G) (n : ℕ) (l : Lent) (s : Session) (g : Go
           (λ d w. subst (λ (x : ℕ). OneRecord G (l .image) (l .map) (byName (s .user) (l .fcb)) x (targetRecord n (l .fcb)) d) (sym left-slot) w)
           (λ u x h. ap (λ (v : Book). v x) (same-book u)) whole;
       fcb = record {
-        long = length-writtenFcb (there .fcb) (entryAt G (there .image) t) j b r (crAfter n (l .fcb)) ∙ came .long;
-        first = head-written (there .fcb) (entryAt G (there .image) t) j b r (crAfter n (l .fcb)) 0 (omega arith) (omega arith) ∙ came .first;
-        name = λ i h. name-written (there .fcb) (entryAt G (there .image) t) j b r (crAfter n (l .fcb)) i h ∙ came .name i h;
-        extent = extent-written (there .fcb) (entryAt G (there .image) t) j b r (crAfter n (l .fcb)) ∙ came .extent;
+        long = length-writtenFcb G (there .fcb) (entryAt G (there .image) t) j b r (crAfter n (l .fcb)) ∙ came .long;
+        first = head-written G (there .fcb) (entryAt G (there .image) t) j b r (crAfter n (l .fcb)) 0 (omega arith) (omega arith) ∙ came .first;
+        name = λ i h. name-written G (there .fcb) (entryAt G (there .image) t) j b r (crAfter n (l .fcb)) i h ∙ came .name i h;
+        extent = extent-written G (there .fcb) (entryAt G (there .image) t) j b r (crAfter n (l .fcb)) ∙ came .extent;
       };
       entry = t;
       holds = subst (Holds G (viewOf G (left .image) (left .map)) (s .user) (left .fcb) t (targetRecord n (l .fcb))) (came .buffer) held;

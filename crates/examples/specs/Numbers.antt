@@ -75,7 +75,7 @@ pub record HasEntry (G : Geometry) (l : Lent) (s : Session) (ext count : ℕ) : 
   pub extent : extentOf (rowsOf G l entry) ≡ ext
   pub counted : rcOf (rowsOf G l entry) ≡ count
 
-pub entry-size : (G : Geometry) (l : Lent) (s : Session) (ext count : ℕ) (h : HasEntry G l s ext count) → sizeOf (rowsOf G l (h .entry)) ≡ 128 * ext + count
+pub entry-size : (G : Geometry) (l : Lent) (s : Session) (ext count : ℕ) (h : HasEntry G l s ext count) → sizeOf G (rowsOf G l (h .entry)) ≡ 128 * ext + count
 unfolding sizeOf countIn
 entry-size G l s ext count h = rw (h .extent, h .counted)
 
@@ -87,11 +87,11 @@ some-entry G l s ext count h =
 
 -- no entry of a consistent image is larger than 262,144 records
 entry-high : (G : Geometry) (l : Lent) (s : Session) → consistent G (l .image) ≡ true → s .user ≤ 15
-    → (e : ℕ) → e < G .entries → named false (s .user) (l .fcb) 1 (rowsOf G l e) ≡ true → sizeOf (rowsOf G l e) ≤ 262144
+    → (e : ℕ) → e < G .entries → named false (s .user) (l .fcb) 1 (rowsOf G l e) ≡ true → sizeOf G (rowsOf G l e) ≤ 262144
 unfolding consistent consistentRows named
 entry-high G l s right low e below mine =
     let is : userOf (rowsOf G l e) ≡ s .user = eqb-true _ _ (and-left _ _ mine) in
-    sizeOf-high (rowsOf G l e) (user-numbers G (rowsOf G l e) (all-at _ (G .entries) (and-left _ _ right) e below) (omega arith))
+    sizeOf-high G (rowsOf G l e) (user-numbers G (rowsOf G l e) (all-at _ (G .entries) (and-left _ _ right) e below) (omega arith))
 
 -- extent 2,047 with rc 128
 pub size-largest : (G : Geometry) (argument : ℕ) (l : Lent) (s : Session) → Ready G 35 l s → nameRight false (l .fcb) 1 ≡ true

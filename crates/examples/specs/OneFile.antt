@@ -87,7 +87,7 @@ fcb-name : nameRight false fileFcb 1 ≡ true
 unfolding nameRight nameByte allBelow fileFcb _and_ _or_
 fcb-name = refl
 
-file-size : (r : ℕ) → sizeOf (fileRow r) ≡ r
+file-size : (r : ℕ) → sizeOf eightInch (fileRow r) ≡ r
 unfolding sizeOf extentOf countIn fileRow
 file-size r = omega arith
 
@@ -193,7 +193,7 @@ module _ (img : Bytes) (erased : Erased eightInch img) (r : ℕ) (low : r ≤ 12
   one-size : fileSize eightInch rows (named false 0 fileFcb 1) ≡ r
   one-size =
       let mine : named false 0 fileFcb 1 (rows 0) ≡ true = rw one-row (file-asked r) in
-      let is : sizeOf (rows 0) ≡ r = ap sizeOf one-row ∙ file-size r in
+      let is : sizeOf eightInch (rows 0) ≡ r = ap (sizeOf eightInch) one-row ∙ file-size r in
       let least = size-covers eightInch rows (named false 0 fileFcb 1) 0 (omega arith) mine in
       let most = size-high eightInch rows (named false 0 fileFcb 1) r (λ e h t. let q : e ≡ 0 = only-named e h t in rw q (omega arith)) in
       omega arith

@@ -71,9 +71,9 @@ module _ (r t : Bytes) where
   unfolding readOnly
   readOnly-cong e = rw e
 
-  pub covers-cong : extentOf r ≡ extentOf t → (ext : ℕ) → covers r ext ≡ covers t ext
-  unfolding covers
-  covers-cong e ext = rw e
+pub covers-cong : (G : Geometry) (r t : Bytes) → extentOf r ≡ extentOf t → (ext : ℕ) → covers G r ext ≡ covers G t ext
+unfolding covers
+covers-cong G r t e ext = rw e
 
 -- ---- rows of one user, name and extent: no look-up tells them apart
 pub same-file : (r t : Bytes) → Agree r t 0 15 → SameFile r t
@@ -92,9 +92,9 @@ module _ (wild : Bool) (user : ℕ) (s : Bytes) (q : ℕ) (r t : Bytes) where
   unfolding named
   named-cong e n = rw (e, like-cong-right wild r 1 t 1 n s q)
 
-pub isFile-cong : (user : ℕ) (s : Bytes) (q ext : ℕ) (r t : Bytes) → SameFile r t → isFile user s q ext r ≡ isFile user s q ext t
+pub isFile-cong : (G : Geometry) (user : ℕ) (s : Bytes) (q ext : ℕ) (r t : Bytes) → SameFile r t → isFile G user s q ext r ≡ isFile G user s q ext t
 unfolding isFile
-isFile-cong user s q ext r t k = rw (named-cong false user s q r t (k .user) (same-name r t k), covers-cong r t (k .extent) ext)
+isFile-cong G user s q ext r t k = rw (named-cong false user s q r t (k .user) (same-name r t k), covers-cong G r t (k .extent) ext)
 
 -- ---- names that are asked for: the same name asks for the same rows
 module _ (s : Bytes) (q : ℕ) (r : Bytes) (p : ℕ) (same : SameName s q r p) where
@@ -102,24 +102,24 @@ module _ (s : Bytes) (q : ℕ) (r : Bytes) (p : ℕ) (same : SameName s q r p) w
   unfolding named
   named-asked wild user row = rw (like-cong-left wild s q r p same row 1)
 
-  pub isFile-asked : (user ext : ℕ) (row : Bytes) → isFile user s q ext row ≡ isFile user r p ext row
+  pub isFile-asked : (G : Geometry) (user ext : ℕ) (row : Bytes) → isFile G user s q ext row ≡ isFile G user r p ext row
   unfolding isFile
-  isFile-asked user ext row = rw (named-asked false user row)
+  isFile-asked G user ext row = rw (named-asked false user row)
 
   pub findFile-asked : (G : Geometry) (d : Rows) (user ext : ℕ) → findFile G d user s q ext ≡ findFile G d user r p ext
   unfolding findFile
   findFile-asked G d user ext =
-      ap (foundBelow (G .entries)) (first-cong (λ (e : ℕ). isFile user s q ext (d e)) (λ (e : ℕ). isFile user r p ext (d e)) 0 (G .entries) (λ e a b. isFile-asked user ext (d e)))
+      ap (foundBelow (G .entries)) (first-cong (λ (e : ℕ). isFile G user s q ext (d e)) (λ (e : ℕ). isFile G user r p ext (d e)) 0 (G .entries) (λ e a b. isFile-asked G user ext (d e)))
 
 -- two entries are of one file, by either side
-module _ (r t s : Bytes) (same : SameFile r t) where
-  pub sameFile-left : sameFile r s ≡ sameFile t s
+module _ (G : Geometry) (r t s : Bytes) (same : SameFile r t) where
+  pub sameFile-left : sameFile G r s ≡ sameFile G t s
   unfolding sameFile
-  sameFile-left = rw (used-cong r t (same .user), isFile-cong (userOf s) s 1 (extentOf s) r t same)
+  sameFile-left = rw (used-cong r t (same .user), isFile-cong G (userOf s) s 1 (extentOf s) r t same)
 
-  pub sameFile-right : sameFile s r ≡ sameFile s t
+  pub sameFile-right : sameFile G s r ≡ sameFile G s t
   unfolding sameFile
-  sameFile-right = rw (used-cong r t (same .user), same .user, same .extent, isFile-asked r 1 t 1 (same-name r t same) (userOf t) (extentOf t) s)
+  sameFile-right = rw (used-cong r t (same .user), same .user, same .extent, isFile-asked r 1 t 1 (same-name r t same) G (userOf t) (extentOf t) s)
 
 -- ---- FCBs
 module _ (f g : Bytes) where

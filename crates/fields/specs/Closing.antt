@@ -62,133 +62,133 @@ module _ (row fcb : Bytes) (j : ℕ) (below : j < slotCount) where
       (λ n. rw (takes-intro z n) (getD-slotsOf fcb j below))
 
 -- ---- the count
-module _ (row fcb : Bytes) where
-  pub count-closed-row : rcOf row ≤ closedCount row fcb
+module _ (G : Geometry) (row fcb : Bytes) where
+  pub count-closed-row : rcOf row ≤ closedCount G row fcb
   unfolding closedCount countsMore countIn
   count-closed-row =
-      split (bool-cases (countsMore row fcb)) (λ t. rw t (omega (arith, ltb-true (rcOf row) (rcOf fcb) t))) (λ f. rw f (omega arith))
+      split (bool-cases (countsMore G row fcb)) (λ t. rw t (omega (arith, ltb-true (rcOf row) (rcOf fcb) t))) (λ f. rw f (omega arith))
 
-  pub count-closed-fcb : rcOf fcb ≤ closedCount row fcb
+  pub count-closed-fcb : rcOf fcb ≤ closedCount G row fcb
   unfolding closedCount countsMore countIn
   count-closed-fcb =
-      split (bool-cases (countsMore row fcb)) (λ t. rw t (omega arith)) (λ f. rw f (omega (arith, ltb-false (rcOf row) (rcOf fcb) f)))
+      split (bool-cases (countsMore G row fcb)) (λ t. rw t (omega arith)) (λ f. rw f (omega (arith, ltb-false (rcOf row) (rcOf fcb) f)))
 
   -- the larger of the two
-  pub count-closed : closedCount row fcb ≡ max (rcOf row) (rcOf fcb)
+  pub count-closed : closedCount G row fcb ≡ max (rcOf row) (rcOf fcb)
   unfolding closedCount countsMore countIn
   count-closed =
-      split (bool-cases (countsMore row fcb)) (λ t. rw t (omega (arith, ltb-true (rcOf row) (rcOf fcb) t)))
+      split (bool-cases (countsMore G row fcb)) (λ t. rw t (omega (arith, ltb-true (rcOf row) (rcOf fcb) t)))
       (λ f. rw f (omega (arith, ltb-false (rcOf row) (rcOf fcb) f)))
 
-  pub count-closed-high : (n : ℕ) → rcOf row ≤ n → rcOf fcb ≤ n → closedCount row fcb ≤ n
+  pub count-closed-high : (n : ℕ) → rcOf row ≤ n → rcOf fcb ≤ n → closedCount G row fcb ≤ n
   unfolding closedCount
-  count-closed-high n a b = split (bool-cases (countsMore row fcb)) (λ t. rw t b) (λ f. rw f a)
+  count-closed-high n a b = split (bool-cases (countsMore G row fcb)) (λ t. rw t b) (λ f. rw f a)
 
 -- ---- the entry
-module _ (row fcb : Bytes) (hr : length row ≡ 32) where
+module _ (G : Geometry) (row fcb : Bytes) (hr : length row ≡ 32) where
   -- the row with its count, before its slots
   counted : Bytes
-  counted = set row 15 (closedCount row fcb)
+  counted = set row 15 (closedCount G row fcb)
 
   room : 16 + length (mergedSlots (slotsOf row) (slotsOf fcb)) ≤ length counted
   unfolding counted
-  room = omega (arith, length-mergedSlots (slotsOf row) (slotsOf fcb), length-set row 15 (closedCount row fcb))
+  room = omega (arith, length-mergedSlots (slotsOf row) (slotsOf fcb), length-set row 15 (closedCount G row fcb))
 
-  pub length-closedRow : length (closedRow row fcb) ≡ 32
+  pub length-closedRow : length (closedRow G row fcb) ≡ 32
   unfolding closedRow counted
-  length-closedRow = length-splice counted 16 (mergedSlots (slotsOf row) (slotsOf fcb)) room ∙ length-set row 15 (closedCount row fcb) ∙ hr
+  length-closedRow = length-splice counted 16 (mergedSlots (slotsOf row) (slotsOf fcb)) room ∙ length-set row 15 (closedCount G row fcb) ∙ hr
 
-  below-slots : (i : ℕ) → i < 16 → getD (closedRow row fcb) i 0 ≡ getD counted i 0
+  below-slots : (i : ℕ) → i < 16 → getD (closedRow G row fcb) i 0 ≡ getD counted i 0
   unfolding closedRow counted
   below-slots i h = getD-splice-out counted 16 (mergedSlots (slotsOf row) (slotsOf fcb)) room i (inl h)
 
   -- user, name, ex, s1 and s2 stay
-  pub head-closed : Agree (closedRow row fcb) row 0 15
+  pub head-closed : Agree (closedRow G row fcb) row 0 15
   unfolding counted
-  head-closed i a h = below-slots i (omega arith) ∙ getD-set-other row 15 i (closedCount row fcb) 0 (λ q. omega arith)
+  head-closed i a h = below-slots i (omega arith) ∙ getD-set-other row 15 i (closedCount G row fcb) 0 (λ q. omega arith)
 
-  pub rc-closed : rcOf (closedRow row fcb) ≡ closedCount row fcb
+  pub rc-closed : rcOf (closedRow G row fcb) ≡ closedCount G row fcb
   unfolding counted
-  rc-closed = below-slots 15 (omega arith) ∙ getD-set-same row 15 (closedCount row fcb) 0 (omega arith)
+  rc-closed = below-slots 15 (omega arith) ∙ getD-set-same row 15 (closedCount G row fcb) 0 (omega arith)
 
-  pub slot-closed : (j : ℕ) → j < slotCount → slotOf (closedRow row fcb) j ≡ mergedSlot (slotsOf row) (slotsOf fcb) j
+  pub slot-closed : (j : ℕ) → j < slotCount → slotOf (closedRow G row fcb) j ≡ mergedSlot (slotsOf row) (slotsOf fcb) j
   unfolding closedRow counted slotOf
   slot-closed j h =
       getD-splice-in counted 16 (mergedSlots (slotsOf row) (slotsOf fcb)) room j (omega (arith, length-mergedSlots (slotsOf row) (slotsOf fcb)))
       ∙ getD-mergedSlots (slotsOf row) (slotsOf fcb) j h
 
   -- the entry's own block stays; where it had 0, the FCB's comes
-  pub slot-closed-old : (j : ℕ) → j < slotCount → (slotOf row j ≡ 0 → ⊥) → slotOf (closedRow row fcb) j ≡ slotOf row j
+  pub slot-closed-old : (j : ℕ) → j < slotCount → (slotOf row j ≡ 0 → ⊥) → slotOf (closedRow G row fcb) j ≡ slotOf row j
   slot-closed-old j h n = slot-closed j h ∙ merged-old row fcb j h n
 
-  pub slot-closed-new : (j : ℕ) → j < slotCount → slotOf row j ≡ 0 → slotOf (closedRow row fcb) j ≡ slotOf fcb j
+  pub slot-closed-new : (j : ℕ) → j < slotCount → slotOf row j ≡ 0 → slotOf (closedRow G row fcb) j ≡ slotOf fcb j
   slot-closed-new j h z = slot-closed j h ∙ merged-new row fcb j h z
 
   -- with an FCB whose slots fit, the entry's slots become the FCB's
-  pub slot-closed-fits : (j : ℕ) → j < slotCount → (slotOf fcb j ≡ slotOf row j) ⊎ (slotOf row j ≡ 0) → slotOf (closedRow row fcb) j ≡ slotOf fcb j
+  pub slot-closed-fits : (j : ℕ) → j < slotCount → (slotOf fcb j ≡ slotOf row j) ⊎ (slotOf row j ≡ 0) → slotOf (closedRow G row fcb) j ≡ slotOf fcb j
   slot-closed-fits j h (inr z) = slot-closed-new j h z
   slot-closed-fits j h (inl q) =
       split (eq-or-ne (slotOf row j) 0) (λ z. slot-closed-new j h z) (λ n. slot-closed-old j h n ∙ sym q)
 
-  pub slots-closed : slotsOf (closedRow row fcb) ≡ mergedSlots (slotsOf row) (slotsOf fcb)
+  pub slots-closed : slotsOf (closedRow G row fcb) ≡ mergedSlots (slotsOf row) (slotsOf fcb)
   slots-closed =
-      let l : length (slotsOf (closedRow row fcb)) ≡ slotCount = length-slotsOf (closedRow row fcb) (omega (arith, length-closedRow)) in
-      ext-getD 0 (slotsOf (closedRow row fcb)) (mergedSlots (slotsOf row) (slotsOf fcb)) (l ∙ sym (length-mergedSlots (slotsOf row) (slotsOf fcb)))
+      let l : length (slotsOf (closedRow G row fcb)) ≡ slotCount = length-slotsOf (closedRow G row fcb) (omega (arith, length-closedRow)) in
+      ext-getD 0 (slotsOf (closedRow G row fcb)) (mergedSlots (slotsOf row) (slotsOf fcb)) (l ∙ sym (length-mergedSlots (slotsOf row) (slotsOf fcb)))
       (λ j h. let b : j < slotCount = omega arith in
-      getD-slotsOf (closedRow row fcb) j b ∙ slot-closed j b ∙ sym (getD-mergedSlots (slotsOf row) (slotsOf fcb) j b))
+      getD-slotsOf (closedRow G row fcb) j b ∙ slot-closed j b ∙ sym (getD-mergedSlots (slotsOf row) (slotsOf fcb) j b))
 
   -- a slot stays, or takes the FCB's block
   pub slot-closed-cases : (j : ℕ) → j < slotCount
-      → (slotOf (closedRow row fcb) j ≡ slotOf row j)
-      ⊎ ((slotOf row j ≡ 0) × (slotOf fcb j ≡ 0 → ⊥) × (slotOf (closedRow row fcb) j ≡ slotOf fcb j))
+      → (slotOf (closedRow G row fcb) j ≡ slotOf row j)
+      ⊎ ((slotOf row j ≡ 0) × (slotOf fcb j ≡ 0 → ⊥) × (slotOf (closedRow G row fcb) j ≡ slotOf fcb j))
   slot-closed-cases j h =
       split (eq-or-ne (slotOf row j) 0)
       (λ z. split (eq-or-ne (slotOf fcb j) 0) (λ y. inl (slot-closed-new j h z ∙ y ∙ sym z)) (λ n. inr (z, n, slot-closed-new j h z)))
       (λ n. inl (slot-closed-old j h n))
 
   -- an entry of the same file, with the same attributes
-  pub file-closed : SameFile (closedRow row fcb) row
-  file-closed = same-file (closedRow row fcb) row head-closed
+  pub file-closed : SameFile (closedRow G row fcb) row
+  file-closed = same-file (closedRow G row fcb) row head-closed
 
-  pub used-closed : used (closedRow row fcb) ≡ used row
-  used-closed = used-cong (closedRow row fcb) row (file-closed .user)
+  pub used-closed : used (closedRow G row fcb) ≡ used row
+  used-closed = used-cong (closedRow G row fcb) row (file-closed .user)
 
-  pub empty-closed : empty (closedRow row fcb) ≡ empty row
-  empty-closed = empty-cong (closedRow row fcb) row (file-closed .user)
+  pub empty-closed : empty (closedRow G row fcb) ≡ empty row
+  empty-closed = empty-cong (closedRow G row fcb) row (file-closed .user)
 
-  pub readOnly-closed : readOnly (closedRow row fcb) ≡ readOnly row
-  readOnly-closed = readOnly-cong (closedRow row fcb) row (head-closed 9 (omega arith) (omega arith))
+  pub readOnly-closed : readOnly (closedRow G row fcb) ≡ readOnly row
+  readOnly-closed = readOnly-cong (closedRow G row fcb) row (head-closed 9 (omega arith) (omega arith))
 
-  pub right-closed : (wild : Bool) → nameRight wild (closedRow row fcb) 1 ≡ nameRight wild row 1
-  right-closed wild = right-cong wild (closedRow row fcb) 1 row 1 (same-name (closedRow row fcb) row file-closed)
+  pub right-closed : (wild : Bool) → nameRight wild (closedRow G row fcb) 1 ≡ nameRight wild row 1
+  right-closed wild = right-cong wild (closedRow G row fcb) 1 row 1 (same-name (closedRow G row fcb) row file-closed)
 
-  pub numbers-closed : Numbers row → Numbers fcb → Numbers (closedRow row fcb)
+  pub numbers-closed : Numbers row → Numbers fcb → Numbers (closedRow G row fcb)
   numbers-closed n m = record {
     ex = rw (head-closed 12 (omega arith) (omega arith)) (n .ex);
     s2 = rw (head-closed 14 (omega arith) (omega arith)) (n .s2);
-    rc = rw rc-closed (count-closed-high row fcb 128 (n .rc) (m .rc));
+    rc = rw rc-closed (count-closed-high G row fcb 128 (n .rc) (m .rc));
   }
 
   -- the records that it counts
-  pub countIn-closed : (ext : ℕ) → countIn (closedRow row fcb) ext ≡ closedCount row fcb
+  pub countIn-closed : (ext : ℕ) → countIn G (closedRow G row fcb) ext ≡ closedCount G row fcb
   unfolding countIn
   countIn-closed ext = rc-closed
 
 -- ---- a close that changes nothing
-module _ (row fcb : Bytes) (same : closeChanges row fcb ≡ false) where
+module _ (G : Geometry) (row fcb : Bytes) (same : closeChanges G row fcb ≡ false) where
   pub takes-none : (j : ℕ) → j < slotCount → takesSlot (slotsOf row) (slotsOf fcb) j ≡ false
   unfolding closeChanges
   takes-none j h = any-never (takesSlot (slotsOf row) (slotsOf fcb)) slotCount ((or-neither _ _ same) .0) j h
 
-  pub row-unchanged : length row ≡ 32 → closedRow row fcb ≡ row
+  pub row-unchanged : length row ≡ 32 → closedRow G row fcb ≡ row
   unfolding closeChanges closedCount mergedSlot
   row-unchanged hr =
-      let n : countsMore row fcb ≡ false = (or-neither _ _ same) .1 in
-      let c : closedCount row fcb ≡ rcOf row = rw n in
-      row-ext (closedRow row fcb) row (length-closedRow row fcb hr) hr
-      (λ i a h. split (lt-or-le i 15) (λ l. head-closed row fcb hr i a l)
-      (λ l. let q : i ≡ 15 = omega arith in rw q (rc-closed row fcb hr ∙ c)))
-      (λ j h. slot-closed row fcb hr j h ∙ rw (takes-none j h) (getD-slotsOf row j h))
+      let n : countsMore G row fcb ≡ false = (or-neither _ _ same) .1 in
+      let c : closedCount G row fcb ≡ rcOf row = rw n in
+      row-ext (closedRow G row fcb) row (length-closedRow G row fcb hr) hr
+      (λ i a h. split (lt-or-le i 15) (λ l. head-closed G row fcb hr i a l)
+      (λ l. let q : i ≡ 15 = omega arith in rw q (rc-closed G row fcb hr ∙ c)))
+      (λ j h. slot-closed G row fcb hr j h ∙ rw (takes-none j h) (getD-slotsOf row j h))
 
   pub map-unchanged : (map : Bytes) → closedMap row fcb map ≡ map
   unfolding closedMap closedNote
@@ -196,16 +196,16 @@ module _ (row fcb : Bytes) (same : closeChanges row fcb ≡ false) where
       fold-keeps (λ (m : Bytes). m ≡ map) (closedNote (slotsOf row) (slotsOf fcb)) map slotCount refl (λ m j h e. rw (takes-none j h) e)
 
 -- and one that does change its entry
-pub row-changed : (row fcb : Bytes) → length row ≡ 32 → closeChanges row fcb ≡ true → closedRow row fcb ≡ row → ⊥
+pub row-changed : (G : Geometry) (row fcb : Bytes) → length row ≡ 32 → closeChanges G row fcb ≡ true → closedRow G row fcb ≡ row → ⊥
 unfolding closeChanges countsMore countIn
-row-changed row fcb hr t e =
-    split (or-cases (anyBelow (takesSlot (slotsOf row) (slotsOf fcb)) slotCount) (countsMore row fcb) t)
+row-changed G row fcb hr t e =
+    split (or-cases (anyBelow (takesSlot (slotsOf row) (slotsOf fcb)) slotCount) (countsMore G row fcb) t)
     (λ a. let s = any-some (takesSlot (slotsOf row) (slotsOf fcb)) slotCount a in
     let z : slotOf row (s .place) ≡ 0 = takes-row row fcb (s .place) (s .below) (s .holds) in
     takes-fcb row fcb (s .place) (s .below) (s .holds)
-    (sym (slot-closed-new row fcb hr (s .place) (s .below) z) ∙ ap (λ (r : Bytes). slotOf r (s .place)) e ∙ z))
-    (λ a. let c : rcOf (closedRow row fcb) ≡ rcOf row = ap (λ (r : Bytes). getD r 15 0) e in
-    omega (arith, ltb-true (rcOf row) (rcOf fcb) a, rc-closed row fcb hr, count-closed-fcb row fcb))
+    (sym (slot-closed-new G row fcb hr (s .place) (s .below) z) ∙ ap (λ (r : Bytes). slotOf r (s .place)) e ∙ z))
+    (λ a. let c : rcOf (closedRow G row fcb) ≡ rcOf row = ap (λ (r : Bytes). getD r 15 0) e in
+    omega (arith, ltb-true (rcOf row) (rcOf fcb) a, rc-closed G row fcb hr, count-closed-fcb G row fcb))
 
 -- ---- the notes
 -- a slot takes block b

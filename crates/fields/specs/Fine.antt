@@ -19,13 +19,13 @@ use Rattle.fields.specs.Making.{user-made, name-made, ex-made, s2-made, 
 module _ (G : Geometry) (row fcb : Bytes) (hr : length row ≡ 32) (fine : Fine G row) where
   -- a close, with an FCB whose blocks that it brings are in range
   module _ (numbers : Numbers fcb) (blocks : (j : ℕ) → j < slotCount → slotOf row j ≡ 0 → (slotOf fcb j ≡ 0 → ⊥) → (G .area ≤ slotOf fcb j) × (slotOf fcb j < G .blocks)) where
-    pub fine-closed : Fine G (closedRow row fcb)
+    pub fine-closed : Fine G (closedRow G row fcb)
     fine-closed = record {
-      user = rw (file-closed row fcb hr .user) (fine .user);
-      name = right-closed row fcb hr false ∙ fine .name;
-      numbers = numbers-closed row fcb hr (fine .numbers) numbers;
-      low = λ j h n. split (slot-closed-cases row fcb hr j h) (λ q. rw q (fine .low j h (λ z. n (q ∙ z)))) (λ c. rw (c .2) (blocks j h (c .0) (c .1) .0));
-      high = λ j h n. split (slot-closed-cases row fcb hr j h) (λ q. rw q (fine .high j h (λ z. n (q ∙ z)))) (λ c. rw (c .2) (blocks j h (c .0) (c .1) .1));
+      user = rw (file-closed G row fcb hr .user) (fine .user);
+      name = right-closed G row fcb hr false ∙ fine .name;
+      numbers = numbers-closed G row fcb hr (fine .numbers) numbers;
+      low = λ j h n. split (slot-closed-cases G row fcb hr j h) (λ q. rw q (fine .low j h (λ z. n (q ∙ z)))) (λ c. rw (c .2) (blocks j h (c .0) (c .1) .0));
+      high = λ j h n. split (slot-closed-cases G row fcb hr j h) (λ q. rw q (fine .high j h (λ z. n (q ∙ z)))) (λ c. rw (c .2) (blocks j h (c .0) (c .1) .1));
     }
 
   -- a new name

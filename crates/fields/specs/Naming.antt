@@ -33,7 +33,7 @@ unfolding named
 named-intro wild user s q r a b = and-both _ _ (eq-eqb _ _ a) b
 
 -- ---- a row of a name and an extent
-module _ (user : ℕ) (s : Bytes) (q ext : ℕ) (r : Bytes) (h : isFile user s q ext r ≡ true) where
+module _ (G : Geometry) (user : ℕ) (s : Bytes) (q ext : ℕ) (r : Bytes) (h : isFile G user s q ext r ≡ true) where
   pub file-named : named false user s q r ≡ true
   unfolding isFile
   file-named = and-left _ _ h
@@ -51,27 +51,27 @@ module _ (user : ℕ) (s : Bytes) (q ext : ℕ) (r : Bytes) (h : isFile user s q
   pub file-used : user ≤ 15 → used r ≡ true
   file-used hu = named-used false user s q r file-named hu
 
-pub file-intro : (user : ℕ) (s : Bytes) (q ext : ℕ) (r : Bytes) → named false user s q r ≡ true → extentOf r ≡ ext → isFile user s q ext r ≡ true
+pub file-intro : (G : Geometry) (user : ℕ) (s : Bytes) (q ext : ℕ) (r : Bytes) → named false user s q r ≡ true → extentOf r ≡ ext → isFile G user s q ext r ≡ true
 unfolding isFile covers
-file-intro user s q ext r a b = and-both _ _ a (eq-eqb _ _ b)
+file-intro G user s q ext r a b = and-both _ _ a (eq-eqb _ _ b)
 
 -- two rows of one name and extent
-pub file-same : (user : ℕ) (s : Bytes) (q ext : ℕ) (r t : Bytes) → isFile user s q ext r ≡ true → isFile user s q ext t ≡ true → SameFile r t
-file-same user s q ext r t h k = record {
-  user = file-user user s q ext r h ∙ sym (file-user user s q ext t k);
-  name = like-trans t 1 s q r 1 (like-sym s q t 1 (file-like user s q ext t k)) (file-like user s q ext r h);
-  extent = file-extent user s q ext r h ∙ sym (file-extent user s q ext t k);
+pub file-same : (G : Geometry) (user : ℕ) (s : Bytes) (q ext : ℕ) (r t : Bytes) → isFile G user s q ext r ≡ true → isFile G user s q ext t ≡ true → SameFile r t
+file-same G user s q ext r t h k = record {
+  user = file-user G user s q ext r h ∙ sym (file-user G user s q ext t k);
+  name = like-trans t 1 s q r 1 (like-sym s q t 1 (file-like G user s q ext t k)) (file-like G user s q ext r h);
+  extent = file-extent G user s q ext r h ∙ sym (file-extent G user s q ext t k);
 }
 
 -- the entry of a user, name and extent is the one that is found
 pub file-found : (G : Geometry) (d : Rows) → Consistent G d → (user : ℕ) → user ≤ 15 → (s : Bytes) (q ext e : ℕ) → e < G .entries
-    → isFile user s q ext (d e) ≡ true → findFile G d user s q ext ≡ At e
+    → isFile G user s q ext (d e) ≡ true → findFile G d user s q ext ≡ At e
 file-found G d c user hu s q ext e l h =
     file-is G d user s q ext e record {
       low = omega arith;
       below = l;
       holds = h;
-      before = λ k a b. split (bool-cases (isFile user s q ext (d k)))
-          (λ t. let z : k ≡ e = c .apart k e (omega arith) l (file-used user s q ext (d k) t hu) (file-used user s q ext (d e) h hu) (file-same user s q ext (d k) (d e) t h) in absurd (omega arith))
+      before = λ k a b. split (bool-cases (isFile G user s q ext (d k)))
+          (λ t. let z : k ≡ e = c .apart k e (omega arith) l (file-used G user s q ext (d k) t hu) (file-used G user s q ext (d e) h hu) (file-same G user s q ext (d k) (d e) t h) in absurd (omega arith))
           (λ t. t);
     }

@@ -197,7 +197,7 @@ module _ (G : Geometry) (t j b r cr : ℕ) (l : Lent) where
   unfolding haveWritten
   map-written = refl
 
-  pub fcb-written : haveWritten G t j b r cr l .fcb ≡ writtenFcb (l .fcb) (entryAt G (l .image) t) j b r cr
+  pub fcb-written : haveWritten G t j b r cr l .fcb ≡ writtenFcb G (l .fcb) (entryAt G (l .image) t) j b r cr
   unfolding haveWritten
   fcb-written = refl
 
@@ -205,77 +205,77 @@ module _ (G : Geometry) (t j b r cr : ℕ) (l : Lent) where
   unfolding haveWritten
   buffer-written = refl
 
-module _ (fcb row : Bytes) (r : ℕ) where
-  pub count-written-target : r < writtenCount fcb row r
+module _ (G : Geometry) (fcb row : Bytes) (r : ℕ) where
+  pub count-written-target : r < writtenCount G fcb row r
   unfolding writtenCount
   count-written-target = omega arith
 
-  pub count-written-fcb : rcOf fcb ≤ writtenCount fcb row r
+  pub count-written-fcb : rcOf fcb ≤ writtenCount G fcb row r
   unfolding writtenCount
   count-written-fcb = omega arith
 
-  pub count-written-row : countIn row (extentOf fcb) ≤ writtenCount fcb row r
+  pub count-written-row : countIn G row (extentOf fcb) ≤ writtenCount G fcb row r
   unfolding writtenCount
   count-written-row = omega arith
 
-  pub count-written-high : (n : ℕ) → rcOf fcb ≤ n → countIn row (extentOf fcb) ≤ n → r < n → writtenCount fcb row r ≤ n
+  pub count-written-high : (n : ℕ) → rcOf fcb ≤ n → countIn G row (extentOf fcb) ≤ n → r < n → writtenCount G fcb row r ≤ n
   unfolding writtenCount
   count-written-high n a b c = omega arith
 
-module _ (fcb row : Bytes) (j b r cr : ℕ) where
-  pub length-writtenFcb : length (writtenFcb fcb row j b r cr) ≡ length fcb
+module _ (G : Geometry) (fcb row : Bytes) (j b r cr : ℕ) where
+  pub length-writtenFcb : length (writtenFcb G fcb row j b r cr) ≡ length fcb
   unfolding writtenFcb
   length-writtenFcb =
-      length-set (set (set fcb (16 + j) b) 15 (writtenCount fcb row r)) 32 cr ∙ length-set (set fcb (16 + j) b) 15 (writtenCount fcb row r)
+      length-set (set (set fcb (16 + j) b) 15 (writtenCount G fcb row r)) 32 cr ∙ length-set (set fcb (16 + j) b) 15 (writtenCount G fcb row r)
       ∙ length-set fcb (16 + j) b
 
-  pub byte-written : (i : ℕ) → (i ≡ 16 + j → ⊥) → (i ≡ 15 → ⊥) → (i ≡ 32 → ⊥) → getD (writtenFcb fcb row j b r cr) i 0 ≡ getD fcb i 0
+  pub byte-written : (i : ℕ) → (i ≡ 16 + j → ⊥) → (i ≡ 15 → ⊥) → (i ≡ 32 → ⊥) → getD (writtenFcb G fcb row j b r cr) i 0 ≡ getD fcb i 0
   unfolding writtenFcb
   byte-written i p q o =
-      getD-set-other (set (set fcb (16 + j) b) 15 (writtenCount fcb row r)) 32 i cr 0 o
-      ∙ getD-set-other (set fcb (16 + j) b) 15 i (writtenCount fcb row r) 0 q ∙ getD-set-other fcb (16 + j) i b 0 p
+      getD-set-other (set (set fcb (16 + j) b) 15 (writtenCount G fcb row r)) 32 i cr 0 o
+      ∙ getD-set-other (set fcb (16 + j) b) 15 i (writtenCount G fcb row r) 0 q ∙ getD-set-other fcb (16 + j) i b 0 p
 
-  pub random-written : j < slotCount → randomOf (writtenFcb fcb row j b r cr) ≡ randomOf fcb
+  pub random-written : j < slotCount → randomOf (writtenFcb G fcb row j b r cr) ≡ randomOf fcb
   random-written hj =
-      random-cong (writtenFcb fcb row j b r cr) fcb (λ i p q. byte-written i (λ z. omega arith) (λ z. omega arith) (λ z. omega arith))
+      random-cong (writtenFcb G fcb row j b r cr) fcb (λ i p q. byte-written i (λ z. omega arith) (λ z. omega arith) (λ z. omega arith))
 
   -- byte 0, the name, ex, s1 and s2 stay
-  pub head-written : Agree (writtenFcb fcb row j b r cr) fcb 0 15
+  pub head-written : Agree (writtenFcb G fcb row j b r cr) fcb 0 15
   head-written i p q = byte-written i (λ z. omega arith) (λ z. omega arith) (λ z. omega arith)
 
-  pub name-written : SameName (writtenFcb fcb row j b r cr) 1 fcb 1
-  name-written = name-cong (writtenFcb fcb row j b r cr) fcb (λ i p q. head-written i (omega arith) (omega arith))
+  pub name-written : SameName (writtenFcb G fcb row j b r cr) 1 fcb 1
+  name-written = name-cong (writtenFcb G fcb row j b r cr) fcb (λ i p q. head-written i (omega arith) (omega arith))
 
-  pub extent-written : extentOf (writtenFcb fcb row j b r cr) ≡ extentOf fcb
-  extent-written = extent-cong (writtenFcb fcb row j b r cr) fcb (λ i p q. head-written i (omega arith) q)
+  pub extent-written : extentOf (writtenFcb G fcb row j b r cr) ≡ extentOf fcb
+  extent-written = extent-cong (writtenFcb G fcb row j b r cr) fcb (λ i p q. head-written i (omega arith) q)
 
-  pub slot-written-other : (k : ℕ) → k < slotCount → (k ≡ j → ⊥) → slotOf (writtenFcb fcb row j b r cr) k ≡ slotOf fcb k
+  pub slot-written-other : (k : ℕ) → k < slotCount → (k ≡ j → ⊥) → slotOf (writtenFcb G fcb row j b r cr) k ≡ slotOf fcb k
   unfolding slotOf
   slot-written-other k h n = byte-written (16 + k) (λ z. n (omega arith)) (λ z. omega arith) (λ z. omega arith)
 
   module _ (hf : length fcb ≡ 36) (hj : j < slotCount) where
-    pub slot-written : slotOf (writtenFcb fcb row j b r cr) j ≡ b
+    pub slot-written : slotOf (writtenFcb G fcb row j b r cr) j ≡ b
     unfolding slotOf writtenFcb
     slot-written =
-        getD-set-other (set (set fcb (16 + j) b) 15 (writtenCount fcb row r)) 32 (16 + j) cr 0 (λ z. omega arith)
-        ∙ getD-set-other (set fcb (16 + j) b) 15 (16 + j) (writtenCount fcb row r) 0 (λ z. omega arith) ∙ getD-set-same fcb (16 + j) b 0 (omega arith)
+        getD-set-other (set (set fcb (16 + j) b) 15 (writtenCount G fcb row r)) 32 (16 + j) cr 0 (λ z. omega arith)
+        ∙ getD-set-other (set fcb (16 + j) b) 15 (16 + j) (writtenCount G fcb row r) 0 (λ z. omega arith) ∙ getD-set-same fcb (16 + j) b 0 (omega arith)
 
     -- a write to a block that the FCB has leaves its slots as they were
-    pub slot-written-kept : b ≡ slotOf fcb j → (k : ℕ) → k < slotCount → slotOf (writtenFcb fcb row j b r cr) k ≡ slotOf fcb k
+    pub slot-written-kept : b ≡ slotOf fcb j → (k : ℕ) → k < slotCount → slotOf (writtenFcb G fcb row j b r cr) k ≡ slotOf fcb k
     slot-written-kept e k h =
         split (eq-or-ne k j) (λ q. rw q (slot-written ∙ e)) (λ n. slot-written-other k h n)
 
-    pub rc-written : rcOf (writtenFcb fcb row j b r cr) ≡ writtenCount fcb row r
+    pub rc-written : rcOf (writtenFcb G fcb row j b r cr) ≡ writtenCount G fcb row r
     unfolding writtenFcb
     rc-written =
-        getD-set-other (set (set fcb (16 + j) b) 15 (writtenCount fcb row r)) 32 15 cr 0 (λ z. omega arith)
-        ∙ getD-set-same (set fcb (16 + j) b) 15 (writtenCount fcb row r) 0 (omega (arith, length-set fcb (16 + j) b))
+        getD-set-other (set (set fcb (16 + j) b) 15 (writtenCount G fcb row r)) 32 15 cr 0 (λ z. omega arith)
+        ∙ getD-set-same (set fcb (16 + j) b) 15 (writtenCount G fcb row r) 0 (omega (arith, length-set fcb (16 + j) b))
 
-    pub cr-written : crOf (writtenFcb fcb row j b r cr) ≡ cr
+    pub cr-written : crOf (writtenFcb G fcb row j b r cr) ≡ cr
     unfolding writtenFcb
     cr-written =
-        getD-set-same (set (set fcb (16 + j) b) 15 (writtenCount fcb row r)) 32 cr 0
-        (omega (arith, length-set (set fcb (16 + j) b) 15 (writtenCount fcb row r), length-set fcb (16 + j) b))
+        getD-set-same (set (set fcb (16 + j) b) 15 (writtenCount G fcb row r)) 32 cr 0
+        (omega (arith, length-set (set fcb (16 + j) b) 15 (writtenCount G fcb row r), length-set fcb (16 + j) b))
 
 module _ (map fcb : Bytes) (t j b : ℕ) where
   pub length-writtenMap : length (writtenMap map fcb t j b) ≡ length map

@@ -79,7 +79,7 @@ pub fn make_file(image: &mut [u8], fcb: &mut [u8], session: Session) -> Answer
 // The records up to the end of a row: 128 × extent + rc.
 fn size_of(r: &[u8]) -> usize
     requires { ⌜ entryBytes ≤ length (now r) ⌝ }
-    ensures { λ n. ⌜ n ≡ sizeOf (now (r .entry)) ⌝ }
+    ensures { λ n. ⌜ n ≡ sizeOf eightInch (now (r .entry)) ⌝ }
 {
     let ext = rows::extent(r);
     EXTENT_RECORDS * ext + lists::wide(rows::count_in(r, ext))
@@ -88,7 +88,7 @@ fn size_of(r: &[u8]) -> usize
 // The larger of a size and that of an entry, where the entry is of the file.
 fn larger_size(image: &[u8], e: usize, user: u8, fcb: &[u8], size: usize) -> usize
     requires { ⌜ (length (now image) ≡ imageBytes eightInch) × (e < eightInch .entries) × (length (now fcb) ≡ fcbBytes) ⌝ }
-    ensures { λ r. ⌜ r ≡ largerSize (entryAt eightInch (now (image .entry))) (named false user (now (fcb .entry)) 1) size e ⌝ }
+    ensures { λ r. ⌜ r ≡ largerSize eightInch (entryAt eightInch (now (image .entry))) (named false user (now (fcb .entry)) 1) size e ⌝ }
 {
     let r = rows::row(image, e);
     if !rows::is_named(false, user, fcb, 1, r) {

@@ -9,9 +9,13 @@ use Rattle.format.specs.Diskette.{Bytes, Geometry}
 use Rattle.format.specs.Names.{nameRight}
 use Rattle.format.specs.Entries.{Rows, entryAt, slotCount, userOf, exOf, s2Of, rcOf, slotOf, empty, used, isFile, extentOf}
 
--- ex 0 to 31, s2 0 to 63 and rc 0 to 128, of a row or an FCB
+-- ex 0 to 31 and s2 0 to 63, of a row or an FCB
+abbrev pub extentRight : Bytes → Bool
+extentRight r = leb (exOf r) 31 and leb (s2Of r) 63
+
+-- and rc 0 to 128
 unfoldable pub numbersRight : Bytes → Bool
-numbersRight r = leb (exOf r) 31 and leb (s2Of r) 63 and leb (rcOf r) 128
+numbersRight r = extentRight r and leb (rcOf r) 128
 
 -- 0, or the number of a block past the directory
 unfoldable pub slotRight : Geometry → ℕ → Bool
@@ -37,15 +41,15 @@ unfoldable pub listedOnce : Rows → ℕ → Bool
 listedOnce d x = eqb (listed d x) 0 or not (taken (listed d) x (listed d x))
 
 -- no two used entries agree in user, seven-bit name and extent
-unfoldable pub sameFile : Bytes → Bytes → Bool
-sameFile r t = used r and used t and isFile (userOf t) t 1 (extentOf t) r
+unfoldable pub sameFile : Geometry → Bytes → Bytes → Bool
+sameFile G r t = used r and used t and isFile G (userOf t) t 1 (extentOf t) r
 
-unfoldable pub alone : Rows → ℕ → Bool
-alone d e = not (anyBelow (λ (f : ℕ). sameFile (d e) (d f)) e)
+unfoldable pub alone : Geometry → Rows → ℕ → Bool
+alone G d e = not (anyBelow (λ (f : ℕ). sameFile G (d e) (d f)) e)
 
 unfoldable pub consistentRows : Geometry → Rows → Bool
 consistentRows G d =
-    allBelow (λ (e : ℕ). entryRight G (d e)) (G .entries) and allBelow (listedOnce d) (slotsInAll G) and allBelow (alone d) (G .entries)
+    allBelow (λ (e : ℕ). entryRight G (d e)) (G .entries) and allBelow (listedOnce d) (slotsInAll G) and allBelow (alone G d) (G .entries)
 
 unfoldable pub consistent : Geometry → Bytes → Bool
 consistent G img = consistentRows G (entryAt G img)

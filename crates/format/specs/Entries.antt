@@ -45,6 +45,10 @@ s2Of r = getD r 14 0
 abbrev pub rcOf : Bytes → ℕ
 rcOf r = getD r 15 0
 
+-- the count of records that a row or an FCB carries
+abbrev pub countOf : Bytes → ℕ
+countOf r = rcOf r
+
 -- the sixteen block numbers
 unfoldable pub slotsOf : Bytes → Bytes
 slotsOf r = part r 16 slotCount
@@ -70,12 +74,12 @@ unfoldable pub extentOf : Bytes → ℕ
 extentOf r = 32 * s2Of r + exOf r
 
 -- the row covers the extent
-unfoldable pub covers : Bytes → ℕ → Bool
-covers r ext = eqb (extentOf r) ext
+unfoldable pub covers : Geometry → Bytes → ℕ → Bool
+covers G r ext = eqb (extentOf r) ext
 
 -- the records of that extent which the row counts
-unfoldable pub countIn : Bytes → ℕ → ℕ
-countIn r ext = rcOf r
+unfoldable pub countIn : Geometry → Bytes → ℕ → ℕ
+countIn G r ext = countOf r
 
 -- the slot that holds record k of the extent
 unfoldable pub slotFor : Geometry → ℕ → ℕ → ℕ
@@ -90,12 +94,12 @@ unfoldable pub named : Bool → ℕ → Bytes → ℕ → Bytes → Bool
 named wild user s q row = eqb (userOf row) user and nameLike wild s q row 1
 
 -- the row is the user's, of the name in s at q, and covers the extent
-unfoldable pub isFile : ℕ → Bytes → ℕ → ℕ → Bytes → Bool
-isFile user s q ext row = named false user s q row and covers row ext
+unfoldable pub isFile : Geometry → ℕ → Bytes → ℕ → ℕ → Bytes → Bool
+isFile G user s q ext row = named false user s q row and covers G row ext
 
 -- the entry of this user, name and extent
 unfoldable pub findFile : Geometry → Rows → ℕ → Bytes → ℕ → ℕ → Found
-findFile G d user s q ext = foundBelow (G .entries) (firstIn (λ (e : ℕ). isFile user s q ext (d e)) 0 (G .entries))
+findFile G d user s q ext = foundBelow (G .entries) (firstIn (λ (e : ℕ). isFile G user s q ext (d e)) 0 (G .entries))
 
 -- the first entry from i on of this user whose name is asked for
 unfoldable pub findNamed : Geometry → Rows → Bool → ℕ → Bytes → ℕ → ℕ → Found

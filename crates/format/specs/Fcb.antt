@@ -19,13 +19,17 @@ fcbBytes = 36
 abbrev pub crOf : Bytes → ℕ
 crOf fcb = getD fcb 32 0
 
+-- cr 0 to 128
+abbrev pub crRight : Bytes → Bool
+crRight fcb = leb (crOf fcb) 128
+
 -- r0 + 256 r1 + 65,536 r2
 unfoldable pub randomOf : Bytes → ℕ
 randomOf fcb = getD fcb 33 0 + 256 * getD fcb 34 0 + 65536 * getD fcb 35 0
 
 -- its name obeys the name rule; ex, s2, rc and cr are in range
 unfoldable pub fcbRight : Bytes → Bool
-fcbRight fcb = nameRight false fcb 1 and numbersRight fcb and leb (crOf fcb) 128
+fcbRight fcb = nameRight false fcb 1 and numbersRight fcb and crRight fcb
 
 -- slot j of the FCB (fs) equals the entry's (es), or the entry's is 0 and the FCB's block is noted pending for e, j
 unfoldable pub slotFits : Bytes → ℕ → Bytes → Bytes → ℕ → Bool

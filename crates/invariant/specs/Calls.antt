@@ -54,7 +54,7 @@ module _ {G : Geometry} (S : Sound G) (l : Lent) (s : Session) (f : Fits G l s) 
         rw (m .entry .is)
         (good-made S (l .image) (l .map) g t (found .below) (found .holds) row (length-madeRow (s .user) (l .fcb))
         (fine-made G (s .user) (l .fcb) (f .user-low) (m .name) (m .ex)) (λ j h. slot-made (s .user) (l .fcb) j) (s .user) (l .fcb) 1 (exOf (l .fcb))
-        (file-intro (s .user) (l .fcb) 1 (exOf (l .fcb)) row
+        (file-intro G (s .user) (l .fcb) 1 (exOf (l .fcb)) row
         (named-intro false (s .user) (l .fcb) 1 row (user-made (s .user) (l .fcb)) (like-intro (l .fcb) 1 row 1 (λ i b. sym (name-made (s .user) (l .fcb) i b))))
         (extent-made (s .user) (l .fcb)))
         (no-file-says G (rowsOf G l) (s .user) (l .fcb) 1 (exOf (l .fcb)) (m .new)))

@@ -32,7 +32,7 @@ module _ {G : Geometry} (S : Sound G) (img map : Bytes) (g : Good G img map) (us
   current-below = current-low G (entryAt G img) map user fcb e c
 
   pub current-used : used (entryAt G img e) ≡ true
-  current-used = file-used user fcb 1 (extentOf fcb) (entryAt G img e) (current-file G (entryAt G img) map user fcb e c .holds) low
+  current-used = file-used G user fcb 1 (extentOf fcb) (entryAt G img e) (current-file G (entryAt G img) map user fcb e c .holds) low
 
   long : length (entryAt G img e) ≡ 32
   long = length-entryAt S img (g .image-long) e current-below
@@ -51,15 +51,15 @@ module _ {G : Geometry} (S : Sound G) (img map : Bytes) (g : Good G img map) (us
           let noted : noteAt map b ≡ pendingFor e j = ap (λ (x : ℕ). noteAt map x) (sym q) ∙ p in
           record { was = z; low = subst (λ (n : ℕ). b < n) (g .map-long) (pending-block map b e j noted); noted = noted }
 
-  closed-to : ClosedTo G (entryAt G img) (λ (b : ℕ). noteAt map b) e (closedRow (entryAt G img e) fcb)
+  closed-to : ClosedTo G (entryAt G img) (λ (b : ℕ). noteAt map b) e (closedRow G (entryAt G img e) fcb)
   unfolding HeldIn
   closed-to =
       let fine = g .inv .dir .fine e current-below current-used in
       record {
-        file = file-closed (entryAt G img e) fcb long;
-        name = right-closed (entryAt G img e) fcb long false ∙ fine .name;
-        numbers = numbers-closed (entryAt G img e) fcb long (fine .numbers) (fcb-says fcb (c .right) .numbers);
-        slot = λ j l. split (slot-closed-cases (entryAt G img e) fcb long j l) (λ q. inl q)
+        file = file-closed G (entryAt G img e) fcb long;
+        name = right-closed G (entryAt G img e) fcb long false ∙ fine .name;
+        numbers = numbers-closed G (entryAt G img e) fcb long (fine .numbers) (fcb-says fcb (c .right) .numbers);
+        slot = λ j l. split (slot-closed-cases G (entryAt G img e) fcb long j l) (λ q. inl q)
             (λ p. inr (subst (HeldIn j) (sym (p .2)) (brought j (slotOf fcb j) l (p .0) refl (p .1))));
       }
 
@@ -67,14 +67,14 @@ module _ {G : Geometry} (S : Sound G) (img map : Bytes) (g : Good G img map) (us
   there : (k : ℕ) → k < G .entries → (k ≡ e → ⊥) → entryAt G (closedImage G img e fcb) k ≡ entryAt G img k
   there k l n = row-closedImage-other S img (g .image-long) e current-below fcb k l (λ z. n (sym z))
 
-  here : entryAt G (closedImage G img e fcb) e ≡ closedRow (entryAt G img e) fcb
+  here : entryAt G (closedImage G img e fcb) e ≡ closedRow G (entryAt G img e) fcb
   here = row-closedImage S img (g .image-long) e current-below fcb
 
   pub closed-file : (k : ℕ) → k < G .entries → SameFile (entryAt G (closedImage G img e fcb) k) (entryAt G img k)
   closed-file k l =
       split (eq-or-ne k e)
       (λ q. subst (λ (x : ℕ). SameFile (entryAt G (closedImage G img e fcb) x) (entryAt G img x)) (sym q)
-      (subst (λ (r : Bytes). SameFile r (entryAt G img e)) (sym here) (file-closed (entryAt G img e) fcb long)))
+      (subst (λ (r : Bytes). SameFile r (entryAt G img e)) (sym here) (file-closed G (entryAt G img e) fcb long)))
       (λ n. subst (λ (r : Bytes). SameFile r (entryAt G img k)) (sym (there k l n)) (same-refl (entryAt G img k)))
 
   -- a free block is not taken
@@ -87,8 +87,8 @@ module _ {G : Geometry} (S : Sound G) (img map : Bytes) (g : Good G img map) (us
   pub good-closed : Good G (closedImage G img e fcb) (closedMap (entryAt G img e) fcb map)
   unfolding HeldIn
   good-closed =
-      let slot : (j : ℕ) → slotOf (entryAt G (closedImage G img e fcb) e) j ≡ slotOf (closedRow (entryAt G img e) fcb) j = λ j. ap (λ (r : Bytes). slotOf r j) here in
-      let new = slot-closed-new (entryAt G img e) fcb long in
+      let slot : (j : ℕ) → slotOf (entryAt G (closedImage G img e fcb) e) j ≡ slotOf (closedRow G (entryAt G img e) fcb) j = λ j. ap (λ (r : Bytes). slotOf r j) here in
+      let new = slot-closed-new G (entryAt G img e) fcb long in
       record {
         image-long = length-closedImage S img (g .image-long) e current-below fcb ∙ g .image-long;
         map-long = length-closedMap (entryAt G img e) fcb map ∙ g .map-long;

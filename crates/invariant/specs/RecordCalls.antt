@@ -141,7 +141,7 @@ module _ {G : Geometry} (S : Sound G) (n : ℕ) (l : Lent) (s : Session) (g : Go
       serves (free z q) = free-serves (l .map) (l .fcb) (targetSlot G n (l .fcb)) b q (free-is G (l .map) b q .free)
 
   module _ (t : ℕ) (target : targetEntry G n (s .user) l ≡ At t) where
-    pub target-file : isFile (s .user) (l .fcb) 1 (targetExtent n (l .fcb)) (rowsOf G l t) ≡ true
+    pub target-file : isFile G (s .user) (l .fcb) 1 (targetExtent n (l .fcb)) (rowsOf G l t) ≡ true
     unfolding targetEntry
     target-file = file-says G (rowsOf G l) (s .user) (l .fcb) 1 (targetExtent n (l .fcb)) t target .holds
 
@@ -150,7 +150,7 @@ module _ {G : Geometry} (S : Sound G) (n : ℕ) (l : Lent) (s : Session) (g : Go
     target-below = file-says G (rowsOf G l) (s .user) (l .fcb) 1 (targetExtent n (l .fcb)) t target .below
 
     pub target-used : used (rowsOf G l t) ≡ true
-    target-used = file-used (s .user) (l .fcb) 1 (targetExtent n (l .fcb)) (rowsOf G l t) target-file (f .user-low)
+    target-used = file-used G (s .user) (l .fcb) 1 (targetExtent n (l .fcb)) (rowsOf G l t) target-file (f .user-low)
 
     pub good-move : (b : ℕ) → stays n (l .fcb) ≡ false → Block G n (s .user) l b
         → Good G (writtenAt G s l n t b (moved G n l e t) .lent .image) (writtenAt G s l n t b (moved G n l e t) .lent .map)
@@ -185,14 +185,14 @@ module _ {G : Geometry} (S : Sound G) (n : ℕ) (l : Lent) (s : Session) (g : Go
     long : length (rowsOf G l e) ≡ 32
     long = length-entryAt S (l .image) (g .image-long) e present-below
 
-    pub next-file : isFile (s .user) (l .fcb) 1 (targetExtent n (l .fcb)) (nextRow (rowsOf G l e) (targetExtent n (l .fcb))) ≡ true
+    pub next-file : isFile G (s .user) (l .fcb) 1 (targetExtent n (l .fcb)) (nextRow (rowsOf G l e) (targetExtent n (l .fcb))) ≡ true
     next-file =
         let ext : ℕ = targetExtent n (l .fcb) in
         let row : Bytes = nextRow (rowsOf G l e) ext in
         let is = current-file G (rowsOf G l) (l .map) (s .user) (l .fcb) e present-current .holds in
-        file-intro (s .user) (l .fcb) 1 ext row
-        (named-intro false (s .user) (l .fcb) 1 row (user-next (rowsOf G l e) ext long ∙ file-user (s .user) (l .fcb) 1 (extentOf (l .fcb)) (rowsOf G l e) is)
-        (like-trans (l .fcb) 1 (rowsOf G l e) 1 row 1 (file-like (s .user) (l .fcb) 1 (extentOf (l .fcb)) (rowsOf G l e) is)
+        file-intro G (s .user) (l .fcb) 1 ext row
+        (named-intro false (s .user) (l .fcb) 1 row (user-next (rowsOf G l e) ext long ∙ file-user G (s .user) (l .fcb) 1 (extentOf (l .fcb)) (rowsOf G l e) is)
+        (like-trans (l .fcb) 1 (rowsOf G l e) 1 row 1 (file-like G (s .user) (l .fcb) 1 (extentOf (l .fcb)) (rowsOf G l e) is)
         (like-intro (rowsOf G l e) 1 row 1 (λ i b. sym (name-next (rowsOf G l e) ext long i b)))))
         (extent-next (rowsOf G l e) ext long)
 
@@ -205,7 +205,7 @@ module _ {G : Geometry} (S : Sound G) (n : ℕ) (l : Lent) (s : Session) (g : Go
         (ap empty (row-closedImage-other S (l .image) (g .image-long) e present-below (l .fcb) t room-below (λ q. elsewhere (sym q))) ∙ empty-says G (rowsOf G l) t room .holds) row (length-nextRow (rowsOf G l e) ext long)
         (fine-next G (rowsOf G l e) ext long (g .inv .dir .fine e present-below present-used) low) (λ j h. slot-next (rowsOf G l e) ext long j)
         (s .user) (l .fcb) 1 ext next-file
-        (λ k h. isFile-cong (s .user) (l .fcb) 1 ext (entryAt G (closedImage G (l .image) e (l .fcb)) k) (rowsOf G l k)
+        (λ k h. isFile-cong G (s .user) (l .fcb) 1 ext (entryAt G (closedImage G (l .image) e (l .fcb)) k) (rowsOf G l k)
         (closed-file S (l .image) (l .map) g (s .user) (f .user-low) (l .fcb) e present-current k h) ∙ no-file-says G (rowsOf G l) (s .user) (l .fcb) 1 ext none k h)
 
     -- the entry that was made
@@ -215,7 +215,7 @@ module _ {G : Geometry} (S : Sound G) (n : ℕ) (l : Lent) (s : Session) (g : Go
         let row : Bytes = nextRow (rowsOf G l e) (targetExtent n (l .fcb)) in
         let full : length row ≡ 32 = length-nextRow (rowsOf G l e) (targetExtent n (l .fcb)) long in
         ap used (entry-stored S (closedImage G (l .image) e (l .fcb)) (good-present .image-long) t room-below row full)
-        ∙ file-used (s .user) (l .fcb) 1 (targetExtent n (l .fcb)) row next-file (f .user-low)
+        ∙ file-used G (s .user) (l .fcb) 1 (targetExtent n (l .fcb)) row next-file (f .user-low)
 
     pub good-make : (b : ℕ) → stays n (l .fcb) ≡ false → Block G n (s .user) l b
         → Good G (writtenAt G s l n t b (made G n l e t) .lent .image) (writtenAt G s l n t b (made G n l e t) .lent .map)

@@ -74,8 +74,8 @@ module _ {G : Geometry} (S : Sound G) (img map : Bytes) (g : Good G img map) whe
 
   -- a row without blocks in an empty entry, of a file and extent that no entry has
   module _ (t : ℕ) (below : t < G .entries) (was : empty (entryAt G img t) ≡ true) (row : Bytes) (full : length row ≡ entryBytes) (fine : Fine G row)
-      (bare : (j : ℕ) → j < slotCount → slotOf row j ≡ 0) (user : ℕ) (s : Bytes) (q ext : ℕ) (is : isFile user s q ext row ≡ true)
-      (new : (k : ℕ) → k < G .entries → isFile user s q ext (entryAt G img k) ≡ false) where
+      (bare : (j : ℕ) → j < slotCount → slotOf row j ≡ 0) (user : ℕ) (s : Bytes) (q ext : ℕ) (is : isFile G user s q ext row ≡ true)
+      (new : (k : ℕ) → k < G .entries → isFile G user s q ext (entryAt G img k) ≡ false) where
     pub good-made : Good G (withEntry G img t row) map
     good-made =
         let here : entryAt G (withEntry G img t row) t ≡ row = entry-stored S img (g .image-long) t below row full in
@@ -85,8 +85,8 @@ module _ {G : Geometry} (S : Sound G) (img map : Bytes) (g : Good G img map) whe
           inv = make-inv S (entryAt G img) (entryAt G (withEntry G img t row)) (λ c. noteAt map c) (g .inv) t below was
               (λ k l n. entry-left S img (g .image-long) t below row full k l (λ z. n (sym z))) (subst (Fine G) (sym here) fine)
               (λ j l. ap (λ (r : Bytes). slotOf r j) here ∙ bare j l)
-              (λ k l u f. not-both (isFile user s q ext (entryAt G img k))
-              (sym (isFile-cong user s q ext row (entryAt G img k) (subst (λ (r : Bytes). SameFile r (entryAt G img k)) here f)) ∙ is) (new k l));
+              (λ k l u f. not-both (isFile G user s q ext (entryAt G img k))
+              (sym (isFile-cong G user s q ext row (entryAt G img k) (subst (λ (r : Bytes). SameFile r (entryAt G img k)) here f)) ∙ is) (new k l));
         }
 
   -- 19: the rows that a test picks become empty, and their blocks free

@@ -42,14 +42,14 @@ unfoldable pub erasedRow : Bytes → Bytes
 erasedRow row = set row 0 229
 
 -- the largest of 128 × extent + rc over the name's entries
-unfoldable pub sizeOf : Bytes → ℕ
-sizeOf row = extentRecords * extentOf row + countIn row (extentOf row)
+unfoldable pub sizeOf : Geometry → Bytes → ℕ
+sizeOf G row = extentRecords * extentOf row + countIn G row (extentOf row)
 
-unfoldable pub largerSize : Rows → (Bytes → Bool) → ℕ → ℕ → ℕ
-largerSize d picks size e = cond (picks (d e)) (max size (sizeOf (d e))) size
+unfoldable pub largerSize : Geometry → Rows → (Bytes → Bool) → ℕ → ℕ → ℕ
+largerSize G d picks size e = cond (picks (d e)) (max size (sizeOf G (d e))) size
 
 unfoldable pub fileSize : Geometry → Rows → (Bytes → Bool) → ℕ
-fileSize G d picks = foldBelow (largerSize d picks) 0 (G .entries)
+fileSize G d picks = foldBelow (largerSize G d picks) 0 (G .entries)
 
 module _ (G : Geometry) (s : Session) (l : Lent) where
   -- 13: the map becomes the fresh map

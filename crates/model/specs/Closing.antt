@@ -10,7 +10,7 @@ use Rattle.lists.specs.Tab.{tab}
 use Rattle.lists.specs.Fold.{foldBelow}
 use Rattle.format.specs.Diskette.{Bytes, Geometry}
 use Rattle.format.specs.Names.{sevenBits}
-use Rattle.format.specs.Entries.{entryAt, withEntry, slotCount, slotsOf, rcOf, extentOf, countIn}
+use Rattle.format.specs.Entries.{entryAt, withEntry, slotCount, slotsOf, rcOf, countOf, extentOf, countIn}
 use Rattle.format.specs.Notes.{withNote, recordedNote}
 
 -- a slot where the entry (es) has 0 and the FCB (fs) doesn't takes the FCB's block
@@ -24,19 +24,19 @@ unfoldable pub mergedSlots : Bytes → Bytes → Bytes
 mergedSlots es fs = tab slotCount (mergedSlot es fs)
 
 -- the FCB counts more records than the entry
-unfoldable pub countsMore : Bytes → Bytes → Bool
-countsMore row fcb = ltb (countIn row (extentOf fcb)) (rcOf fcb)
+unfoldable pub countsMore : Geometry → Bytes → Bytes → Bool
+countsMore G row fcb = ltb (countIn G row (extentOf fcb)) (countOf fcb)
 
 -- the entry's rc becomes the larger of the two: it is left as it is unless the FCB's is larger
-unfoldable pub closedCount : Bytes → Bytes → ℕ
-closedCount row fcb = cond (countsMore row fcb) (rcOf fcb) (rcOf row)
+unfoldable pub closedCount : Geometry → Bytes → Bytes → ℕ
+closedCount G row fcb = cond (countsMore G row fcb) (countOf fcb) (rcOf row)
 
-unfoldable pub closedRow : Bytes → Bytes → Bytes
-closedRow row fcb = splice (set row 15 (closedCount row fcb)) 16 (mergedSlots (slotsOf row) (slotsOf fcb))
+unfoldable pub closedRow : Geometry → Bytes → Bytes → Bytes
+closedRow G row fcb = splice (set row 15 (closedCount G row fcb)) 16 (mergedSlots (slotsOf row) (slotsOf fcb))
 
 -- a close changes its entry where it records a block or a larger count
-unfoldable pub closeChanges : Bytes → Bytes → Bool
-closeChanges row fcb = anyBelow (takesSlot (slotsOf row) (slotsOf fcb)) slotCount or countsMore row fcb
+unfoldable pub closeChanges : Geometry → Bytes → Bytes → Bool
+closeChanges G row fcb = anyBelow (takesSlot (slotsOf row) (slotsOf fcb)) slotCount or countsMore G row fcb
 
 -- the notes of the blocks taken become recorded
 unfoldable pub closedNote : Bytes → Bytes → Bytes → ℕ → Bytes
@@ -46,7 +46,7 @@ unfoldable pub closedMap : Bytes → Bytes → Bytes → Bytes
 closedMap row fcb map = foldBelow (closedNote (slotsOf row) (slotsOf fcb)) map slotCount
 
 unfoldable pub closedImage : Geometry → Bytes → ℕ → Bytes → Bytes
-closedImage G img e fcb = withEntry G img e (closedRow (entryAt G img e) fcb)
+closedImage G img e fcb = withEntry G img e (closedRow G (entryAt G img e) fcb)
 
 -- f5' and f6' in the FCB are cleared
 unfoldable pub closedFcb : Bytes → Bytes

@@ -9,10 +9,10 @@ use Rattle.lists.specs.Tests.{_and_, _or_}
 use Rattle.lists.specs.Below.{anyBelow}
 use Rattle.format.specs.Diskette.{Bytes, Geometry, imageBytes, recordBytes}
 use Rattle.format.specs.Names.{nameRight}
-use Rattle.format.specs.Entries.{exOf, s2Of, named, readOnly, findFile, findNamed, findEmpty}
-use Rattle.format.specs.Consistent.{consistent}
+use Rattle.format.specs.Entries.{exOf, named, readOnly, findFile, findNamed, findEmpty}
+use Rattle.format.specs.Consistent.{extentRight, consistent}
 use Rattle.format.specs.Notes.{mapRight, findFree}
-use Rattle.format.specs.Fcb.{fcbBytes, crOf, randomOf}
+use Rattle.format.specs.Fcb.{fcbBytes, crRight, randomOf}
 use Rattle.format.specs.Found.{isFound}
 use Rattle.format.specs.declared.Found.{Found}
 use Rattle.model.specs.declared.Session.{Session}
@@ -71,7 +71,7 @@ module _ (G : Geometry) (l : Lent) where
 
 -- ex, s2 and cr in range
 unfoldable pub positionRight : Bytes → Bool
-positionRight fcb = leb (exOf fcb) 31 and leb (s2Of fcb) 63 and leb (crOf fcb) 128
+positionRight fcb = extentRight fcb and crRight fcb
 
 -- ---- rows: whether one holds of the call at hand, and the code that it gives
 pub record Row : Type 0 where

@@ -6,7 +6,7 @@ use lib.Dec.{eqb, ltb}
 use lib.ListN.{set}
 use Rattle.lists.specs.Tests.{_and_, _or_}
 use Rattle.format.specs.Diskette.{Bytes, Geometry, diskRecord, recordAt, withRecord}
-use Rattle.format.specs.Entries.{entryAt, withEntry, slotOf, rcOf, extentOf, countIn, slotFor, findFile, findEmpty, readOnly}
+use Rattle.format.specs.Entries.{entryAt, withEntry, slotOf, countOf, extentOf, countIn, slotFor, findFile, findEmpty, readOnly}
 use Rattle.format.specs.Notes.{pendingFor, withNote, findFree}
 use Rattle.format.specs.Fcb.{crOf, randomOf, current}
 use Rattle.format.specs.Found.{numberOf}
@@ -68,11 +68,11 @@ module _ (G : Geometry) (n user : ℕ) (l : Lent) where
 
   -- the larger of the counts that the FCB, come there, and the entry have
   abbrev pub countAt : Found → ℕ
-  countAt (At t) = countIn (rowsOf G l t) (targetExtent n (l .fcb))
+  countAt (At t) = countIn G (rowsOf G l t) (targetExtent n (l .fcb))
   countAt Nothing = 0
 
   unfoldable pub countThere : ℕ
-  countThere = cond (stays n (l .fcb)) (max (rcOf (l .fcb)) (countAt targetEntry)) (countAt targetEntry)
+  countThere = cond (stays n (l .fcb)) (max (countOf (l .fcb)) (countAt targetEntry)) (countAt targetEntry)
 
   -- the record is there exactly when the target is below that count and its slot isn't 0
   unfoldable pub recordThere : Bool
@@ -124,11 +124,11 @@ unfoldable pub haveRead : Geometry → ℕ → ℕ → ℕ → Lent → Lent
 haveRead G b r cr l = lend (l .image) (l .map) (set (l .fcb) 32 cr) (recordAt G (l .image) (placeIn G b r))
 
 -- the slot takes the block, noted pending; the largest of the FCB's rc, the entry's and target + 1
-unfoldable pub writtenCount : Bytes → Bytes → ℕ → ℕ
-writtenCount fcb row r = max (max (rcOf fcb) (countIn row (extentOf fcb))) (r + 1)
+unfoldable pub writtenCount : Geometry → Bytes → Bytes → ℕ → ℕ
+writtenCount G fcb row r = max (max (countOf fcb) (countIn G row (extentOf fcb))) (r + 1)
 
-unfoldable pub writtenFcb : Bytes → Bytes → ℕ → ℕ → ℕ → ℕ → Bytes
-writtenFcb fcb row j b r cr = set (set (set fcb (16 + j) b) 15 (writtenCount fcb row r)) 32 cr
+unfoldable pub writtenFcb : Geometry → Bytes → Bytes → ℕ → ℕ → ℕ → ℕ → Bytes
+writtenFcb G fcb row j b r cr = set (set (set fcb (16 + j) b) 15 (writtenCount G fcb row r)) 32 cr
 
 unfoldable pub writtenMap : Bytes → Bytes → ℕ → ℕ → ℕ → Bytes
 writtenMap map fcb t j b = cond (eqb (slotOf fcb j) 0) (withNote map b (pendingFor t j)) map
@@ -137,4 +137,4 @@ writtenMap map fcb t j b = cond (eqb (slotOf fcb j) 0) (withNote map b (pendingF
 unfoldable pub haveWritten : Geometry → ℕ → ℕ → ℕ → ℕ → ℕ → Lent → Lent
 haveWritten G t j b r cr l =
     lend (withRecord G (l .image) (placeIn G b r) (l .buffer)) (writtenMap (l .map) (l .fcb) t j b)
-    (writtenFcb (l .fcb) (entryAt G (l .image) t) j b r cr) (l .buffer)
+    (writtenFcb G (l .fcb) (entryAt G (l .image) t) j b r cr) (l .buffer)

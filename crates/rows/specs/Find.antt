@@ -12,13 +12,13 @@ use Rattle.format.specs.declared.Found.the-variants.{At, Nothing}
 use Rattle.facts.specs.Found.{FirstAt, first-says, first-is-at, none-says, none-is}
 
 -- among the user's rows that cover the extent, the name decides
-pub file-by-name : (user : ℕ) (s : Bytes) (q ext : ℕ) (row : Bytes) → userOf row ≡ user → covers row ext ≡ true → isFile user s q ext row ≡ nameLike false s q row 1
+pub file-by-name : (G : Geometry) (user : ℕ) (s : Bytes) (q ext : ℕ) (row : Bytes) → userOf row ≡ user → covers G row ext ≡ true → isFile G user s q ext row ≡ nameLike false s q row 1
 unfolding isFile named
-file-by-name user s q ext row h t = and-first _ _ t ∙ and-then _ _ (eq-eqb _ _ h)
+file-by-name G user s q ext row h t = and-first _ _ t ∙ and-then _ _ (eq-eqb _ _ h)
 
 -- the test of each look-up, at an entry
-abbrev pub fileTest : Rows → ℕ → Bytes → ℕ → ℕ → ℕ → Bool
-fileTest d user s q ext e = isFile user s q ext (d e)
+abbrev pub fileTest : Geometry → Rows → ℕ → Bytes → ℕ → ℕ → ℕ → Bool
+fileTest G d user s q ext e = isFile G user s q ext (d e)
 
 abbrev pub namedTest : Rows → Bool → ℕ → Bytes → ℕ → ℕ → Bool
 namedTest d wild user s q e = named wild user s q (d e)
@@ -27,21 +27,21 @@ abbrev pub emptyTest : Rows → ℕ → Bool
 emptyTest d e = empty (d e)
 
 module _ (G : Geometry) (d : Rows) (user : ℕ) (s : Bytes) (q ext : ℕ) where
-  pub file-says : (e : ℕ) → findFile G d user s q ext ≡ At e → FirstAt (fileTest d user s q ext) 0 (G .entries) e
+  pub file-says : (e : ℕ) → findFile G d user s q ext ≡ At e → FirstAt (fileTest G d user s q ext) 0 (G .entries) e
   unfolding findFile
-  file-says e h = first-says (fileTest d user s q ext) 0 (G .entries) e h
+  file-says e h = first-says (fileTest G d user s q ext) 0 (G .entries) e h
 
-  pub file-is : (e : ℕ) → FirstAt (fileTest d user s q ext) 0 (G .entries) e → findFile G d user s q ext ≡ At e
+  pub file-is : (e : ℕ) → FirstAt (fileTest G d user s q ext) 0 (G .entries) e → findFile G d user s q ext ≡ At e
   unfolding findFile
-  file-is e f = first-is-at (fileTest d user s q ext) 0 (G .entries) e f
+  file-is e f = first-is-at (fileTest G d user s q ext) 0 (G .entries) e f
 
-  pub no-file-says : findFile G d user s q ext ≡ Nothing → (e : ℕ) → e < G .entries → isFile user s q ext (d e) ≡ false
+  pub no-file-says : findFile G d user s q ext ≡ Nothing → (e : ℕ) → e < G .entries → isFile G user s q ext (d e) ≡ false
   unfolding findFile
-  no-file-says h e l = none-says (fileTest d user s q ext) 0 (G .entries) h e (omega arith) l
+  no-file-says h e l = none-says (fileTest G d user s q ext) 0 (G .entries) h e (omega arith) l
 
-  pub no-file-is : ((e : ℕ) → e < G .entries → isFile user s q ext (d e) ≡ false) → findFile G d user s q ext ≡ Nothing
+  pub no-file-is : ((e : ℕ) → e < G .entries → isFile G user s q ext (d e) ≡ false) → findFile G d user s q ext ≡ Nothing
   unfolding findFile
-  no-file-is f = none-is (fileTest d user s q ext) 0 (G .entries) (λ e a l. f e l)
+  no-file-is f = none-is (fileTest G d user s q ext) 0 (G .entries) (λ e a l. f e l)
 
 module _ (G : Geometry) (d : Rows) (wild : Bool) (user : ℕ) (s : Bytes) (q i : ℕ) where
   pub named-says : (e : ℕ) → findNamed G d wild user s q i ≡ At e → FirstAt (namedTest d wild user s q) i (G .entries) e

@@ -70,7 +70,7 @@ pub fn extent(r: &[u8]) -> usize
 // Whether a row covers an extent.
 pub fn covers_extent(r: &[u8], ext: usize) -> bool
     requires { ⌜ entryBytes ≤ length (now r) ⌝ }
-    ensures { λ b. ⌜ b ≡ covers (now (r .entry)) ext ⌝ }
+    ensures { λ b. ⌜ b ≡ covers eightInch (now (r .entry)) ext ⌝ }
 {
     extent(r) == ext
 }
@@ -78,7 +78,7 @@ pub fn covers_extent(r: &[u8], ext: usize) -> bool
 // How many records of an extent a row or an FCB counts.
 pub fn count_in(r: &[u8], ext: usize) -> u8
     requires { ⌜ entryBytes ≤ length (now r) ⌝ }
-    ensures { λ n. ⌜ n ≡ countIn (now (r .entry)) ext ⌝ }
+    ensures { λ n. ⌜ n ≡ countIn eightInch (now (r .entry)) ext ⌝ }
 {
     r[15]
 }
@@ -119,7 +119,7 @@ pub fn is_named(wild: bool, user: u8, s: &[u8], q: usize, r: &[u8]) -> bool
 // Whether a row is the user's, of the name in s at q, and covers the extent. The name is compared last: it takes longest.
 pub fn is_file(user: u8, s: &[u8], q: usize, ext: usize, r: &[u8]) -> bool
     requires { ⌜ (q + nameBytes ≤ length (now s)) × (entryBytes ≤ length (now r)) ⌝ }
-    ensures { λ b. ⌜ b ≡ isFile user (now (s .entry)) q ext (now (r .entry)) ⌝ }
+    ensures { λ b. ⌜ b ≡ isFile eightInch user (now (s .entry)) q ext (now (r .entry)) ⌝ }
 {
     if r[0] != user {
         return false;

@@ -66,7 +66,7 @@ module _ (G : Geometry) (n user : ℕ) (l : Lent) (e : ℕ) (at : presentEntry G
     unfolding blockThere arrivedSlot
     block-by = rw (stays-by t target, target)
 
-    count-by : countThere G n user l ≡ arrivedCount (rowsOf G l) (l .fcb) e t (targetExtent n (l .fcb))
+    count-by : countThere G n user l ≡ arrivedCount G (rowsOf G l) (l .fcb) e t (targetExtent n (l .fcb))
     unfolding countThere arrivedCount
     count-by = rw (stays-by t target, target)
 
@@ -112,7 +112,7 @@ module _ (G : Geometry) (n user : ℕ) (l : Lent) where
           (later in-range (later (hit _ at) (here (miss _ q) refl)))
 
       pub read-found : (t : ℕ) → targetEntry G n user l ≡ At t
-          → readRuling G n user l ≡ readTo (rowsOf G l) (l .fcb) e t (targetExtent n (l .fcb)) (targetSlot G n (l .fcb)) (targetRecord n (l .fcb))
+          → readRuling G n user l ≡ readTo G (rowsOf G l) (l .fcb) e t (targetExtent n (l .fcb)) (targetSlot G n (l .fcb)) (targetRecord n (l .fcb))
       unfolding readRuling readRows readTo recordThere
       read-found t q =
           let chosen : Bool → Ruling = λ (x : Bool). cond x (Follow (goTo e t (blockThere G n user l))) (Refuse NoRecord) in
@@ -199,22 +199,22 @@ target-low G d map user fcb e n t q is = rw (is .at) (record-below n fcb (fcb-sa
 
 -- ---- the parts, from what the callees have answered
 module _ (d : Rows) (fcb : Bytes) (e t ext j r : ℕ) where
-  pub read-short : (x : ℕ) → x ≡ arrivedCount d fcb e t ext → x ≤ r → Refuse NoRecord ≡ readTo d fcb e t ext j r
+  pub read-short : (x : ℕ) → x ≡ arrivedCount G d fcb e t ext → x ≤ r → Refuse NoRecord ≡ readTo G d fcb e t ext j r
   unfolding readTo
   read-short x q h =
-      let f : ltb r (arrivedCount d fcb e t ext) ≡ false = rw (← q) (le-ltb r x h) in
+      let f : ltb r (arrivedCount G d fcb e t ext) ≡ false = rw (← q) (le-ltb r x h) in
       sym (ap (λ (b : Bool). cond b (Follow (goTo e t (arrivedSlot d fcb e t j))) (Refuse NoRecord)) (and-fails-left _ _ f))
 
-  pub read-empty : (b : ℕ) → b ≡ arrivedSlot d fcb e t j → b ≡ 0 → Refuse NoRecord ≡ readTo d fcb e t ext j r
+  pub read-empty : (b : ℕ) → b ≡ arrivedSlot d fcb e t j → b ≡ 0 → Refuse NoRecord ≡ readTo G d fcb e t ext j r
   unfolding readTo
   read-empty b q h =
       sym (ap (λ (b : Bool). cond b (Follow (goTo e t (arrivedSlot d fcb e t j))) (Refuse NoRecord)) (and-fails-right _ _ (ap not (eq-eqb _ _ (sym q ∙ h)))))
 
-  pub read-there : (x b : ℕ) (p : Plan) → x ≡ arrivedCount d fcb e t ext → r < x → b ≡ arrivedSlot d fcb e t j → (b ≡ 0 → ⊥)
-      → p ≡ goTo e t b → Follow p ≡ readTo d fcb e t ext j r
+  pub read-there : (x b : ℕ) (p : Plan) → x ≡ arrivedCount G d fcb e t ext → r < x → b ≡ arrivedSlot d fcb e t j → (b ≡ 0 → ⊥)
+      → p ≡ goTo e t b → Follow p ≡ readTo G d fcb e t ext j r
   unfolding readTo
   read-there x b p q h s real is =
-      let y : ltb r (arrivedCount d fcb e t ext) ≡ true = rw (← q) (lt-ltb r x h) in
+      let y : ltb r (arrivedCount G d fcb e t ext) ≡ true = rw (← q) (lt-ltb r x h) in
       ap Follow (is ∙ ap (goTo e t) s)
       ∙ sym (ap (λ (b : Bool). cond b (Follow (goTo e t (arrivedSlot d fcb e t j))) (Refuse NoRecord))
       (and-both _ _ y (ap not (ne-eqb _ _ (λ z. real (s ∙ z))))))

@@ -60,9 +60,9 @@ module _ (G : Geometry) (n user : ℕ) (l : Lent) where
 
 -- ---- the ruling once the FCB's entry is known: e
 -- reading record r of the extent, in slot j
-unfoldable pub readTo : Rows → Bytes → ℕ → ℕ → ℕ → ℕ → ℕ → Ruling
-readTo d fcb e t ext j r =
-    cond (ltb r (arrivedCount d fcb e t ext) and not (eqb (arrivedSlot d fcb e t j) 0)) (Follow (goTo e t (arrivedSlot d fcb e t j)))
+unfoldable pub readTo : Geometry → Rows → Bytes → ℕ → ℕ → ℕ → ℕ → ℕ → Ruling
+readTo G d fcb e t ext j r =
+    cond (ltb r (arrivedCount G d fcb e t ext) and not (eqb (arrivedSlot d fcb e t j) 0)) (Follow (goTo e t (arrivedSlot d fcb e t j)))
     (Refuse NoRecord)
 
 -- a look-up's answer, where it has found something, is below n

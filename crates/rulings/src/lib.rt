@@ -30,7 +30,7 @@ fn read_to(
     r: usize,
 ) -> Ruling
     requires { ⌜ (length (now image) ≡ imageBytes eightInch) × (length (now fcb) ≡ fcbBytes) × (t < eightInch .entries) × (j < slotCount) ⌝ }
-    ensures { λ o. ⌜ o ≡ readTo (entryAt eightInch (now (image .entry))) (now (fcb .entry)) e t extent j r ⌝ }
+    ensures { λ o. ⌜ o ≡ readTo eightInch (entryAt eightInch (now (image .entry))) (now (fcb .entry)) e t extent j r ⌝ }
 {
     if lists::wide(targets::arrived_count(image, fcb, e, t, extent)) <= r {
         return Ruling::Refuse(Code::NoRecord);

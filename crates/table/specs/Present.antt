@@ -47,14 +47,14 @@ module _ (G : Geometry) (d : Rows) (map : Bytes) (user : ℕ) (fcb : Bytes) (e :
 
 -- ---- an entry of a consistent directory that a file's look-up has found
 module _ (G : Geometry) (d : Rows) (user : ℕ) (s : Bytes) (q ext : ℕ) (e : ℕ) (at : findFile G d user s q ext ≡ At e) where
-  file-first : FirstAt (λ (e : ℕ). isFile user s q ext (d e)) 0 (G .entries) e
+  file-first : FirstAt (λ (e : ℕ). isFile G user s q ext (d e)) 0 (G .entries) e
   unfolding findFile
   file-first = first-says _ 0 (G .entries) e at
 
   pub file-below : e < G .entries
   file-below = file-first .below
 
-  pub file-is : isFile user s q ext (d e) ≡ true
+  pub file-is : isFile G user s q ext (d e) ≡ true
   file-is = file-first .holds
 
   pub file-user : userOf (d e) ≡ user
@@ -75,8 +75,8 @@ user-numbers G r h low =
 pub numbers-extent : (r : Bytes) → numbersRight r ≡ true → extentOf r < extents
 unfolding numbersRight extentOf
 numbers-extent r h =
-    let x : exOf r ≤ 31 = leb-true _ _ (and-left _ _ h) in
-    let y : s2Of r ≤ 63 = leb-true _ _ (and-left _ _ (and-right _ _ h)) in omega arith
+    let x : exOf r ≤ 31 = leb-true _ _ (and-left _ _ (and-left _ _ h)) in
+    let y : s2Of r ≤ 63 = leb-true _ _ (and-right _ _ (and-left _ _ h)) in omega arith
 
 pub file-extent-below : (G : Geometry) (img : Bytes) (user : ℕ) (s : Bytes) (q ext e : ℕ) → consistent G img ≡ true → user ≤ 15
     → findFile G (entryAt G img) user s q ext ≡ At e → ext < extents

@@ -4,8 +4,8 @@ use mathlib.Core.Bool.{Bool, cond}
 use Prim.Native.Nat.{ℕ, max}
 use lib.Dec.{eqb, leb}
 use Rattle.lists.specs.Tests.{_and_}
-use Rattle.format.specs.Diskette.{Bytes}
-use Rattle.format.specs.Entries.{Rows, rcOf, slotOf, countIn}
+use Rattle.format.specs.Diskette.{Bytes, Geometry}
+use Rattle.format.specs.Entries.{Rows, countOf, slotOf, countIn}
 use Rattle.model.specs.declared.Code.{Code}
 use Rattle.model.specs.declared.Code.the-variants.{NoRecord}
 use Rattle.model.specs.declared.Plan.{Plan}
@@ -32,8 +32,8 @@ missingCode n random = cond (isRandom n) random NoRecord
 unfoldable pub arrivedSlot : Rows → Bytes → ℕ → ℕ → ℕ → ℕ
 arrivedSlot d fcb e t j = cond (eqb t e) (slotOf fcb j) (slotOf (d t) j)
 
-unfoldable pub arrivedCount : Rows → Bytes → ℕ → ℕ → ℕ → ℕ
-arrivedCount d fcb e t ext = cond (eqb t e) (max (rcOf fcb) (countIn (d t) ext)) (countIn (d t) ext)
+unfoldable pub arrivedCount : Geometry → Rows → Bytes → ℕ → ℕ → ℕ → ℕ
+arrivedCount G d fcb e t ext = cond (eqb t e) (max (countOf fcb) (countIn G (d t) ext)) (countIn G (d t) ext)
 
 unfoldable pub goTo : ℕ → ℕ → ℕ → Plan
 goTo e t b = cond (eqb t e) (Stay e b) (Move e t b)

@@ -113,7 +113,7 @@ pub fn arrived_slot(image: &[u8], fcb: &[u8], e: usize, t: usize, j: usize) -> u
 // The larger of the counts that the FCB, come from entry e to entry t, and that entry have.
 pub fn arrived_count(image: &[u8], fcb: &[u8], e: usize, t: usize, extent: usize) -> u8
     requires { ⌜ (length (now image) ≡ imageBytes eightInch) × (length (now fcb) ≡ fcbBytes) × (t < eightInch .entries) ⌝ }
-    ensures { λ r. ⌜ r ≡ arrivedCount (entryAt eightInch (now (image .entry))) (now (fcb .entry)) e t extent ⌝ }
+    ensures { λ r. ⌜ r ≡ arrivedCount eightInch (entryAt eightInch (now (image .entry))) (now (fcb .entry)) e t extent ⌝ }
 {
     let count = rows::count_in(rows::row(image, t), extent);
     if t == e {

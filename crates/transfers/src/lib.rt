@@ -41,7 +41,7 @@ fn note_block(map: &mut [u16], fcb: &[u8], t: usize, j: usize, b: usize)
 // The FCB after a write of record r: the block in its slot, the largest count, and cr.
 fn set_written(fcb: &mut [u8], row: [u8; 32], j: usize, b: usize, r: usize, cr: usize)
     requires { ⌜ (length (now fcb) ≡ fcbBytes) × (j < slotCount) × (b < eightInch .blocks) × (r < extentRecords) × (cr ≤ extentRecords) ⌝ }
-    ensures { λ _. ⌜ now (fcb .exit) ≡ writtenFcb (now (fcb .entry)) row j b r cr ⌝ }
+    ensures { λ _. ⌜ now (fcb .exit) ≡ writtenFcb eightInch (now (fcb .entry)) row j b r cr ⌝ }
 {
     let count = rows::count_in(&row, rows::extent(fcb));
     let rc = targets::larger(targets::larger(fcb[15], count), (r + 1) as u8);

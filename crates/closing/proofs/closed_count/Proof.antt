@@ -2,6 +2,7 @@
 use mathlib.Core.Path.{_≡_, ap, _∙_}
 use borrow.Author.Tests.{lt-ltb, le-ltb}
 use borrow.Author.Needs.{needs}
+use Rattle.format.specs.Diskette.{eightInch}
 use Rattle.format.specs.Entries.{extentOf, countIn, rcOf}
 use Rattle.model.specs.Closing.{countsMore, closedCount}
 use Rattle.closing.proofs.closed_count.Statement.{statement}
@@ -23,8 +24,8 @@ returns : tie.Need-returns
 unfolding closedCount countsMore
 returns c =
     let a = c .before .before .before .before .before .before .before .args in
-    let n : c .before .before .before .count-in .result ≡ countIn (a .row .now) (extentOf (a .fcb .now)) = c .before .before .before .count-in .ensures ∙ ap (countIn (a .row .now)) (c .before .before .before .before .extent .ensures .0) in
-    rw (lt-ltb (countIn (a .row .now) (extentOf (a .fcb .now))) (rcOf (a .fcb .now)) (rw (← n) (c .before .if1 .taken)))
+    let n : c .before .before .before .count-in .result ≡ countIn eightInch (a .row .now) (extentOf (a .fcb .now)) = c .before .before .before .count-in .ensures ∙ ap (countIn eightInch (a .row .now)) (c .before .before .before .before .extent .ensures .0) in
+    rw (lt-ltb (countIn eightInch (a .row .now) (extentOf (a .fcb .now))) (rcOf (a .fcb .now)) (rw (← n) (c .before .if1 .taken)))
 
 shared-slice-read-result-2 : tie.Need-shared-slice-read-result-2
 shared-slice-read-result-2 c = search needs
@@ -33,8 +34,8 @@ returns-2 : tie.Need-returns-2
 unfolding closedCount countsMore
 returns-2 c =
     let a = c .before .before .before .before .before .before .before .args in
-    let n : c .before .before .before .count-in .result ≡ countIn (a .row .now) (extentOf (a .fcb .now)) = c .before .before .before .count-in .ensures ∙ ap (countIn (a .row .now)) (c .before .before .before .before .extent .ensures .0) in
-    rw (le-ltb (countIn (a .row .now) (extentOf (a .fcb .now))) (rcOf (a .fcb .now)) (rw (← n) (c .before .if1 .left)))
+    let n : c .before .before .before .count-in .result ≡ countIn eightInch (a .row .now) (extentOf (a .fcb .now)) = c .before .before .before .count-in .ensures ∙ ap (countIn eightInch (a .row .now)) (c .before .before .before .before .extent .ensures .0) in
+    rw (le-ltb (countIn eightInch (a .row .now) (extentOf (a .fcb .now))) (rcOf (a .fcb .now)) (rw (← n) (c .before .if1 .left)))
 
 pub closed-count-spec : {M : Type 1} → statement M
 closed-count-spec =

@@ -3,6 +3,7 @@ use mathlib.Core.Path.{_≡_, ap, _∙_}
 use native.Mathlib.Omega.{arith}
 use lib.ListN.{length, length-set}
 use borrow.Author.Needs.{needs}
+use Rattle.format.specs.Diskette.{eightInch}
 use Rattle.format.specs.Entries.{entryBytes, slotCount}
 use Rattle.fields.specs.Closing.{length-mergedSlots}
 use Rattle.closing.specs.Laws.{closed-row}
@@ -45,7 +46,7 @@ put-requires c κs =
 returns : tie.Need-returns
 returns c =
     let a = c .before .before .before .before .before .before .before .before .before .before .before .args in
-    closed-row (a .t1) (a .fcb .now) (c .before .before .before .before .before .before .before .before .slots .result) (c .before .before .before .before .before .before .before .slots2 .result) (c .before .before .before .before .before .before .merge .result) (c .before .put .last .0) (c .before .before .before .before .closed-count .result)
+    closed-row eightInch (a .t1) (a .fcb .now) (c .before .before .before .before .before .before .before .before .slots .result) (c .before .before .before .before .before .before .before .slots2 .result) (c .before .before .before .before .before .before .merge .result) (c .before .put .last .0) (c .before .before .before .before .closed-count .result)
     (c .before .before .before .before .before .before .before .before .slots .ensures) (c .before .before .before .before .before .before .before .slots2 .ensures) (c .before .before .before .before .before .before .merge .ensures) (c .before .before .before .before .closed-count .ensures) (c .before .put .ensures)
 
 pub closed-row-spec : {M : Type 1} → statement M

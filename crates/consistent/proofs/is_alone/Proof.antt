@@ -13,7 +13,7 @@ use Rattle.consistent.proofs.is_alone.Statement.{statement}
 use Rattle.consistent.proofs.is_alone.Tie as tie
 
 abbrev Inv-loop : tie.InvT-loop
-Inv-loop image e links r f₀ f = Walk (entryAt eightInch image) e f
+Inv-loop image e links r f₀ f = Walk eightInch (entryAt eightInch image) e f
 
 abbrev μ-loop : tie.MeasureT-loop
 μ-loop image e links r f₀ f = f
@@ -28,7 +28,7 @@ wide-requires : tie.Need-wide-requires Inv-loop μ-loop
 wide-requires c κs = search needs
 
 loop-holds : tie.Need-loop-holds Inv-loop μ-loop
-loop-holds c = let a = c .before .before .before .before .before in rw (c .wide .ensures .0) (walk-start (entryAt eightInch (a .args .image .now)) (a .args .e) (a .args .links .now) (a .pre .3) (a .pre .4))
+loop-holds c = let a = c .before .before .before .before .before in rw (c .wide .ensures .0) (walk-start eightInch (entryAt eightInch (a .args .image .now)) (a .args .e) (a .args .links .now) (a .pre .3) (a .pre .4))
 
 sub-row : tie.Need-sub-row Inv-loop μ-loop
 sub-row c = omega arith
@@ -37,10 +37,10 @@ row-requires-2 : tie.Need-row-requires-2 Inv-loop μ-loop
 row-requires-2 c κs = search needs
 
 same-file-requires : tie.Need-same-file-requires Inv-loop μ-loop
-same-file-requires c κs = let a = c .before .before .before .before .before .before .before .before in let b = c .before .before in (omega arith, omega arith, rw (c .before .before .before .before .before .row .ensures .0) (a .pre .3), rw (c .row2 .ensures .0) (walk-used (entryAt eightInch (a .args .image .now)) (a .args .e) (b .loop .f) (b .loop .inv) (omega arith)))
+same-file-requires c κs = let a = c .before .before .before .before .before .before .before .before in let b = c .before .before in (omega arith, omega arith, rw (c .before .before .before .before .before .row .ensures .0) (a .pre .3), rw (c .row2 .ensures .0) (walk-used eightInch (entryAt eightInch (a .args .image .now)) (a .args .e) (b .loop .f) (b .loop .inv) (omega arith)))
 
 returns : tie.Need-returns Inv-loop μ-loop
-returns c = let a = c .before .before .before .before .before .before .before .before .before .before in let b = c .before .before .before .before in let d = entryAt eightInch (a .args .image .now) in let h : sameFile (d (a .args .e)) (d (b .loop .f - 1)) ≡ true = cc in sym (walk-hit d (a .args .e) (b .loop .f) (b .loop .inv) (omega arith) h)
+returns c = let a = c .before .before .before .before .before .before .before .before .before .before in let b = c .before .before .before .before in let d = entryAt eightInch (a .args .image .now) in let h : sameFile eightInch (d (a .args .e)) (d (b .loop .f - 1)) ≡ true = cc in sym (walk-hit eightInch d (a .args .e) (b .loop .f) (b .loop .inv) (omega arith) h)
 
 sub-wide : tie.Need-sub-wide Inv-loop μ-loop
 sub-wide c = omega arith
@@ -52,13 +52,13 @@ wide-requires-2 : tie.Need-wide-requires-2 Inv-loop μ-loop
 wide-requires-2 c κs = search needs
 
 loop-less : tie.Need-loop-less Inv-loop μ-loop
-loop-less c = let a = c .before .before .before .before .before .before .before .before .before .before .before .before in let b = c .before .before .before .before .before .before in omega (arith, walk-less (entryAt eightInch (a .args .image .now)) (a .args .e) (b .loop .f) (a .args .links .now) (a .pre .4) (b .loop .inv) (omega arith))
+loop-less c = let a = c .before .before .before .before .before .before .before .before .before .before .before .before in let b = c .before .before .before .before .before .before in omega (arith, walk-less eightInch (entryAt eightInch (a .args .image .now)) (a .args .e) (b .loop .f) (a .args .links .now) (a .pre .4) (b .loop .inv) (omega arith))
 
 loop-again : tie.Need-loop-again Inv-loop μ-loop
-loop-again c = let a = c .before .before .before .before .before .before .before .before .before .before .before .before in let b = c .before .before .before .before .before .before in let d = entryAt eightInch (a .args .image .now) in let h : sameFile (d (a .args .e)) (d (b .loop .f - 1)) ≡ false = cc in rw (c .wide2 .ensures .0) (walk-more d (a .args .e) (b .loop .f) (a .args .links .now) (a .pre .4) (b .loop .inv) (omega arith) h)
+loop-again c = let a = c .before .before .before .before .before .before .before .before .before .before .before .before in let b = c .before .before .before .before .before .before in let d = entryAt eightInch (a .args .image .now) in let h : sameFile eightInch (d (a .args .e)) (d (b .loop .f - 1)) ≡ false = cc in rw (c .wide2 .ensures .0) (walk-more eightInch d (a .args .e) (b .loop .f) (a .args .links .now) (a .pre .4) (b .loop .inv) (omega arith) h)
 
 returns-2 : tie.Need-returns-2 Inv-loop μ-loop
-returns-2 c = let a = c .before .before .before .before .before .before .before in let b = c .before in sym (walk-end (entryAt eightInch (a .args .image .now)) (a .args .e) (b .loop .f) (b .loop .inv) (omega arith))
+returns-2 c = let a = c .before .before .before .before .before .before .before in let b = c .before in sym (walk-end eightInch (entryAt eightInch (a .args .image .now)) (a .args .e) (b .loop .f) (b .loop .inv) (omega arith))
 
 pub is-alone-spec : {M : Type 1} → statement M
 is-alone-spec =

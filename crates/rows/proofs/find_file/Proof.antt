@@ -13,14 +13,14 @@ use Rattle.rows.proofs.find_file.Statement.{statement}
 use Rattle.rows.proofs.find_file.Tie as tie
 
 abbrev Inv-loop : tie.InvT-loop
-Inv-loop image user s q ext e₀ e = firstIn (fileTest (entryAt eightInch image) user s q ext) e (eightInch .entries) ≡ firstIn (fileTest (entryAt eightInch image) user s q ext) 0 (eightInch .entries)
+Inv-loop image user s q ext e₀ e = firstIn (fileTest eightInch (entryAt eightInch image) user s q ext) e (eightInch .entries) ≡ firstIn (fileTest eightInch (entryAt eightInch image) user s q ext) 0 (eightInch .entries)
 
 abbrev μ-loop : tie.MeasureT-loop
 μ-loop image user s q ext e₀ e = eightInch .entries - e
 
 -- the test at each entry
 abbrev test : tie.Start Inv-loop μ-loop → ℕ → Bool
-test c = let a = c .args in fileTest (entryAt eightInch (a .image .now)) (a .user) (a .s .now) (a .q) (a .ext)
+test c = let a = c .args in fileTest eightInch (entryAt eightInch (a .image .now)) (a .user) (a .s .now) (a .q) (a .ext)
 
 loop-holds : tie.Need-loop-holds Inv-loop μ-loop
 loop-holds c = refl

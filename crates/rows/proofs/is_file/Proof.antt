@@ -4,6 +4,7 @@ use mathlib.Core.Bool.{true, false}
 use borrow.Author.Tests.{ne-eqb, not-true, not-false}
 use Rattle.lists.specs.Tests.{and-fails-left, and-fails-right}
 use Rattle.rows.specs.Find.{file-by-name}
+use Rattle.format.specs.Diskette.{eightInch}
 use Rattle.format.specs.Entries.{named, isFile}
 use borrow.Author.Needs.{needs}
 use Rattle.rows.proofs.is_file.Statement.{statement}
@@ -31,7 +32,7 @@ returns-3 c =
     let b = c .before .before in
     let a = b .before .before .before .before .before .args in
     let t : b .covers-extent .result ≡ true = not-false _ (c .before .if2 .left) in
-    rw (file-by-name (a .user) (a .s .now) (a .q) (a .ext) (a .r .now) (b .before .if1 .left) (sym (b .covers-extent .ensures) ∙ t)) (c .name-like .ensures)
+    rw (file-by-name eightInch (a .user) (a .s .now) (a .q) (a .ext) (a .r .now) (b .before .if1 .left) (sym (b .covers-extent .ensures) ∙ t)) (c .name-like .ensures)
 
 pub is-file-spec : {M : Type 1} → statement M
 is-file-spec =
