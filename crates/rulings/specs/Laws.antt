@@ -198,7 +198,7 @@ pub target-low : (G : Geometry) (d : Rows) (map : Bytes) (user : ℕ) (fcb : Byt
 target-low G d map user fcb e n t q is = rw (is .at) (record-below n fcb (fcb-says fcb (current-says G d map user fcb e q .right) .cr))
 
 -- ---- the parts, from what the callees have answered
-module _ (d : Rows) (fcb : Bytes) (e t ext j r : ℕ) where
+module _ (G : Geometry) (d : Rows) (fcb : Bytes) (e t ext j r : ℕ) where
   pub read-short : (x : ℕ) → x ≡ arrivedCount G d fcb e t ext → x ≤ r → Refuse NoRecord ≡ readTo G d fcb e t ext j r
   unfolding readTo
   read-short x q h =
