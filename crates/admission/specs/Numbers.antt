@@ -8,7 +8,7 @@ use borrow.Author.Tests.{le-leb, lt-leb, ne-eqb}
 use Rattle.lists.specs.Cases.{clash}
 use Rattle.lists.specs.Tests.{_and_, _or_, and-both, and-fails-left, and-fails-right, or-left, or-right, or-then}
 use Rattle.lists.specs.Below.{allBelow, all-at}
-use Rattle.model.specs.Table.{oneOf, usesFcb, isListed, plainCalls}
+use Rattle.model.specs.Table.{oneOf, usesFcb, isCall, plainCalls}
 
 same : Bool → Bool → Bool
 same true b = b
@@ -59,19 +59,19 @@ module _ (n : ℕ) (byte : n < 256) where
   uses-none a b c =
       uses-ranges n byte ∙ or-then _ _ (not-between 15 17 n a) ∙ or-then _ _ (not-between 19 23 n b) ∙ not-between 33 36 n c
 
--- ---- listed numbers
-pub listed-fcb : (n : ℕ) → usesFcb n ≡ true → isListed n ≡ true
-unfolding isListed
-listed-fcb n u = or-left _ _ u
+-- ---- numbers of calls
+pub call-fcb : (n : ℕ) → usesFcb n ≡ true → isCall n ≡ true
+unfolding isCall
+call-fcb n u = or-left _ _ u
 
-pub listed-plain : (n : ℕ) → oneOf n plainCalls ≡ true → isListed n ≡ true
-unfolding isListed
-listed-plain n u = or-right _ _ u
+pub call-plain : (n : ℕ) → oneOf n plainCalls ≡ true → isCall n ≡ true
+unfolding isCall
+call-plain n u = or-right _ _ u
 
 -- of the numbers that don't use the FCB the last decides
-pub listed-last : (n : ℕ) → usesFcb n ≡ false → (n ≡ 13 → ⊥) → (n ≡ 18 → ⊥) → (n ≡ 32 → ⊥) → (n ≡ 46 → ⊥) → isListed n ≡ eqb n 98
-unfolding isListed oneOf _or_
-listed-last n u a b c d = rw (u, ne-eqb n 13 a, ne-eqb n 18 b, ne-eqb n 32 c, ne-eqb n 46 d) (last (eqb n 98))
+pub call-last : (n : ℕ) → usesFcb n ≡ false → (n ≡ 13 → ⊥) → (n ≡ 18 → ⊥) → (n ≡ 32 → ⊥) → (n ≡ 46 → ⊥) → isCall n ≡ eqb n 98
+unfolding isCall oneOf _or_
+call-last n u a b c d = rw (u, ne-eqb n 13 a, ne-eqb n 18 b, ne-eqb n 32 c, ne-eqb n 46 d) (last (eqb n 98))
   where
     last : (t : Bool) → (t or false) ≡ t
     last true = refl

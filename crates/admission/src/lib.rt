@@ -4,7 +4,7 @@ ghost use Prim.Native.Nat.{_≤_};
 ghost use lib.ListN.{length};
 ghost use Rattle.format.specs.Diskette.{eightInch};
 ghost use Rattle.model.specs.Lent.{lend};
-ghost use Rattle.model.specs.Table.{usesFcb, isListed, lengthsRight, parametersRight};
+ghost use Rattle.model.specs.Table.{usesFcb, isCall, lengthsRight, parametersRight};
 use model::Session;
 
 // Whether a call uses the FCB.
@@ -18,8 +18,8 @@ fn uses_fcb(number: u8) -> bool
 }
 
 // Whether there is a call of this number.
-pub fn is_listed(number: u8) -> bool
-    ensures { λ r. ⌜ r ≡ isListed number ⌝ }
+pub fn is_call(number: u8) -> bool
+    ensures { λ r. ⌜ r ≡ isCall number ⌝ }
 {
     if uses_fcb(number) {
         return true;

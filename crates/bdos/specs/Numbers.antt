@@ -8,7 +8,7 @@ use lib.Dec.{eqb}
 use borrow.Author.Tests.{eqb-true, eq-eqb, ne-eqb}
 use Rattle.lists.specs.Cases.{split, clash}
 use Rattle.lists.specs.Tests.{_or_, or-left, or-then, or-first, or-cases, or-neither}
-use Rattle.model.specs.Table.{isListed, oneOf}
+use Rattle.model.specs.Table.{isCall, oneOf}
 use Rattle.table.specs.Own.{Call, call13, call15, call16, call17, call18, call19, call20, call21, call22, call23, call32, call33, call34, call35, call36, call46, call98, call-of}
 
 abbrev pub readCalls : List ℕ
@@ -80,8 +80,8 @@ own-listed call36 h = refl
 own-listed call46 h = refl
 own-listed call98 h = refl
 
-pub listed-own : (n : ℕ) → isListed n ≡ true → (n ≡ 13 → ⊥) → oneOf n ownCalls ≡ true
-listed-own n t h = own-listed (call-of n t) h
+pub call-own : (n : ℕ) → isCall n ≡ true → (n ≡ 13 → ⊥) → oneOf n ownCalls ≡ true
+call-own n t h = own-listed (call-of n t) h
 
 pub not-log-in : (n : ℕ) → oneOf n ownCalls ≡ true → n ≡ 13 → ⊥
 unfolding oneOf _or_

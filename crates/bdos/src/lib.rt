@@ -161,7 +161,7 @@ pub fn call(
         ≡ step eightInch asked (lend (now (image .entry)) (now (map .entry)) (now (fcb .entry)) (now (buffer .entry))) session ⌝ }
 {
     let number = asked.number;
-    if !admission::is_listed(number) {
+    if !admission::is_call(number) {
         return answers::refuse(Code::NotListed, session);
     }
     if !admission::parameters_right(number, image, map, fcb, buffer, session) {

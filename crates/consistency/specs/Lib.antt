@@ -1,4 +1,3 @@
 pub mod Facts
 pub mod Listed
 pub mod Reflect
-pub mod Slots

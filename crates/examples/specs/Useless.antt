@@ -19,7 +19,7 @@ use Rattle.model.specs.declared.Code.{Code}
 use Rattle.model.specs.declared.Code.the-variants.{Accepted, NotListed, BadParameter, BadDisk, BadRecord, NotCurrent, Failed, BadName, SearchOver, ReadOnly, Exists, NotClosed, NoExtent, NoRecord, NoEntry, DiskFull}
 use Rattle.model.specs.Codes.{aOf}
 use Rattle.model.specs.Lent.{Lent, lend, Outcome, ends, ended}
-use Rattle.model.specs.Table.{oneOf, usesFcb, isListed}
+use Rattle.model.specs.Table.{oneOf, usesFcb, isCall}
 use Rattle.model.specs.Calls.{done}
 use Rattle.model.specs.Step.{refused, step}
 use Rattle.table.specs.Own.{verdict-unlisted}
@@ -176,7 +176,7 @@ module _ (img : Bytes) (erased : Erased eightInch img) where
 
   -- call 0 is not listed
   unlisted-answers : (l : Lent) (s : Session) → step eightInch (ask 0 0) l s .answer .a ≡ 255
-  unfolding isListed usesFcb oneOf _or_ aOf
+  unfolding isCall usesFcb oneOf _or_ aOf
   unlisted-answers l s = total-refused eightInch (ask 0 0) l s NotListed (verdict-unlisted eightInch 0 l s 0 refl) .is-a
 
   pub fixed-falls : (a : ℕ) (b : Build) → AnswersFixed a b → Falls b

@@ -1,12 +1,10 @@
 -- Every number below a bound passes a test; some number does; the first that does, and the last. The definitions peel at the number that a loop
 -- counts, so a turn of the loop is one law.
-use mathlib.Core.Path.{_≡_, refl, ap, sym, _∙_}
+use mathlib.Core.Path.{_≡_, refl, sym, _∙_}
 use mathlib.Core.Bool.{Bool, true, false, cond}
 use Prim.Native.Nat.{ℕ, zero, suc, _+_, _-_, _≤_, _<_}
 use native.Mathlib.Numerals.{add-one}
 use native.Mathlib.Omega.{arith}
-use lib.Dec.{eqb}
-use borrow.Author.Tests.{eq-eqb, eqb-true}
 use Rattle.lists.specs.Cases.{split, bool-cases, bool-ext, lt-or-le, not-both, clash}
 use Rattle.lists.specs.Tests.{_and_, _or_, and-left, and-right, and-both, or-left, or-right, or-first}
 
@@ -115,14 +113,6 @@ pub any-cong : (p q : ℕ → Bool) (n : ℕ) → ((k : ℕ) → k < n → p k �
 unfolding anyBelow
 any-cong p q zero f = refl
 any-cong p q (suc n) f = rw (any-cong p q n (λ k h. f k (omega arith)), f n (omega arith))
-
--- some number that is e
-pub any-one : (p : ℕ → Bool) (n e : ℕ) → e < n → anyBelow (λ (k : ℕ). eqb k e and p k) n ≡ p e
-any-one p n e h =
-    bool-ext (anyBelow (λ (k : ℕ). eqb k e and p k) n) (p e)
-    (λ t. let s = any-some (λ (k : ℕ). eqb k e and p k) n t in
-    let q : s .place ≡ e = eqb-true _ _ (and-left _ _ (s .holds)) in ap p (sym q) ∙ and-right _ _ (s .holds))
-    (λ t. any-at (λ (k : ℕ). eqb k e and p k) n e h (and-both _ _ (eq-eqb e e refl) t))
 
 pub any-more : (p : ℕ → Bool) (i : ℕ) → anyBelow p i ≡ false → p i ≡ false → anyBelow p (i + 1) ≡ false
 any-more p i e f = any-next p i ∙ or-first _ _ f ∙ e

@@ -39,8 +39,9 @@ plainCalls = 13 ∷ 18 ∷ 32 ∷ 46 ∷ 98 ∷ []
 unfoldable pub usesFcb : ℕ → Bool
 usesFcb n = oneOf n fcbCalls
 
-unfoldable pub isListed : ℕ → Bool
-isListed n = usesFcb n or oneOf n plainCalls
+-- there is a call of this number
+unfoldable pub isCall : ℕ → Bool
+isCall n = usesFcb n or oneOf n plainCalls
 
 -- ---- the tests
 module _ (G : Geometry) (l : Lent) where
@@ -94,7 +95,7 @@ module _ (G : Geometry) (n argument : ℕ) (l : Lent) (s : Session) where
   unfoldable pub table : List Row
   table =
       -- 255, 255
-      every (not (isListed n)) NotListed
+      every (not (isCall n)) NotListed
       -- 255, 4
       ∷ every (not (parametersRight G l n s)) BadParameter
       -- 255, 1

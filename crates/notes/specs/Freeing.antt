@@ -35,7 +35,3 @@ unheldMap G picked map = tab (G .blocks) (λ (b : ℕ). unheldNote picked (noteA
 -- an entry is picked where its mark is not 0
 unfoldable pub marksPick : Bytes → ℕ → Bool
 marksPick marks e = not (eqb (getD marks e 0) 0)
-
--- one entry's blocks, and those that are pending for it, become free
-unfoldable pub freedEntry : Geometry → ℕ → Bytes → Bytes → Bytes
-freedEntry G e slots map = unheldMap G (λ (f : ℕ). eqb f e) (unlistedMap G slots map)

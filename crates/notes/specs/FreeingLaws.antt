@@ -4,13 +4,11 @@ use mathlib.Core.Bool.{Bool, true, false, not, cond}
 use Prim.Native.Nat.{ℕ, _+_, _*_, _/_, _%_, _<_}
 use native.Mathlib.Omega.{arith}
 use lib.Dec.{eqb}
-use lib.ListN.{length, getD, set, replicate, getD-replicate, length-replicate, List·getD-eq-default}
-use lib.Seq.{getD-set-same, getD-set-other}
+use lib.ListN.{length, getD}
 use borrow.Author.Tests.{eq-eqb, ne-eqb, eqb-true, eqb-false, not-true}
-use Rattle.lists.specs.Cases.{split, bool-cases, bool-ext, cond-either, lt-or-le, eq-or-ne}
+use Rattle.lists.specs.Cases.{split, bool-cases, bool-ext, cond-either, eq-or-ne}
 use Rattle.lists.specs.Tests.{_and_, _or_, and-left, and-right, and-both, and-then, and-fails-left, and-fails-right, or-left, or-right, or-first, cond-or}
-use Rattle.lists.specs.Below.{anyBelow, any-none, any-next, any-at, any-some, any-one}
-use Rattle.lists.specs.Fold.{foldBelow, fold-builds}
+use Rattle.lists.specs.Below.{anyBelow, any-none, any-next, any-at, any-some}
 use Rattle.lists.specs.Tab.{tab, length-tab, getD-tab, tab-cong, tab-getD}
 use Rattle.format.specs.Diskette.{Bytes, Geometry}
 use Rattle.format.specs.Entries.{Rows, used, slotCount, slotsOf}
@@ -18,24 +16,10 @@ use Rattle.format.specs.Consistent.{listed, slotsInAll}
 use Rattle.consistency.specs.Facts.{Stands}
 use Rattle.consistency.specs.Listed.{stands-at, stands-place, stands-listed}
 use Rattle.facts.specs.Slots.{getD-slotsOf}
-use Rattle.format.specs.Notes.{freeNote, noteAt, withNote, pendingEntry, heldFor, listedBy, releasedNote, releasedMap}
+use Rattle.format.specs.Notes.{freeNote, noteAt, withNote, heldFor, listedBy, releasedNote, releasedMap}
 use Rattle.notes.specs.Numbers.{settled-not}
 use Rattle.notes.specs.Changes.{length-note, note-same, note-other}
-use Rattle.notes.specs.Freeing.{inSlots, unlistedNote, unlistedMap, unlistedSlot, unheldNote, unheldMap, marksPick, freedEntry}
-
--- ---- marks that pick
--- one mark picks one entry
-pub one-marked : (n e f : ℕ) → e < n → marksPick (set (replicate {A = ℕ} n 0) e 1) f ≡ eqb f e
-unfolding marksPick
-one-marked n e f h =
-    let l : length (replicate {A = ℕ} n 0) ≡ n = length-replicate n 0 in
-    split (eq-or-ne f e)
-    (λ q. let z : getD (set (replicate {A = ℕ} n 0) e 1) e 0 ≡ 1 = getD-set-same (replicate {A = ℕ} n 0) e 1 0 (omega arith) in
-    rw (q, z) (sym (eq-eqb e e refl)))
-    (λ q. let y : getD (set (replicate {A = ℕ} n 0) e 1) f 0 ≡ getD (replicate {A = ℕ} n 0) f 0 = getD-set-other (replicate {A = ℕ} n 0) e f 1 0 q in
-    let z : getD (replicate {A = ℕ} n 0) f 0 ≡ 0 =
-    split (lt-or-le f n) (λ w. getD-replicate n f 0 0 w) (λ w. List·getD-eq-default (replicate n 0) 0 (omega arith)) in
-    rw (y, z) (sym (ne-eqb f e q)))
+use Rattle.notes.specs.Freeing.{inSlots, unlistedNote, unlistedMap, unlistedSlot, unheldNote, unheldMap}
 
 -- ---- a map whose notes are as they were, but free at the blocks that pass p
 pub record Freed (p : ℕ → Bool) (old map : Bytes) : Type 0 where
@@ -123,10 +107,6 @@ pub unheld-freed : (G : Geometry) (picked : ℕ → Bool) (map : Bytes) → leng
 unfolding unheldMap unheldNote
 unheld-freed G picked map l = freed-tab (G .blocks) (λ (b : ℕ). heldFor picked (noteAt map b)) map l
 
-pub unheld-cong : (G : Geometry) (p q : ℕ → Bool) (map : Bytes) → ((e : ℕ) → p e ≡ q e) → unheldMap G p map ≡ unheldMap G q map
-unfolding unheldMap unheldNote heldFor
-unheld-cong G p q map f = tab-cong (G .blocks) _ _ (λ b h. rw (f (pendingEntry (noteAt map b))))
-
 -- a free note is not held
 pub free-unheld : (picked : ℕ → Bool) → heldFor picked freeNote ≡ false
 unfolding heldFor
@@ -205,33 +185,6 @@ module _ (G : Geometry) (d : Rows) (picked : ℕ → Bool) (sure : (e : ℕ) →
           (λ t. or-left _ _ t ∙ sym (or-left _ _ (sym (entries-listed b) ∙ t)))
           (λ f. let q : noteAt map b ≡ cond (inEntries d picked (G .entries) b) freeNote (noteAt old b) = u .note b h in
           let k : noteAt map b ≡ noteAt old b = rw f at q in rw (k, entries-listed b))
-
--- the slots of each picked entry below i freed, one entry after the other
-unfoldable pub unlistedEntries : Geometry → Rows → (ℕ → Bool) → Bytes → ℕ → Bytes
-unlistedEntries G d picked map i = foldBelow (λ (m : Bytes) (e : ℕ). cond (picked e) (unlistedMap G (slotsOf (d e)) m) m) map i
-
-pub released-many : (G : Geometry) (d : Rows) (picked : ℕ → Bool) (map : Bytes) → length map ≡ G .blocks
-    → ((e : ℕ) → e < G .entries → picked e ≡ true → used (d e) ≡ true)
-    → unheldMap G picked (unlistedEntries G d picked map (G .entries)) ≡ releasedMap G d picked map
-unfolding unlistedEntries
-released-many G d picked map l sure =
-    entries-released G d picked sure map (unlistedEntries G d picked map (G .entries)) l
-    (fold-builds (λ (i : ℕ) (m : Bytes). Freed (inEntries d picked i) map m) (λ (m : Bytes) (e : ℕ). cond (picked e) (unlistedMap G (slotsOf (d e)) m) m) map (G .entries)
-    (entries-none d picked map)
-    (λ i m h u. cond-either (Freed (inEntries d picked (i + 1)) map) (picked i)
-    (λ t. entries-more d picked G map m i l t u) (λ f. entries-kept d picked map m i f u)))
-
--- one entry
-pub released-one : (G : Geometry) (d : Rows) (e : ℕ) (map : Bytes) → length map ≡ G .blocks → e < G .entries → used (d e) ≡ true
-    → freedEntry G e (slotsOf (d e)) map ≡ releasedMap G d (λ (f : ℕ). eqb f e) map
-unfolding freedEntry inEntries
-released-one G d e map l h t =
-    entries-released G d (λ (f : ℕ). eqb f e) (λ f k q. ap (λ (m : ℕ). used (d m)) (eqb-true f e q) ∙ t) map (unlistedMap G (slotsOf (d e)) map) l
-    (freed-cong (inSlots (slotsOf (d e)) slotCount) (inEntries d (λ (f : ℕ). eqb f e) (G .entries))
-    (λ b k. sym (one-listed b)) (unlisted-freed G (slotsOf (d e)) map l))
-  where
-    one-listed : (b : ℕ) → inEntries d (λ (f : ℕ). eqb f e) (G .entries) b ≡ inSlots (slotsOf (d e)) slotCount b
-    one-listed b = any-one (λ (f : ℕ). inSlots (slotsOf (d f)) slotCount b) (G .entries) e h
 
 -- ---- the released map, note by note
 pub length-released : (G : Geometry) (d : Rows) (picked : ℕ → Bool) (map : Bytes) → length (releasedMap G d picked map) ≡ G .blocks

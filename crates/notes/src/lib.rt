@@ -6,7 +6,7 @@ ghost use Rattle.format.specs.Diskette.{eightInch};
 ghost use Rattle.format.specs.Entries.{Rows, slotCount};
 ghost use Rattle.facts.specs.Marks.{Marked, UsersMarked, markCount};
 ghost use Rattle.format.specs.Notes.{noteAt, pendingFor, withNote, findFree, freeCount, settledNote, freedMap, freshNote, freshMap, heldFor, noteRight, mapRight};
-ghost use Rattle.notes.specs.Freeing.{unlistedSlot, unlistedMap, unheldNote, unheldMap, marksPick, freedEntry};
+ghost use Rattle.notes.specs.Freeing.{unlistedSlot, unlistedMap, unheldNote, unheldMap, marksPick};
 use format::Found;
 
 // The numbers of notes. From PENDING on, each entry has PLACES of them, one for each of its slots.
@@ -223,15 +223,4 @@ pub fn free_held(map: &mut [u16], picked: &[u8])
         set_note(map, b, n);
         b += 1;
     }
-}
-
-// The blocks of one entry, and those that are pending for it, become free.
-pub fn free_entry(map: &mut [u16], e: usize, slots: [u8; 16])
-    requires { ⌜ (length (now map) ≡ eightInch .blocks) × (e < eightInch .entries) ⌝ }
-    ensures { λ _. ⌜ now (map .exit) ≡ freedEntry eightInch e slots (now (map .entry)) ⌝ }
-{
-    let mut picked = [0u8; format::ENTRIES];
-    picked[e] = 1;
-    free_slots(map, slots);
-    free_held(map, &picked);
 }

@@ -18,7 +18,7 @@ use Rattle.model.specs.declared.Code.the-variants.{NotListed}
 use Rattle.model.specs.declared.Verdict.the-variants.{Passed}
 use Rattle.model.specs.Lent.{Lent}
 use Rattle.model.specs.Target.{extents, isRandom, targetExtent, presentEntry, targetEntry, recordThere, blockThere}
-use Rattle.model.specs.Table.{isListed, parametersRight, diskRight, verdict}
+use Rattle.model.specs.Table.{isCall, parametersRight, diskRight, verdict}
 use Rattle.table.specs.First.{_&_, NoneHolds, passed-none, none-passed, passed-refused}
 use Rattle.table.specs.Own.{Call, call13, call15, call16, call17, call18, call19, call20, call21, call22, call23, call32, call33, call34, call35, call36, call46, call98, call-of, ownRows, rowsFor, verdict-rows, verdict-unlisted}
 use Rattle.table.specs.Present.{there-target, file-extent-below}
@@ -133,13 +133,13 @@ module _ (G : Geometry) (l : Lent) (s : Session) where
 
 -- ---- the table
 module _ (G : Geometry) (n argument : ℕ) (l : Lent) (s : Session) where
-  pub passed-listed : verdict G n argument l s ≡ Passed → isListed n ≡ true
-  passed-listed q =
-      split (bool-cases (isListed n)) (λ t. t) (λ f. passed-refused NotListed (sym q ∙ verdict-unlisted G argument l s n f))
+  pub passed-call : verdict G n argument l s ≡ Passed → isCall n ≡ true
+  passed-call q =
+      split (bool-cases (isCall n)) (λ t. t) (λ f. passed-refused NotListed (sym q ∙ verdict-unlisted G argument l s n f))
 
   pub passed-ready : verdict G n argument l s ≡ Passed → Ready G n l s
   passed-ready q =
-      let c = call-of n (passed-listed q) in
+      let c = call-of n (passed-call q) in
       let none = passed-none (rowsFor G argument l s c) (sym (verdict-rows G argument l s c) ∙ q) in
       ready-of G n l s (not-false (parametersRight G l n s) (none .0)) (not-false (diskRight G l n) (none .1 .0))
 
@@ -152,7 +152,7 @@ module _ (G : Geometry) (n argument : ℕ) (l : Lent) (s : Session) where
   -- a passed table taken apart
   pub accepted : verdict G n argument l s ≡ Passed → AcceptedCall G n argument l s
   accepted q =
-      let c = call-of n (passed-listed q) in
+      let c = call-of n (passed-call q) in
       record { call = c; ready = passed-ready q; own = passed-own c q }
 
   -- a call whose facts hold is passed

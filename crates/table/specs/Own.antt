@@ -20,7 +20,7 @@ use Rattle.model.specs.declared.Verdict.the-variants.{Refused}
 use Rattle.model.specs.Lent.{Lent, rowsOf, searchOn}
 use Rattle.model.specs.Target.{extents, targetExtent, stays, presentEntry, targetEntry, blockThere, recordThere, readOnlyThere}
 use Rattle.model.specs.Search.{patternOf, findHit}
-use Rattle.model.specs.Table.{oneOf, fcbCalls, plainCalls, usesFcb, isListed, parametersRight, diskRight, anyNamed, askedEntry, anyReadOnly, positionRight, Row, firstRow, table, verdict}
+use Rattle.model.specs.Table.{oneOf, fcbCalls, plainCalls, usesFcb, isCall, parametersRight, diskRight, anyNamed, askedEntry, anyReadOnly, positionRight, Row, firstRow, table, verdict}
 use Rattle.table.specs.First.{_&_}
 
 -- the calls
@@ -54,32 +54,32 @@ at-one P n [] h x = clash (sym h)
 at-one P n (c ∷ cs) h x =
     split (or-cases (eqb n c) (oneOf n cs) h) (λ e. subst P (sym (eqb-true n c e)) (x .0)) (λ e. at-one P n cs e (x .1))
 
-pub call-of : (n : ℕ) → isListed n ≡ true → Call n
-unfolding isListed usesFcb
+pub call-of : (n : ℕ) → isCall n ≡ true → Call n
+unfolding isCall usesFcb
 call-of n h =
     split (or-cases (oneOf n fcbCalls) (oneOf n plainCalls) h)
     (λ e. at-one Call n fcbCalls e (call15 & call16 & call17 & call19 & call20 & call21 & call22 & call23 & call33 & call34 & call35 & call36 & tt))
     (λ e. at-one Call n plainCalls e (call13 & call18 & call32 & call46 & call98 & tt))
 
-pub listed-call : {n : ℕ} → Call n → isListed n ≡ true
-unfolding isListed usesFcb oneOf _or_
-listed-call call13 = refl
-listed-call call15 = refl
-listed-call call16 = refl
-listed-call call17 = refl
-listed-call call18 = refl
-listed-call call19 = refl
-listed-call call20 = refl
-listed-call call21 = refl
-listed-call call22 = refl
-listed-call call23 = refl
-listed-call call32 = refl
-listed-call call33 = refl
-listed-call call34 = refl
-listed-call call35 = refl
-listed-call call36 = refl
-listed-call call46 = refl
-listed-call call98 = refl
+pub is-call : {n : ℕ} → Call n → isCall n ≡ true
+unfolding isCall usesFcb oneOf _or_
+is-call call13 = refl
+is-call call15 = refl
+is-call call16 = refl
+is-call call17 = refl
+is-call call18 = refl
+is-call call19 = refl
+is-call call20 = refl
+is-call call21 = refl
+is-call call22 = refl
+is-call call23 = refl
+is-call call32 = refl
+is-call call33 = refl
+is-call call34 = refl
+is-call call35 = refl
+is-call call36 = refl
+is-call call46 = refl
+is-call call98 = refl
 
 -- a row of its own
 abbrev pub when : Bool → Code → Row
@@ -165,7 +165,7 @@ module _ (G : Geometry) (argument : ℕ) (l : Lent) (s : Session) where
 
   -- the table decides a listed call as these rows do
   pub verdict-rows : {n : ℕ} (c : Call n) → verdict G n argument l s ≡ firstRow (rowsFor c)
-  unfolding verdict table firstRow oneOf isListed usesFcb _and_ _or_
+  unfolding verdict table firstRow oneOf isCall usesFcb _and_ _or_
   verdict-rows call13 = refl
   verdict-rows call15 = refl
   verdict-rows call16 = refl
@@ -185,6 +185,6 @@ module _ (G : Geometry) (argument : ℕ) (l : Lent) (s : Session) where
   verdict-rows call98 = refl
 
   -- and refuses every other
-  pub verdict-unlisted : (n : ℕ) → isListed n ≡ false → verdict G n argument l s ≡ Refused NotListed
+  pub verdict-unlisted : (n : ℕ) → isCall n ≡ false → verdict G n argument l s ≡ Refused NotListed
   unfolding verdict table firstRow
   verdict-unlisted n h = rw h

@@ -41,10 +41,6 @@ module _ (G : Geometry) (d : Rows) (map : Bytes) (user : ℕ) (fcb : Bytes) (e :
       record { fcb-right = t; entry = f .0; slots = f .1 })
       (λ f. let z : Nothing ≡ At e = rw f at q in absurd (at-not-nothing e (sym z)))
 
-  pub current-intro : Current G d map user fcb e → current G d map user fcb ≡ At e
-  unfolding current
-  current-intro c = rw (c .fcb-right, c .entry, c .slots)
-
 -- ---- an entry of a consistent directory that a file's look-up has found
 module _ (G : Geometry) (d : Rows) (user : ℕ) (s : Bytes) (q ext : ℕ) (e : ℕ) (at : findFile G d user s q ext ≡ At e) where
   file-first : FirstAt (λ (e : ℕ). isFile G user s q ext (d e)) 0 (G .entries) e

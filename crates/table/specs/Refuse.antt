@@ -24,7 +24,7 @@ use Rattle.model.specs.declared.Code.the-variants.{Accepted, NotListed, BadPara
 use Rattle.model.specs.declared.Verdict.the-variants.{Refused}
 use Rattle.model.specs.Lent.{Lent, rowsOf, searchOn}
 use Rattle.model.specs.Search.{patternOf, findHit}
-use Rattle.model.specs.Table.{oneOf, isListed, parametersRight, diskRight, Row, verdict}
+use Rattle.model.specs.Table.{oneOf, isCall, parametersRight, diskRight, Row, verdict}
 use Rattle.table.specs.First.{_&_, Decides, here, later, refused-same, refused-decides, decides-refused}
 use Rattle.table.specs.Own.{when, Call, call13, call15, call16, call17, call18, call19, call20, call21, call22, call23, call32, call33, call34, call35, call36, call46, call98, at-one, call-of, ownRows, rowsFor, verdict-rows, verdict-unlisted}
 use Rattle.table.specs.Facts.{Ready}
@@ -131,7 +131,7 @@ module _ (G : Geometry) (argument : ℕ) (l : Lent) (s : Session) where
 
   -- where a refusal comes from: one of the first three rows, or a row of the call's own, with a code that document 01 gives for the call
   pub data Refuses (n : ℕ) (code : Code) : Type 0 where
-    unlisted : code ≡ NotListed → isListed n ≡ false → Refuses n code
+    unlisted : code ≡ NotListed → isCall n ≡ false → Refuses n code
     parameter : code ≡ BadParameter → Call n → parametersRight G l n s ≡ false → Refuses n code
     disk : code ≡ BadDisk → Call n → diskRight G l n ≡ false → Refuses n code
     own : (c : Call n) → gives n code ≡ true → Ready G n l s → Decides code (ownRows G argument l s c) → Refuses n code
@@ -143,16 +143,16 @@ module _ (G : Geometry) (argument : ℕ) (l : Lent) (s : Session) where
   ready-of : (n : ℕ) → parametersRight G l n s ≡ true → diskRight G l n ≡ true → Ready G n l s
   ready-of n p d = record { fits = fits-of G n l s p; drive = drive-of G n l s p; image-right = image-of G n l s d; map-right = map-of G n l s d }
 
-  refuses-listed : (code : Code) {n : ℕ} (c : Call n) → Decides code (rowsFor G argument l s c) → Refuses n code
-  refuses-listed code c (here t q) = parameter (sym q) c (not-true _ t)
-  refuses-listed code c (later f (here t q)) = disk (sym q) c (not-true _ t)
-  refuses-listed code {n} c (later f (later g d)) = own c (own-given code c d) (ready-of n (not-false _ f) (not-false _ g)) d
+  refuses-call : (code : Code) {n : ℕ} (c : Call n) → Decides code (rowsFor G argument l s c) → Refuses n code
+  refuses-call code c (here t q) = parameter (sym q) c (not-true _ t)
+  refuses-call code c (later f (here t q)) = disk (sym q) c (not-true _ t)
+  refuses-call code {n} c (later f (later g d)) = own c (own-given code c d) (ready-of n (not-false _ f) (not-false _ g)) d
 
   pub refuses : (n : ℕ) (code : Code) → verdict G n argument l s ≡ Refused code → Refuses n code
   refuses n code q =
-      split (bool-cases (isListed n))
+      split (bool-cases (isCall n))
       (λ t. let c = call-of n t in
-      refuses-listed code c (refused-decides code (rowsFor G argument l s c) (sym (verdict-rows G argument l s c) ∙ q)))
+      refuses-call code c (refused-decides code (rowsFor G argument l s c) (sym (verdict-rows G argument l s c) ∙ q)))
       (λ f. unlisted (refused-same code NotListed (sym q ∙ verdict-unlisted G argument l s n f)) f)
 
   -- a code that neither of the first two rows has comes from the call's own

@@ -5,13 +5,13 @@ use borrow.Author.Needs.{needs}
 use borrow.Author.Tests.{not-true, not-false}
 use Rattle.format.specs.Diskette.{eightInch}
 use Rattle.model.specs.Lent.{Lent, lend}
-use Rattle.model.specs.Table.{isListed, parametersRight}
+use Rattle.model.specs.Table.{isCall, parametersRight}
 use Rattle.table.specs.Own.{call13, call-of}
 use Rattle.table.specs.Facts.{Ready}
 use Rattle.table.specs.Reflect.{fits-of, ready-of}
 use Rattle.table.specs.OwnStep.{own-at, step-own}
 use Rattle.table.specs.Early.{unlisted-step, parameter-step, disk-step}
-use Rattle.bdos.specs.Numbers.{listed-own}
+use Rattle.bdos.specs.Numbers.{call-own}
 use Rattle.bdos.proofs.call.Statement.{statement}
 use Rattle.bdos.proofs.call.Tie as tie
 
@@ -20,8 +20,8 @@ abbrev given : tie.Start → Lent
 given c = lend (c .args .image .now) (c .args .map .now) (c .args .fcb .now) (c .args .buffer .now)
 
 -- what each passed test says
-listed : (c : tie.Else1) → isListed (c .before .before .before .before .before .before .args .asked .number) ≡ true
-listed c = sym (c .before .is-listed .ensures) ∙ not-false _ (c .if1 .left)
+called : (c : tie.Else1) → isCall (c .before .before .before .before .before .before .args .asked .number) ≡ true
+called c = sym (c .before .is-call .ensures) ∙ not-false _ (c .if1 .left)
 
 parameters : (c : tie.Else2) →
     let s = c .before .before .before .before .before .before .before .before .before .before .before .before in
@@ -35,14 +35,14 @@ ready c =
     ready-of eightInch _ _ _ (parameters (c .before .before .before .before .before .before))
     (sym (c .before .before .disk-right .ensures .0 _ _) ∙ not-false _ (c .if3 .left))
 
-is-listed-requires : tie.Need-is-listed-requires
-is-listed-requires c κs = search needs
+is-call-requires : tie.Need-is-call-requires
+is-call-requires c κs = search needs
 
 refuse-requires : tie.Need-refuse-requires
 refuse-requires c κs = search needs
 
 returns : tie.Need-returns
-returns c = unlisted-step eightInch _ _ _ _ (sym (c .before .before .is-listed .ensures) ∙ not-true _ (c .before .if1 .taken)) (c .refuse .ensures)
+returns c = unlisted-step eightInch _ _ _ _ (sym (c .before .before .is-call .ensures) ∙ not-true _ (c .before .if1 .taken)) (c .refuse .ensures)
 
 parameters-right-requires : tie.Need-parameters-right-requires
 parameters-right-requires c κs = search needs
@@ -64,7 +64,7 @@ same-length-4 c = search needs
 
 returns-2 : tie.Need-returns-2
 returns-2 c =
-    parameter-step eightInch _ _ _ _ (listed (c .before .before .before .before .before .before .before)) (sym (c .before .before .parameters-right .ensures) ∙ not-true _ (c .before .if2 .taken)) (c .refuse2 .ensures)
+    parameter-step eightInch _ _ _ _ (called (c .before .before .before .before .before .before .before)) (sym (c .before .before .parameters-right .ensures) ∙ not-true _ (c .before .if2 .taken)) (c .refuse2 .ensures)
 
 slice-aggregate-disk-right : tie.Need-slice-aggregate-disk-right
 slice-aggregate-disk-right c = search needs
@@ -90,7 +90,7 @@ same-length-8 c = search needs
 
 returns-3 : tie.Need-returns-3
 returns-3 c =
-    disk-step eightInch _ _ _ _ (listed (c .before .before .before .before .before .before .before .before .before .before .before .before .before)) (parameters (c .before .before .before .before .before .before .before))
+    disk-step eightInch _ _ _ _ (called (c .before .before .before .before .before .before .before .before .before .before .before .before .before)) (parameters (c .before .before .before .before .before .before .before))
     (sym (c .before .before .before .disk-right .ensures .0 _ _) ∙ not-true _ (c .before .if3 .taken)) (c .refuse3 .ensures)
 
 slice-aggregate-log-in : tie.Need-slice-aggregate-log-in
@@ -113,12 +113,12 @@ same-length-12 c = search needs
 
 returns-4 : tie.Need-returns-4
 returns-4 c =
-    let k = call-of _ (listed (c .before .before .before .before .before .before .before .before .before .before .before .before .before .before .before .before .before .before)) in
+    let k = call-of _ (called (c .before .before .before .before .before .before .before .before .before .before .before .before .before .before .before .before .before .before)) in
     c .before .before .log-in .ensures _ _ _ _ (c .before .before .before .before .before .before .before .before .disk-right .ensures .1 (not-false _ (c .before .before .before .before .before .before .if3 .left)))
     ∙ own-at eightInch _ _ (c .before .before .before .before .before .if4 .taken) k call13 _ ∙ sym (step-own eightInch _ _ _ k refl (ready (c .before .before .before .before .before .before)))
 
 own-call-requires : tie.Need-own-call-requires
-own-call-requires c κs = (listed-own _ (listed (c .before .before .before .before .before .before .before .before .before .before .before .before .before .before .before .before .before)) (c .before .before .before .before .if4 .left), ready (c .before .before .before .before .before))
+own-call-requires c κs = (call-own _ (called (c .before .before .before .before .before .before .before .before .before .before .before .before .before .before .before .before .before)) (c .before .before .before .before .if4 .left), ready (c .before .before .before .before .before))
 
 same-length-13 : tie.Need-same-length-13
 same-length-13 c = search needs
@@ -134,14 +134,14 @@ same-length-16 c = search needs
 
 returns-5 : tie.Need-returns-5
 returns-5 c =
-    let k = call-of _ (listed (c .before .before .before .before .before .before .before .before .before .before .before .before .before .before .before .before .before .before .before .before .before .before .before .before .before .before)) in
+    let k = call-of _ (called (c .before .before .before .before .before .before .before .before .before .before .before .before .before .before .before .before .before .before .before .before .before .before .before .before .before .before)) in
     c .before .before .before .before .before .before .before .before .own-call .ensures k ∙ sym (step-own eightInch _ _ _ k refl (ready (c .before .before .before .before .before .before .before .before .before .before .before .before .before .before)))
 
 pub call-spec : {M : Type 1} → statement M
 call-spec =
     tie.close
     (tie.spec
-    is-listed-requires
+    is-call-requires
     refuse-requires
     returns
     parameters-right-requires
