@@ -8,7 +8,7 @@ use borrow.Author.Tests.{eq-eqb, ne-eqb}
 use Rattle.lists.specs.Cases.{split}
 use Rattle.lists.specs.Tests.{_and_, _or_, and-both}
 use Rattle.lists.specs.Splice.{copies, splice}
-use Rattle.format.specs.Diskette.{Bytes, eightInch, recordBytes}
+use Rattle.format.specs.Diskette.{Bytes, eightInch, recordBytes, extents, extentRecords}
 use Rattle.format.specs.Fcb.{fcbBytes}
 use Rattle.disk.specs.Eight.{eight-sound}
 use Rattle.model.specs.declared.Asked.{Asked}
@@ -17,7 +17,7 @@ use Rattle.model.specs.declared.Answer.{Answer}
 use Rattle.model.specs.declared.Code.{Code}
 use Rattle.model.specs.Lent.{Lent, lend, Outcome}
 use Rattle.model.specs.Entering.{threeBytes}
-use Rattle.model.specs.Target.{extents, extentRecords, targetExtent, targetRecord}
+use Rattle.model.specs.Target.{targetExtent, targetRecord}
 use Rattle.model.specs.Table.{oneOf}
 use Rattle.model.specs.Step.{refused, effect, step}
 use Rattle.table.specs.First.{_&_}

@@ -5,8 +5,8 @@ use Prim.Native.Nat.{ℕ, _<_}
 use lib.ListN.{set}
 use Rattle.lists.specs.Splice.{splice}
 use Rattle.lists.specs.Fold.{foldBelow}
-use Rattle.format.specs.Diskette.{Bytes, Geometry}
-use Rattle.format.specs.Entries.{entryAt, withEntry, slotCount, slotsOf}
+use Rattle.format.specs.Diskette.{Bytes, Geometry, slotCount}
+use Rattle.format.specs.Entries.{entryAt, withEntry, slotsOf}
 use Rattle.format.specs.Fcb.{current}
 use Rattle.format.specs.Found.{isFound}
 use Rattle.format.specs.declared.Found.{Found}

@@ -3,9 +3,9 @@
 use mathlib.Core.Path.{_≡_}
 use mathlib.Core.Bool.{true, false}
 use Prim.Native.Nat.{ℕ, _≤_, _<_}
-use Rattle.format.specs.Diskette.{Bytes, Geometry}
+use Rattle.format.specs.Diskette.{Bytes, Geometry, slotCount}
 use Rattle.format.specs.Names.{nameRight, nameLike}
-use Rattle.format.specs.Entries.{Rows, slotCount, userOf, exOf, s2Of, rcOf, slotOf, empty, used, extentOf}
+use Rattle.format.specs.Entries.{Rows, userOf, exOf, s2Of, rcOf, slotOf, empty, used, extentOf}
 
 -- the numbers of a row or an FCB are in range
 pub record Numbers (r : Bytes) : Type 0 where

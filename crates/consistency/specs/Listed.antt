@@ -8,8 +8,8 @@ use borrow.Author.Tests.{eqb-true, eq-eqb}
 use Rattle.lists.specs.Cases.{split, bool-cases}
 use Rattle.lists.specs.Below.{Some, any-some, any-at}
 use Rattle.lists.specs.Seen.{taken}
-use Rattle.format.specs.Diskette.{Geometry}
-use Rattle.format.specs.Entries.{Rows, slotCount, slotOf, used}
+use Rattle.format.specs.Diskette.{Geometry, slotCount}
+use Rattle.format.specs.Entries.{Rows, slotOf, used}
 use Rattle.format.specs.Consistent.{listed, slotsInAll}
 use Rattle.format.specs.Notes.{isListed}
 use Rattle.consistency.specs.Facts.{Stands}

@@ -9,8 +9,8 @@ use Rattle.lists.specs.Cases.{split, bool-cases, lt-or-le, eq-or-ne, refute, no
 use Rattle.lists.specs.Tests.{_and_, and-left, and-right, and-both, and-fails-left, or-left, or-right, or-then, or-first, or-cases}
 use Rattle.lists.specs.Below.{allBelow, all-at, all-intro, any-never, any-empty}
 use Rattle.lists.specs.Seen.{taken}
-use Rattle.format.specs.Diskette.{Bytes, Geometry}
-use Rattle.format.specs.Entries.{Rows, entryAt, slotCount, userOf, slotOf, empty, used, named, isFile, covers}
+use Rattle.format.specs.Diskette.{Bytes, Geometry, slotCount}
+use Rattle.format.specs.Entries.{Rows, entryAt, userOf, slotOf, empty, used, named, isFile, covers}
 use Rattle.format.specs.Consistent.{numbersRight, slotRight, slotsRight, entryRight, slotsInAll, listed, listedOnce, sameFile, alone, consistentRows, consistent}
 use Rattle.names.specs.Laws.{like-sym}
 use Rattle.consistency.specs.Facts.{Numbers, Fine, Stands, SameFile, Consistent}

@@ -8,9 +8,9 @@ use borrow.Author.Tests.{leb-true, le-leb, eqb-true, eq-eqb, ne-eqb}
 use Rattle.lists.specs.Cases.{split, bool-cases}
 use Rattle.lists.specs.Tests.{_and_, _or_, and-left, and-right, and-both, and-then, or-then, or-left, or-right, or-cases}
 use Rattle.lists.specs.Below.{all-at, all-intro}
-use Rattle.format.specs.Diskette.{Bytes, Geometry}
+use Rattle.format.specs.Diskette.{Bytes, Geometry, slotCount}
 use Rattle.format.specs.Names.{nameRight}
-use Rattle.format.specs.Entries.{Rows, slotCount, slotsOf, slotOf, extentOf, findFile}
+use Rattle.format.specs.Entries.{Rows, slotsOf, slotOf, extentOf, findFile}
 use Rattle.format.specs.Notes.{pendingFor, noteAt}
 use Rattle.format.specs.Fcb.{crOf, fcbRight, slotFits, slotsFit, current}
 use Rattle.facts.specs.Slots.{getD-slotsOf}

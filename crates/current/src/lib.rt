@@ -2,8 +2,8 @@
 ghost use mathlib.Core.Path.{_≡_};
 ghost use Prim.Native.Nat.{_≤_, _<_};
 ghost use lib.ListN.{length};
-ghost use Rattle.format.specs.Diskette.{eightInch, imageBytes};
-ghost use Rattle.format.specs.Entries.{entryAt, slotCount};
+ghost use Rattle.format.specs.Diskette.{eightInch, imageBytes, slotCount};
+ghost use Rattle.format.specs.Entries.{entryAt};
 ghost use Rattle.format.specs.Fcb.{fcbBytes, randomOf, fcbRight, slotFits, slotsFit, current};
 use format::Found;
 

@@ -8,8 +8,8 @@ use borrow.Author.Tests.{eq-eqb}
 use Rattle.lists.specs.Cases.{clash, not-both}
 use Rattle.lists.specs.Tests.{_or_}
 use Rattle.lists.specs.Splice.{getD-part}
-use Rattle.format.specs.Diskette.{Bytes, Geometry, Sound, imageBytes, recordBytes}
-use Rattle.format.specs.Entries.{entryAt, entryPlace, entryBytes, empty, used}
+use Rattle.format.specs.Diskette.{Bytes, Geometry, Sound, imageBytes, recordBytes, entryBytes}
+use Rattle.format.specs.Entries.{entryAt, entryPlace, empty, used}
 use Rattle.format.specs.Consistent.{consistent}
 use Rattle.format.specs.Fcb.{fcbBytes}
 use Rattle.consistency.specs.Reflect.{facts-consistent, used-full}

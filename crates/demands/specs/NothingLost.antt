@@ -7,8 +7,8 @@ use Prim.Native.Nat.{ℕ, _*_, _≤_, _<_}
 use native.Mathlib.Omega.{arith}
 use lib.ListN.{length, getD}
 use Rattle.lists.specs.Cases.{split}
-use Rattle.format.specs.Diskette.{Geometry, Sound, recordBytes}
-use Rattle.format.specs.Entries.{entryAt, slotCount, used}
+use Rattle.format.specs.Diskette.{Geometry, Sound, recordBytes, slotCount}
+use Rattle.format.specs.Entries.{entryAt, used}
 use Rattle.format.specs.Consistent.{consistent}
 use Rattle.format.specs.Notes.{noteAt, pendingFor, mapRight, freshNote, isPending, isListed}
 use Rattle.disk.specs.Places.{blockRecords, offset-past, spare-apart}

@@ -9,7 +9,7 @@ use lib.ListN.{length, getD, set}
 use lib.Seq.{getD-set-same, getD-set-other}
 use Rattle.lists.specs.Cases.{split, eq-or-ne, not-both}
 use Rattle.lists.specs.Tests.{_or_}
-use Rattle.format.specs.Diskette.{Bytes, Geometry, Sound, recordBytes}
+use Rattle.format.specs.Diskette.{Bytes, Geometry, Sound, recordBytes, extents}
 use Rattle.format.specs.Entries.{userOf, extentOf, named}
 use Rattle.format.specs.Fcb.{fcbBytes}
 use Rattle.names.specs.Laws.{like-at}
@@ -17,7 +17,7 @@ use Rattle.model.specs.declared.Asked.{Asked}
 use Rattle.model.specs.declared.Session.{Session}
 use Rattle.model.specs.Lent.{Lent, Outcome}
 use Rattle.model.specs.Naming.{names}
-use Rattle.model.specs.Target.{extents, targetExtent, targetRecord}
+use Rattle.model.specs.Target.{targetExtent, targetRecord}
 use Rattle.model.specs.Table.{oneOf, usesFcb}
 use Rattle.model.specs.Step.{step}
 use Rattle.fields.specs.Agree.{SameName, named-cong}

@@ -8,8 +8,8 @@ use borrow.Author.Tests.{eq-eqb, ne-eqb, lt-ltb}
 use Rattle.lists.specs.Cases.{not-both}
 use Rattle.lists.specs.Tests.{_and_, _or_, and-both}
 use Rattle.lists.specs.Splice.{splice}
-use Rattle.format.specs.Diskette.{Bytes, Geometry, Sound, recordAt}
-use Rattle.format.specs.Entries.{slotCount, slotOf, slotFor, rcOf, extentOf}
+use Rattle.format.specs.Diskette.{Bytes, Geometry, Sound, recordAt, slotCount, extents, extentRecords}
+use Rattle.format.specs.Entries.{slotOf, slotFor, rcOf, extentOf}
 use Rattle.format.specs.Fcb.{fcbBytes, fcbRight, randomOf}
 use Rattle.format.specs.declared.Found.the-variants.{At}
 use Rattle.rows.specs.Fields.{slot-for-below}
@@ -19,7 +19,7 @@ use Rattle.model.specs.declared.Plan.{Plan}
 use Rattle.model.specs.declared.Verdict.the-variants.{Passed}
 use Rattle.model.specs.Lent.{Lent, Outcome}
 use Rattle.model.specs.Entering.{threeBytes}
-use Rattle.model.specs.Target.{extents, extentRecords, targetExtent, targetRecord, targetSlot, presentEntry, stays, blockThere, countThere, recordThere, plan, placeIn, haveRead}
+use Rattle.model.specs.Target.{targetExtent, targetRecord, targetSlot, presentEntry, stays, blockThere, countThere, recordThere, plan, placeIn, haveRead}
 use Rattle.model.specs.Table.{verdict}
 use Rattle.model.specs.Calls.{readAt, reading, read}
 use Rattle.model.specs.Step.{effect, step}

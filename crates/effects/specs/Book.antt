@@ -8,8 +8,8 @@ use Prim.Native.Nat.{ℕ}
 use lib.Dec.{eqb}
 use Rattle.lists.specs.Tests.{_and_}
 use Rattle.lists.specs.Below.{anyBelow}
-use Rattle.format.specs.Diskette.{Bytes, Geometry}
-use Rattle.format.specs.Entries.{slotCount, slotOf, slotsOf, extentOf, named, findFile}
+use Rattle.format.specs.Diskette.{Bytes, Geometry, slotCount}
+use Rattle.format.specs.Entries.{slotOf, slotsOf, extentOf, named, findFile}
 use Rattle.format.specs.Notes.{pendingFor, heldFor}
 use Rattle.format.specs.Found.{numberOf}
 use Rattle.model.specs.declared.Session.{Session}

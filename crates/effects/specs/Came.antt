@@ -6,8 +6,8 @@ use Prim.Native.Nat.{ℕ, _≤_, _<_}
 use native.Mathlib.Omega.{arith}
 use lib.ListN.{length, getD}
 use Rattle.lists.specs.Cases.{not-both}
-use Rattle.format.specs.Diskette.{Bytes, Geometry, Sound}
-use Rattle.format.specs.Entries.{entryAt, withEntry, entryBytes, slotCount, slotOf, userOf, extentOf, used, empty, named, isFile, findEmpty}
+use Rattle.format.specs.Diskette.{Bytes, Geometry, Sound, entryBytes, slotCount, extents}
+use Rattle.format.specs.Entries.{entryAt, withEntry, slotOf, userOf, extentOf, used, empty, named, isFile, findEmpty}
 use Rattle.format.specs.Notes.{freeNote, noteAt}
 use Rattle.format.specs.Found.{numberOf}
 use Rattle.format.specs.Fcb.{fcbBytes}
@@ -21,7 +21,7 @@ use Rattle.model.specs.declared.Session.{Session}
 use Rattle.model.specs.Lent.{Lent, rowsOf}
 use Rattle.model.specs.Closing.{closedImage, closedMap}
 use Rattle.model.specs.Entering.{entered}
-use Rattle.model.specs.Target.{extents, targetExtent, targetSlot, presentEntry, stays, targetEntry, blockThere, moved, nextMade, made}
+use Rattle.model.specs.Target.{targetExtent, targetSlot, presentEntry, stays, targetEntry, blockThere, moved, nextMade, made}
 use Rattle.fields.specs.Agree.{SameName}
 use Rattle.fields.specs.Fine.{fine-next}
 use Rattle.fields.specs.Making.{length-nextRow, slot-next, user-next, extent-next}

@@ -6,8 +6,8 @@ use Prim.Native.Nat.{ℕ, _≤_, _<_}
 use native.Mathlib.Omega.{arith}
 use lib.ListN.{length}
 use Rattle.lists.specs.Cases.{split}
-use Rattle.format.specs.Diskette.{Bytes, Geometry, Sound}
-use Rattle.format.specs.Entries.{entryAt, entryBytes, named}
+use Rattle.format.specs.Diskette.{Bytes, Geometry, Sound, entryBytes}
+use Rattle.format.specs.Entries.{entryAt, named}
 use Rattle.format.specs.Notes.{noteAt, pendingFor}
 use Rattle.rows.specs.Entries.{length-entryAt}
 use Rattle.model.specs.Closing.{closedRow, closedImage, closedMap}

@@ -7,8 +7,8 @@ use native.Mathlib.Nat.{mod-lt}
 use lib.ListN.{length}
 use Rattle.lists.specs.Cases.{split}
 use Rattle.lists.specs.Tests.{_and_}
-use Rattle.format.specs.Diskette.{Bytes, Geometry, Sound}
-use Rattle.format.specs.Entries.{entryAt, slotCount, slotOf, slotFor, rcOf, used, extentOf, named, isFile}
+use Rattle.format.specs.Diskette.{Bytes, Geometry, Sound, slotCount, extentRecords}
+use Rattle.format.specs.Entries.{entryAt, slotOf, slotFor, rcOf, used, extentOf, named, isFile}
 use Rattle.format.specs.Notes.{noteAt}
 use Rattle.format.specs.Fcb.{fcbRight, current}
 use Rattle.format.specs.declared.Found.the-variants.{At}
@@ -17,7 +17,7 @@ use Rattle.invariant.specs.Close.{Held}
 use Rattle.rows.specs.Fields.{slot-for-below}
 use Rattle.current.specs.Current.{Current, current-is, current-says, current-file, current-slot, SlotOk, slot-same, slot-pending, slots-are}
 use Rattle.invariant.specs.CloseGood.{pending-block}
-use Rattle.model.specs.Target.{extentRecords, placeIn}
+use Rattle.model.specs.Target.{placeIn}
 use Rattle.effects.specs.View.{View, viewOf, Names, Mine, listed, pending}
 use Rattle.effects.specs.Effect.{Foreign, Effect, Keeps}
 use Rattle.fields.specs.Naming.{file-named, file-used, file-found}

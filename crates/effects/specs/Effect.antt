@@ -4,8 +4,8 @@ use mathlib.Core.Logic.{_⊎_, inl, inr}
 use mathlib.Core.Bool.{true, false}
 use Prim.Native.Nat.{ℕ, _≤_, _<_}
 use Rattle.lists.specs.Cases.{split, bool-cases, not-both}
-use Rattle.format.specs.Diskette.{Bytes, Geometry, diskRecord}
-use Rattle.format.specs.Entries.{slotCount, slotOf, empty, used}
+use Rattle.format.specs.Diskette.{Bytes, Geometry, diskRecord, slotCount}
+use Rattle.format.specs.Entries.{slotOf, empty, used}
 use Rattle.format.specs.Notes.{pendingFor}
 use Rattle.disk.specs.Places.{blockRecords, block-record}
 use Rattle.rows.specs.Entries.{areaRecords, block-past}

@@ -6,8 +6,8 @@ use Prim.Native.Nat.{ℕ, _≤_, _<_}
 use native.Mathlib.Omega.{arith}
 use lib.ListN.{length, set}
 use Rattle.lists.specs.Cases.{split, eq-or-ne}
-use Rattle.format.specs.Diskette.{Bytes, Geometry, Sound}
-use Rattle.format.specs.Entries.{entryAt, entryBytes, slotCount, slotOf, userOf, rcOf, extentOf, countIn, isFile}
+use Rattle.format.specs.Diskette.{Bytes, Geometry, Sound, entryBytes, slotCount, extentRecords}
+use Rattle.format.specs.Entries.{entryAt, slotOf, userOf, rcOf, extentOf, countIn, isFile}
 use Rattle.format.specs.Fcb.{fcbBytes, fcbRight, crOf}
 use Rattle.names.specs.Laws.{like-intro, right-cong}
 use Rattle.consistency.specs.Facts.{Fine}
@@ -16,7 +16,7 @@ use Rattle.current.specs.Current.{fcb-says, fcb-is}
 use Rattle.rows.specs.Entries.{length-entryAt}
 use Rattle.model.specs.Closing.{closedRow, closedImage, closedMap, closedFcb}
 use Rattle.model.specs.Entering.{copied, entered}
-use Rattle.model.specs.Target.{extentRecords, writtenFcb}
+use Rattle.model.specs.Target.{writtenFcb}
 use Rattle.fields.specs.Agree.{Agree, SameName, isFile-asked, isFile-cong}
 use Rattle.fields.specs.Naming.{named-intro, file-intro}
 use Rattle.fields.specs.Closing.{slot-closed-old, slot-closed-new, file-closed, name-closedFcb, slot-closedFcb, extent-closedFcb, fcbRight-closedFcb}

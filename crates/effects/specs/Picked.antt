@@ -10,9 +10,9 @@ use borrow.Author.Tests.{leb-true, ltb-true, le-leb, lt-ltb}
 use Rattle.lists.specs.Cases.{split, bool-cases, lt-or-le, not-both}
 use Rattle.lists.specs.Tests.{_and_, and-left, and-right, and-both}
 use Rattle.lists.specs.Below.{anyBelow, any-some, any-never}
-use Rattle.format.specs.Diskette.{Bytes, Geometry, Sound}
+use Rattle.format.specs.Diskette.{Bytes, Geometry, Sound, entryBytes, slotCount}
 use Rattle.format.specs.Names.{nameRight}
-use Rattle.format.specs.Entries.{entryAt, withEntry, entryBytes, entryPlace, slotCount, empty, named}
+use Rattle.format.specs.Entries.{entryAt, withEntry, entryPlace, empty, named}
 use Rattle.format.specs.Notes.{noteAt, pendingFor, releasedNote, releasedMap}
 use Rattle.notes.specs.FreeingLaws.{released-at}
 use Rattle.notes.specs.Numbers.{pending-not-free, pending-not-area, pending-not-recorded}

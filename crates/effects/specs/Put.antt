@@ -9,15 +9,15 @@ use lib.Dec.{eqb}
 use lib.ListN.{length}
 use borrow.Author.Tests.{eq-eqb, ne-eqb}
 use Rattle.lists.specs.Cases.{split, eq-or-ne}
-use Rattle.format.specs.Diskette.{Bytes, Geometry, Sound, recordBytes, recordAt, withRecord}
-use Rattle.format.specs.Entries.{entryAt, slotCount, slotOf, slotFor, extentOf, isFile}
+use Rattle.format.specs.Diskette.{Bytes, Geometry, Sound, recordBytes, recordAt, withRecord, slotCount, extentRecords}
+use Rattle.format.specs.Entries.{entryAt, slotOf, slotFor, extentOf, isFile}
 use Rattle.format.specs.Notes.{freeNote, noteAt, pendingFor}
 use Rattle.format.specs.Fcb.{fcbBytes, fcbRight}
 use Rattle.notes.specs.Numbers.{pending-not-free}
 use Rattle.disk.specs.Records.{record-written, record-left}
 use Rattle.rows.specs.Entries.{block-past, entry-kept}
 use Rattle.rows.specs.Fields.{slot-for-below}
-use Rattle.model.specs.Target.{extentRecords, placeIn, writtenMap, writtenFcb}
+use Rattle.model.specs.Target.{placeIn, writtenMap, writtenFcb}
 use Rattle.fields.specs.Agree.{isFile-asked}
 use Rattle.fields.specs.Target.{place-below, name-written, extent-written, slot-written, slot-written-other, rc-written, count-written-target, map-written-kept, note-written, note-written-other}
 use Rattle.invariant.specs.Close.{Held}

@@ -5,8 +5,8 @@ use mathlib.Core.Logic.{_⊎_, inl, inr}
 use mathlib.Core.Bool.{true, false}
 use Prim.Native.Nat.{ℕ, _≤_, _<_}
 use Rattle.lists.specs.Cases.{split, bool-cases, eq-or-ne, not-both}
-use Rattle.format.specs.Diskette.{Geometry, diskRecord}
-use Rattle.format.specs.Entries.{slotCount, empty, used}
+use Rattle.format.specs.Diskette.{Geometry, diskRecord, slotCount}
+use Rattle.format.specs.Entries.{empty, used}
 use Rattle.format.specs.Notes.{freeNote, pendingFor}
 use Rattle.consistency.specs.Reflect.{used-full}
 use Rattle.notes.specs.Numbers.{pending-once, pending-not-free}

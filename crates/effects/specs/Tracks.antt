@@ -9,8 +9,8 @@ use borrow.Author.Tests.{eq-eqb, ne-eqb, leb-true}
 use Rattle.lists.specs.Cases.{split, bool-cases, eq-or-ne, refute, cond-either}
 use Rattle.lists.specs.Tests.{_and_, _or_, and-then}
 use Rattle.lists.specs.Below.{anyBelow, any-cong}
-use Rattle.format.specs.Diskette.{Bytes, Geometry}
-use Rattle.format.specs.Entries.{Rows, slotCount, slotsOf, used}
+use Rattle.format.specs.Diskette.{Bytes, Geometry, slotCount}
+use Rattle.format.specs.Entries.{Rows, slotsOf, used}
 use Rattle.facts.specs.Slots.{getD-slotsOf}
 use Rattle.format.specs.Notes.{recordedNote, pendingFor, isPending, noteAt, freshNote, settledNote, heldFor, listedBy, releasedNote, isListed}
 use Rattle.notes.specs.Numbers.{pending-is, pending-entry, settled-not}

@@ -3,8 +3,8 @@ use mathlib.Core.Path.{_≡_, sym, _∙_}
 use mathlib.Core.Bool.{Bool}
 use Prim.Native.Nat.{ℕ, _≤_, _<_}
 use Rattle.lists.specs.Cases.{not-both}
-use Rattle.format.specs.Diskette.{Bytes, Geometry, recordAt}
-use Rattle.format.specs.Entries.{Rows, slotCount, entryAt}
+use Rattle.format.specs.Diskette.{Bytes, Geometry, recordAt, slotCount}
+use Rattle.format.specs.Entries.{Rows, entryAt}
 use Rattle.format.specs.Notes.{freeNote, noteAt, pendingFor}
 use Rattle.consistency.specs.Facts.{Stands}
 use Rattle.consistency.specs.Listed.{somewhere-listed}

@@ -5,8 +5,8 @@ use mathlib.Core.Bool.{true}
 use Prim.Native.Nat.{ℕ, _+_, _≤_, _<_}
 use lib.ListN.{length, getD}
 use Rattle.lists.specs.Cases.{split, lt-or-le}
-use Rattle.format.specs.Diskette.{Bytes, Geometry, Sound, recordBytes, imageBytes, offsetOf, withRecord}
-use Rattle.format.specs.Entries.{entryBytes, entryPlace, entryAt, withEntry, empty}
+use Rattle.format.specs.Diskette.{Bytes, Geometry, Sound, recordBytes, imageBytes, offsetOf, withRecord, entryBytes}
+use Rattle.format.specs.Entries.{entryPlace, entryAt, withEntry, empty}
 use Rattle.format.specs.Notes.{freeNote, noteAt}
 use Rattle.disk.specs.Places.{blockRecords}
 use Rattle.disk.specs.Records.{record-byte-left}

@@ -5,8 +5,8 @@ use mathlib.Core.Bool.{true}
 use Prim.Native.Nat.{ℕ, _≤_, _<_}
 use native.Mathlib.Omega.{arith}
 use lib.ListN.{length, getD, length-set}
-use Rattle.format.specs.Diskette.{Geometry, Sound, recordBytes, withRecord}
-use Rattle.format.specs.Entries.{entryAt, slotCount, slotOf, slotFor, extentOf}
+use Rattle.format.specs.Diskette.{Geometry, Sound, recordBytes, withRecord, slotCount, extents, extentRecords}
+use Rattle.format.specs.Entries.{entryAt, slotOf, slotFor, extentOf}
 use Rattle.format.specs.Fcb.{fcbBytes, fcbRight, crOf}
 use Rattle.format.specs.Found.{numberOf}
 use Rattle.format.specs.declared.Found.the-variants.{At}
@@ -14,7 +14,7 @@ use Rattle.notes.specs.Free.{free-is}
 use Rattle.model.specs.declared.Session.{Session}
 use Rattle.model.specs.declared.Plan.{Plan}
 use Rattle.model.specs.Lent.{Lent}
-use Rattle.model.specs.Target.{extents, extentRecords, targetExtent, targetRecord, targetSlot, crAfter, presentEntry, plan, moved, made, placeIn, haveRead, haveWritten, writtenFcb, writtenMap}
+use Rattle.model.specs.Target.{targetExtent, targetRecord, targetSlot, crAfter, presentEntry, plan, moved, made, placeIn, haveRead, haveWritten, writtenFcb, writtenMap}
 use Rattle.model.specs.Calls.{readAt, reading, read, writtenAt, writing, written}
 use Rattle.fields.specs.Agree.{SameName}
 use Rattle.fields.specs.Naming.{file-found}

@@ -7,9 +7,9 @@ use native.Mathlib.Omega.{arith}
 use lib.ListN.{length, getD, set, replicate}
 use Rattle.lists.specs.Splice.{part, splice, length-part, getD-part}
 use Rattle.lists.specs.Tab.{Filled, filled-none, filled-more, filled-up, filled-kept, filled-splice, filled-all, filled-list, getD-zeros}
-use Rattle.format.specs.Diskette.{Bytes}
+use Rattle.format.specs.Diskette.{Bytes, entryBytes}
 use Rattle.format.specs.Names.{sevenBits, nameBytes}
-use Rattle.format.specs.Entries.{entryBytes, exOf}
+use Rattle.format.specs.Entries.{exOf}
 use Rattle.model.specs.Entering.{interfaceByte, interfaceCleared, madeRow, nextRow, renamedRow}
 use Rattle.fields.specs.Entering.{interface-in, interface-out}
 use Rattle.fields.specs.Making.{length-madeRow, user-made, ex-made, zero-made, length-nextRow, head-next, ex-next, s1-next, s2-next, zero-next, length-renamedRow, user-renamed, rest-renamed}

@@ -11,8 +11,8 @@ use Rattle.lists.specs.Cases.{split, bool-cases, lt-or-le, not-both, clash}
 use Rattle.lists.specs.Tests.{_or_}
 use Rattle.lists.specs.Splice.{part, splice, getD-part, part-splice-same}
 use Rattle.lists.specs.Count.{count-from}
-use Rattle.format.specs.Diskette.{Bytes, Geometry, Sound, imageBytes, recordBytes, eightInch}
-use Rattle.format.specs.Entries.{Rows, entryBytes, entryPlace, entryAt, userOf, empty, used}
+use Rattle.format.specs.Diskette.{Bytes, Geometry, Sound, imageBytes, recordBytes, eightInch, entryBytes}
+use Rattle.format.specs.Entries.{Rows, entryPlace, entryAt, userOf, empty, used}
 use Rattle.format.specs.Consistent.{consistent}
 use Rattle.format.specs.Notes.{isListed, freshNote, freshMap, isFree, freeCount}
 use Rattle.format.specs.Fcb.{fcbBytes}

@@ -6,9 +6,9 @@ use mathlib.Core.List.{[], _∷_}
 use Prim.Native.Nat.{ℕ, _<_}
 use native.Mathlib.Omega.{arith}
 use lib.ListN.{length}
-use Rattle.format.specs.Diskette.{Bytes, imageBytes, eightInch, diskRecord, offsetOf}
+use Rattle.format.specs.Diskette.{Bytes, imageBytes, eightInch, diskRecord, offsetOf, slotCount}
 use Rattle.format.specs.Names.{nameRight}
-use Rattle.format.specs.Entries.{entryAt, slotCount, userOf, exOf, used, extentOf, named}
+use Rattle.format.specs.Entries.{entryAt, userOf, exOf, used, extentOf, named}
 use Rattle.format.specs.Consistent.{consistent}
 use Rattle.format.specs.Notes.{isListed}
 use Rattle.format.specs.Fcb.{fcbBytes, crOf}

@@ -10,7 +10,7 @@ use Rattle.lists.specs.Cases.{split, bool-cases, not-both}
 use Rattle.lists.specs.Tests.{and-left}
 use Rattle.lists.specs.Below.{all-at}
 use Rattle.lists.specs.Splice.{part, splice, part-splice-same}
-use Rattle.format.specs.Diskette.{Bytes, Geometry}
+use Rattle.format.specs.Diskette.{Bytes, Geometry, extentRecords}
 use Rattle.format.specs.Names.{nameRight}
 use Rattle.format.specs.Entries.{rcOf, userOf, extentOf, countIn, named, findNamed}
 use Rattle.format.specs.Consistent.{consistentRows, consistent}
@@ -21,7 +21,6 @@ use Rattle.model.specs.declared.Session.{Session}
 use Rattle.model.specs.Codes.{aOf, hOf}
 use Rattle.model.specs.Lent.{Lent, lend, rowsOf}
 use Rattle.model.specs.Entering.{threeBytes}
-use Rattle.model.specs.Target.{extentRecords}
 use Rattle.model.specs.Calls.{done, sizeOf, fileSize, sized, positioned}
 use Rattle.model.specs.Step.{step}
 use Rattle.fields.specs.Size.{size-covers, size-high, sizeOf-high}

@@ -11,9 +11,9 @@ use Rattle.lists.specs.Cases.{split, eq-or-ne, bool-cases, not-both}
 use Rattle.lists.specs.Tests.{_and_, _or_, and-left}
 use Rattle.lists.specs.Below.{allBelow}
 use Rattle.lists.specs.Splice.{splice}
-use Rattle.format.specs.Diskette.{Bytes, imageBytes, eightInch}
+use Rattle.format.specs.Diskette.{Bytes, imageBytes, eightInch, slotCount}
 use Rattle.format.specs.Names.{nameByte, nameRight, byteLike, nameLike}
-use Rattle.format.specs.Entries.{Rows, entryAt, withEntry, slotCount, slotOf, userOf, rcOf, empty, used, extentOf, countIn, named}
+use Rattle.format.specs.Entries.{Rows, entryAt, withEntry, slotOf, userOf, rcOf, empty, used, extentOf, countIn, named}
 use Rattle.format.specs.Consistent.{consistent}
 use Rattle.format.specs.Notes.{isListed, freshMap, freeCount}
 use Rattle.format.specs.Fcb.{fcbBytes}

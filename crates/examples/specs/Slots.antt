@@ -7,8 +7,8 @@ use native.Mathlib.Omega.{arith}
 use lib.ListN.{length, set, length-set}
 use lib.Seq.{getD-set-same, getD-set-other}
 use Rattle.lists.specs.Cases.{split, eq-or-ne, not-both, refute}
-use Rattle.format.specs.Diskette.{Bytes, Geometry, Sound, imageBytes}
-use Rattle.format.specs.Entries.{Rows, entryAt, withEntry, slotCount, slotOf, userOf, used}
+use Rattle.format.specs.Diskette.{Bytes, Geometry, Sound, imageBytes, slotCount}
+use Rattle.format.specs.Entries.{Rows, entryAt, withEntry, slotOf, userOf, used}
 use Rattle.format.specs.Consistent.{consistent}
 use Rattle.format.specs.Notes.{isListed}
 use Rattle.names.specs.Laws.{like-intro, right-cong}

@@ -5,8 +5,8 @@ use native.Mathlib.Omega.{arith}
 use lib.ListN.{length, getD}
 use lib.Seq.{getD-take, getD-drop}
 use Rattle.lists.specs.Splice.{part, length-part}
-use Rattle.format.specs.Diskette.{Bytes}
-use Rattle.format.specs.Entries.{entryBytes, slotCount, slotsOf, slotOf}
+use Rattle.format.specs.Diskette.{Bytes, entryBytes, slotCount}
+use Rattle.format.specs.Entries.{slotsOf, slotOf}
 
 pub length-slotsOf : (r : Bytes) → entryBytes ≤ length r → length (slotsOf r) ≡ slotCount
 unfolding slotsOf

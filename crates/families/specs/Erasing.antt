@@ -10,8 +10,8 @@ use Rattle.lists.specs.Tests.{and-fails-left}
 use Rattle.lists.specs.Seen.{bit, bit-set}
 use Rattle.lists.specs.Fold.{foldBelow, fold-none, fold-more}
 use Rattle.lists.specs.Tab.{Filled, filled-none, filled-more, tab-cong}
-use Rattle.format.specs.Diskette.{Bytes, Geometry, Sound, imageBytes}
-use Rattle.format.specs.Entries.{Rows, entryBytes, entryAt, slotsOf, used}
+use Rattle.format.specs.Diskette.{Bytes, Geometry, Sound, imageBytes, entryBytes}
+use Rattle.format.specs.Entries.{Rows, entryAt, slotsOf, used}
 use Rattle.format.specs.Notes.{noteAt, freeNote, pendingEntry, heldFor, mapRight, releasedMap}
 use Rattle.model.specs.Calls.{changedRow, changedRows, erasedRow}
 use Rattle.fields.specs.Changing.{length-changed, row-to-come, length-erasedRow}

@@ -8,9 +8,9 @@ use lib.Seq.{ext-getD}
 use Rattle.lists.specs.Cases.{split, lt-or-le}
 use Rattle.lists.specs.Tests.{_and_}
 use Rattle.lists.specs.Below.{first-cong}
-use Rattle.format.specs.Diskette.{Bytes, Geometry}
+use Rattle.format.specs.Diskette.{Bytes, Geometry, slotCount}
 use Rattle.format.specs.Names.{nameBytes, sevenBits}
-use Rattle.format.specs.Entries.{Rows, userOf, slotOf, slotsOf, slotCount, empty, used, readOnly, extentOf, covers, named, isFile, findFile}
+use Rattle.format.specs.Entries.{Rows, userOf, slotOf, slotsOf, empty, used, readOnly, extentOf, covers, named, isFile, findFile}
 use Rattle.format.specs.Found.{foundBelow}
 use Rattle.format.specs.Consistent.{numbersRight, sameFile}
 use Rattle.facts.specs.Slots.{length-slotsOf, getD-slotsOf}

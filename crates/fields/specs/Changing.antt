@@ -10,8 +10,8 @@ use borrow.Author.Tests.{eq-eqb}
 use Rattle.lists.specs.Cases.{split, bool-cases, lt-or-le}
 use Rattle.lists.specs.Splice.{splice-set}
 use Rattle.lists.specs.Fold.{foldBelow, fold-builds}
-use Rattle.format.specs.Diskette.{Bytes, Geometry, Sound, imageBytes, recordAt}
-use Rattle.format.specs.Entries.{entryBytes, entryPlace, entryAt, withEntry, userOf, empty, used}
+use Rattle.format.specs.Diskette.{Bytes, Geometry, Sound, imageBytes, recordAt, entryBytes}
+use Rattle.format.specs.Entries.{entryPlace, entryAt, withEntry, userOf, empty, used}
 use Rattle.disk.specs.Places.{blockRecords}
 use Rattle.rows.specs.Entries.{areaRecords, entry-fits, length-entryAt, length-withEntry, entry-stored, entry-left, entry-byte-left, record-kept}
 use Rattle.model.specs.Calls.{changedRow, changedRows, erasedRow}

@@ -14,9 +14,9 @@ use Rattle.lists.specs.Below.{anyBelow, any-at, any-some, any-never}
 use Rattle.lists.specs.Splice.{length-splice, getD-splice-in, getD-splice-out}
 use Rattle.lists.specs.Tab.{length-tab, getD-tab}
 use Rattle.lists.specs.Fold.{foldBelow, fold-keeps}
-use Rattle.format.specs.Diskette.{Bytes, Geometry}
+use Rattle.format.specs.Diskette.{Bytes, Geometry, slotCount}
 use Rattle.format.specs.Names.{sevenBits, nameRight}
-use Rattle.format.specs.Entries.{Rows, rcOf, slotOf, slotsOf, slotCount, empty, used, readOnly, extentOf, countIn}
+use Rattle.format.specs.Entries.{Rows, rcOf, slotOf, slotsOf, empty, used, readOnly, extentOf, countIn}
 use Rattle.facts.specs.Slots.{length-slotsOf, getD-slotsOf}
 use Rattle.format.specs.Notes.{noteAt, withNote, recordedNote}
 use Rattle.format.specs.Fcb.{randomOf, fcbRight, current}

@@ -11,9 +11,9 @@ use Rattle.lists.specs.Cases.{split, bool-cases}
 use Rattle.lists.specs.Tests.{_and_, and-both, and-fails-left, and-fails-right}
 use Rattle.lists.specs.Splice.{part, length-part, getD-part, length-splice, getD-splice-at, getD-splice-out}
 use Rattle.lists.specs.Tab.{length-tab, getD-tab}
-use Rattle.format.specs.Diskette.{Bytes}
+use Rattle.format.specs.Diskette.{Bytes, entryBytes, slotCount}
 use Rattle.format.specs.Names.{sevenBits, nameRight}
-use Rattle.format.specs.Entries.{entryBytes, exOf, s2Of, rcOf, slotOf, slotsOf, slotCount, extentOf}
+use Rattle.format.specs.Entries.{exOf, s2Of, rcOf, slotOf, slotsOf, extentOf}
 use Rattle.format.specs.Fcb.{crOf, randomOf, fcbRight}
 use Rattle.format.specs.Consistent.{numbersRight}
 use Rattle.names.specs.Laws.{right-cong}

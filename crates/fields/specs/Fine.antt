@@ -5,14 +5,13 @@ use Prim.Native.Nat.{ℕ, _≤_, _<_}
 use native.Mathlib.Omega.{arith}
 use lib.ListN.{length}
 use Rattle.lists.specs.Cases.{split}
-use Rattle.format.specs.Diskette.{Bytes, Geometry}
+use Rattle.format.specs.Diskette.{Bytes, Geometry, slotCount, extents}
 use Rattle.format.specs.Names.{nameRight}
-use Rattle.format.specs.Entries.{exOf, slotOf, slotCount}
+use Rattle.format.specs.Entries.{exOf, slotOf}
 use Rattle.consistency.specs.Facts.{Numbers, Fine}
 use Rattle.names.specs.Laws.{right-cong}
 use Rattle.model.specs.Closing.{closedRow}
 use Rattle.model.specs.Entering.{madeRow, nextRow, renamedRow}
-use Rattle.model.specs.Target.{extents}
 use Rattle.fields.specs.Closing.{file-closed, right-closed, numbers-closed, slot-closed-cases}
 use Rattle.fields.specs.Making.{user-made, name-made, ex-made, s2-made, rc-made, slot-made, user-next, name-next, ex-next, s2-next, rc-next, slot-next, user-renamed, name-renamed, rest-renamed, slot-renamed}
 

@@ -6,8 +6,8 @@ use Prim.Native.Nat.{ℕ, _+_, _≤_, _<_}
 use native.Mathlib.Omega.{arith}
 use lib.ListN.{length, getD}
 use Rattle.lists.specs.Splice.{splice-same}
-use Rattle.format.specs.Diskette.{Bytes, Geometry, Sound, imageBytes, recordAt}
-use Rattle.format.specs.Entries.{entryBytes, entryPlace, entryAt, withEntry}
+use Rattle.format.specs.Diskette.{Bytes, Geometry, Sound, imageBytes, recordAt, entryBytes}
+use Rattle.format.specs.Entries.{entryPlace, entryAt, withEntry}
 use Rattle.disk.specs.Places.{blockRecords}
 use Rattle.rows.specs.Entries.{areaRecords, entry-fits, length-entryAt, length-withEntry, entry-stored, entry-left, entry-byte-left, record-kept}
 use Rattle.model.specs.Closing.{closedRow, closeChanges, closedImage}

@@ -11,9 +11,9 @@ use borrow.Author.Tests.{leb-true, le-leb, lt-leb}
 use Rattle.lists.specs.Cases.{bool-ext}
 use Rattle.lists.specs.Splice.{length-splice, getD-splice-in, getD-splice-out, getD-append-past}
 use Rattle.lists.specs.Tab.{tab, length-tab, getD-tab, getD-zeros}
-use Rattle.format.specs.Diskette.{Bytes}
+use Rattle.format.specs.Diskette.{Bytes, slotCount}
 use Rattle.format.specs.Names.{sevenBits, nameBytes}
-use Rattle.format.specs.Entries.{userOf, exOf, s2Of, rcOf, slotOf, slotCount, used, empty, readOnly, extentOf}
+use Rattle.format.specs.Entries.{userOf, exOf, s2Of, rcOf, slotOf, used, empty, readOnly, extentOf}
 use Rattle.model.specs.Entering.{madeRow, nextRow, renamedByte, renamedRow}
 use Rattle.fields.specs.Agree.{Agree, SameName, name-cong, slot-cong, extent-cong, readOnly-cong, used-cong, empty-cong}
 

@@ -10,8 +10,8 @@ use lib.Seq.{getD-set-same, getD-set-other}
 use borrow.Author.Tests.{eqb-true, eqb-false, eq-eqb, ne-eqb}
 use Rattle.lists.specs.Cases.{split, bool-cases, eq-or-ne}
 use Rattle.lists.specs.Product.{same-digits}
-use Rattle.format.specs.Diskette.{Bytes, Geometry, Sound, recordAt, withRecord}
-use Rattle.format.specs.Entries.{entryAt, withEntry, rcOf, slotOf, slotCount, extentOf, countIn, slotFor}
+use Rattle.format.specs.Diskette.{Bytes, Geometry, Sound, recordAt, withRecord, slotCount, extents}
+use Rattle.format.specs.Entries.{entryAt, withEntry, rcOf, slotOf, extentOf, countIn, slotFor}
 use Rattle.format.specs.Notes.{noteAt, pendingFor, withNote}
 use Rattle.format.specs.Fcb.{crOf, randomOf}
 use Rattle.disk.specs.Places.{blockRecords, block-record, block-once}
@@ -20,7 +20,7 @@ use Rattle.rows.specs.Entries.{areaRecords, block-past}
 use Rattle.model.specs.Lent.{Lent, rowsOf}
 use Rattle.model.specs.Closing.{closedImage, closedMap}
 use Rattle.model.specs.Entering.{entered}
-use Rattle.model.specs.Target.{extents, isRandom, targetExtent, targetRecord, crAfter, stays, targetSlot, placeIn, moved, made, nextMade, haveRead, writtenCount, writtenFcb, writtenMap, haveWritten}
+use Rattle.model.specs.Target.{isRandom, targetExtent, targetRecord, crAfter, stays, targetSlot, placeIn, moved, made, nextMade, haveRead, writtenCount, writtenFcb, writtenMap, haveWritten}
 use Rattle.fields.specs.Agree.{Agree, SameName, name-cong, slot-cong, extent-cong, random-cong}
 
 -- ---- the target

@@ -5,9 +5,9 @@ use lib.Dec.{eqb, leb, ltb}
 use Rattle.lists.specs.Tests.{_and_, _or_}
 use Rattle.lists.specs.Below.{allBelow, anyBelow}
 use Rattle.lists.specs.Seen.{taken}
-use Rattle.format.specs.Diskette.{Bytes, Geometry}
+use Rattle.format.specs.Diskette.{Bytes, Geometry, slotCount}
 use Rattle.format.specs.Names.{nameRight}
-use Rattle.format.specs.Entries.{Rows, entryAt, slotCount, userOf, exOf, s2Of, rcOf, slotOf, empty, used, isFile, extentOf}
+use Rattle.format.specs.Entries.{Rows, entryAt, userOf, exOf, s2Of, rcOf, slotOf, empty, used, isFile, extentOf}
 
 -- ex 0 to 31 and s2 0 to 63, of a row or an FCB
 abbrev pub extentRight : Bytes → Bool

@@ -24,10 +24,28 @@ pub record Geometry : Type 0 where
   -- the physical sector, counted from 1, of a logical one, counted from 0
   pub physical : ℕ → ℕ
 
--- sizes that are the same on every disk
+-- ---- sizes that are the same on every disk
 abbrev pub recordBytes : ℕ
 recordBytes = 128
 
+abbrev pub entryBytes : ℕ
+entryBytes = 32
+
+abbrev pub entriesPerRecord : ℕ
+entriesPerRecord = 4
+
+-- the block numbers of an entry
+abbrev pub slotCount : ℕ
+slotCount = 16
+
+-- the records of an extent, and one past the last extent
+abbrev pub extentRecords : ℕ
+extentRecords = 128
+
+abbrev pub extents : ℕ
+extents = 2048
+
+-- ---- the 8-inch disk
 -- the physical sectors of the 8-inch disk, from logical 0 on
 unfoldable pub skew : List ℕ
 skew = 1 ∷ 7 ∷ 13 ∷ 19 ∷ 25 ∷ 5 ∷ 11 ∷ 17 ∷ 23 ∷ 3 ∷ 9 ∷ 15 ∷ 21 ∷ 2 ∷ 8 ∷ 14 ∷ 20 ∷ 26 ∷ 6 ∷ 12 ∷ 18 ∷ 24 ∷ 4 ∷ 10 ∷ 16 ∷ 22 ∷ []

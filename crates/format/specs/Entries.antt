@@ -6,20 +6,12 @@ use lib.ListN.{getD}
 use Rattle.lists.specs.Tests.{_and_}
 use Rattle.lists.specs.Splice.{part, splice}
 use Rattle.lists.specs.Below.{firstIn}
-use Rattle.format.specs.Diskette.{Bytes, Geometry, offsetOf}
+use Rattle.format.specs.Diskette.{Bytes, Geometry, offsetOf, entriesPerRecord}
+-- named from here too
+pub use Rattle.format.specs.Diskette.{entryBytes, slotCount}
 use Rattle.format.specs.Names.{nameLike}
 use Rattle.format.specs.Found.{foundBelow}
 use Rattle.format.specs.declared.Found.{Found}
-
--- sizes that are the same on every disk
-abbrev pub entryBytes : ℕ
-entryBytes = 32
-
-abbrev pub entriesPerRecord : ℕ
-entriesPerRecord = 4
-
-abbrev pub slotCount : ℕ
-slotCount = 16
 
 -- ---- where an entry stands
 unfoldable pub entryPlace : Geometry → ℕ → ℕ

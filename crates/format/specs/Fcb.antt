@@ -5,9 +5,9 @@ use lib.Dec.{eqb, leb}
 use lib.ListN.{getD}
 use Rattle.lists.specs.Tests.{_and_, _or_}
 use Rattle.lists.specs.Below.{allBelow}
-use Rattle.format.specs.Diskette.{Bytes, Geometry}
+use Rattle.format.specs.Diskette.{Bytes, Geometry, slotCount}
 use Rattle.format.specs.Names.{nameRight}
-use Rattle.format.specs.Entries.{Rows, slotCount, slotsOf, extentOf, findFile}
+use Rattle.format.specs.Entries.{Rows, slotsOf, extentOf, findFile}
 use Rattle.format.specs.Consistent.{numbersRight}
 use Rattle.format.specs.Notes.{pendingFor, noteAt}
 use Rattle.format.specs.declared.Found.{Found}

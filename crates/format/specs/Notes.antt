@@ -8,8 +8,8 @@ use Rattle.lists.specs.Below.{allBelow, anyBelow, firstIn}
 use Rattle.lists.specs.Count.{countBelow}
 use Rattle.lists.specs.Tab.{tab}
 use Rattle.lists.specs.Seen.{taken}
-use Rattle.format.specs.Diskette.{Bytes, Geometry}
-use Rattle.format.specs.Entries.{Rows, used, slotCount}
+use Rattle.format.specs.Diskette.{Bytes, Geometry, slotCount}
+use Rattle.format.specs.Entries.{Rows, used}
 use Rattle.format.specs.Consistent.{listed, slotsInAll}
 use Rattle.format.specs.Found.{foundBelow}
 use Rattle.format.specs.declared.Found.{Found}

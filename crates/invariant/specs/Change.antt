@@ -9,9 +9,9 @@ use borrow.Author.Tests.{eqb-true, eqb-false, eq-eqb, ne-eqb, not-true}
 use Rattle.lists.specs.Cases.{split, bool-cases, not-both, refute}
 use Rattle.lists.specs.Tests.{_and_, _or_, and-left, and-right, and-both, and-then, and-fails-left, or-left, or-right, or-then}
 use Rattle.lists.specs.Below.{Some, any-some, any-at}
-use Rattle.format.specs.Diskette.{Bytes, Geometry, Sound}
+use Rattle.format.specs.Diskette.{Bytes, Geometry, Sound, slotCount}
 use Rattle.format.specs.Names.{nameLike}
-use Rattle.format.specs.Entries.{Rows, slotCount, userOf, slotOf, used, empty, extentOf}
+use Rattle.format.specs.Entries.{Rows, userOf, slotOf, used, empty, extentOf}
 use Rattle.format.specs.Consistent.{listed, slotsInAll}
 use Rattle.format.specs.Notes.{freeNote, isPending, pendingEntry, pendingFor, isListed, listedBy, heldFor, releasedNote}
 use Rattle.consistency.specs.Facts.{Fine, Stands, SameFile, Consistent}

@@ -5,8 +5,8 @@ use mathlib.Core.Bool.{true, false}
 use Prim.Native.Nat.{ℕ, _≤_, _<_}
 use lib.ListN.{length, List·getD-eq-default}
 use Rattle.lists.specs.Cases.{split, eq-or-ne, lt-or-le}
-use Rattle.format.specs.Diskette.{Bytes, Geometry, Sound}
-use Rattle.format.specs.Entries.{entryAt, slotCount, slotOf, extentOf, used}
+use Rattle.format.specs.Diskette.{Bytes, Geometry, Sound, slotCount}
+use Rattle.format.specs.Entries.{entryAt, slotOf, extentOf, used}
 use Rattle.format.specs.Notes.{noteAt, freeNote, pendingFor}
 use Rattle.model.specs.Closing.{closedRow, closedImage, closedMap}
 use Rattle.consistency.specs.Facts.{SameFile}

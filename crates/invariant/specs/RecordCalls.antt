@@ -6,15 +6,15 @@ use native.Mathlib.Omega.{arith}
 use lib.ListN.{length}
 use Rattle.lists.specs.Cases.{split, eq-or-ne, not-both}
 use borrow.Author.Tests.{eq-eqb}
-use Rattle.format.specs.Diskette.{Bytes, Geometry, Sound, recordBytes}
-use Rattle.format.specs.Entries.{entryAt, slotCount, slotOf, extentOf, used, empty, isFile, findEmpty}
+use Rattle.format.specs.Diskette.{Bytes, Geometry, Sound, recordBytes, slotCount, extents}
+use Rattle.format.specs.Entries.{entryAt, slotOf, extentOf, used, empty, isFile, findEmpty}
 use Rattle.format.specs.Notes.{noteAt, freeNote, pendingFor, findFree}
 use Rattle.format.specs.declared.Found.the-variants.{At, Nothing}
 use Rattle.model.specs.declared.Session.{Session}
 use Rattle.model.specs.Lent.{Lent, rowsOf}
 use Rattle.model.specs.Entering.{entered, nextRow}
 use Rattle.model.specs.Closing.{closedImage, closedMap}
-use Rattle.model.specs.Target.{extents, targetExtent, targetRecord, targetSlot, crAfter, presentEntry, stays, targetEntry, blockThere, plan, moved, made, nextMade, haveRead, haveWritten, writtenMap}
+use Rattle.model.specs.Target.{targetExtent, targetRecord, targetSlot, crAfter, presentEntry, stays, targetEntry, blockThere, plan, moved, made, nextMade, haveRead, haveWritten, writtenMap}
 use Rattle.model.specs.declared.Plan.{Plan}
 use Rattle.model.specs.Calls.{readAt, reading, read, writtenAt, writing, written}
 use Rattle.names.specs.Laws.{like-trans, like-intro}

@@ -6,8 +6,8 @@ use Prim.Native.Nat.{ℕ, _<_}
 use lib.Dec.{eqb}
 use borrow.Author.Tests.{eqb-true, eqb-false}
 use Rattle.lists.specs.Cases.{split, eq-or-ne, not-both, clash}
-use Rattle.format.specs.Diskette.{Geometry, Sound}
-use Rattle.format.specs.Entries.{Rows, slotCount, slotOf, used, empty}
+use Rattle.format.specs.Diskette.{Geometry, Sound, slotCount}
+use Rattle.format.specs.Entries.{Rows, slotOf, used, empty}
 use Rattle.format.specs.Notes.{freeNote, pendingFor, freshNote, settledNote}
 use Rattle.consistency.specs.Facts.{Fine, Stands, SameFile, Consistent}
 use Rattle.consistency.specs.Reflect.{used-full, low-used}

@@ -4,9 +4,9 @@ use mathlib.Core.Bool.{Bool, true, false}
 use Prim.Native.Nat.{ℕ, _*_, _%_, _≤_, _<_}
 use lib.ListN.{length}
 use Rattle.lists.specs.Cases.{not-both}
-use Rattle.format.specs.Diskette.{Bytes, Geometry, Sound, recordBytes, imageBytes, withRecord}
+use Rattle.format.specs.Diskette.{Bytes, Geometry, Sound, recordBytes, imageBytes, withRecord, entryBytes, slotCount}
 use Rattle.format.specs.Names.{nameRight}
-use Rattle.format.specs.Entries.{entryAt, withEntry, entryBytes, slotCount, slotOf, used, empty, named, isFile}
+use Rattle.format.specs.Entries.{entryAt, withEntry, slotOf, used, empty, named, isFile}
 use Rattle.format.specs.Consistent.{consistent}
 use Rattle.format.specs.Notes.{noteAt, freeNote, pendingFor, withNote, freshMap, freedMap, releasedMap}
 use Rattle.model.specs.Entering.{renamedRow}

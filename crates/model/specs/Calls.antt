@@ -6,8 +6,8 @@ use lib.Dec.{eqb}
 use lib.ListN.{set}
 use Rattle.lists.specs.Splice.{splice}
 use Rattle.lists.specs.Fold.{foldBelow}
-use Rattle.format.specs.Diskette.{Bytes, Geometry, recordAt}
-use Rattle.format.specs.Entries.{Rows, entryAt, withEntry, entriesPerRecord, extentOf, countIn, named, findEmpty}
+use Rattle.format.specs.Diskette.{Bytes, Geometry, recordAt, entriesPerRecord, extentRecords}
+use Rattle.format.specs.Entries.{Rows, entryAt, withEntry, extentOf, countIn, named, findEmpty}
 use Rattle.format.specs.Notes.{freshMap, freedMap, releasedMap, freeCount}
 use Rattle.format.specs.Fcb.{crOf}
 use Rattle.format.specs.Found.{numberOf}
@@ -18,7 +18,7 @@ use Rattle.model.specs.declared.Plan.the-variants.{Stay, Move, Make}
 use Rattle.model.specs.Lent.{Lent, lend, rowsOf, Outcome, ends, ended, searching, withUser}
 use Rattle.model.specs.Closing.{closedImage, closedMap, closedFcb}
 use Rattle.model.specs.Entering.{copied, entered, madeRow, renamedRow, threeBytes}
-use Rattle.model.specs.Target.{extentRecords, targetRecord, targetSlot, crAfter, presentEntry, plan, moved, made, haveRead, haveWritten}
+use Rattle.model.specs.Target.{targetRecord, targetSlot, crAfter, presentEntry, plan, moved, made, haveRead, haveWritten}
 use Rattle.model.specs.Table.{askedEntry}
 use Rattle.model.specs.Search.{findHit}
 

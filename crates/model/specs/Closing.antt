@@ -8,9 +8,9 @@ use Rattle.lists.specs.Below.{anyBelow}
 use Rattle.lists.specs.Splice.{splice}
 use Rattle.lists.specs.Tab.{tab}
 use Rattle.lists.specs.Fold.{foldBelow}
-use Rattle.format.specs.Diskette.{Bytes, Geometry}
+use Rattle.format.specs.Diskette.{Bytes, Geometry, slotCount}
 use Rattle.format.specs.Names.{sevenBits}
-use Rattle.format.specs.Entries.{entryAt, withEntry, slotCount, slotsOf, rcOf, countOf, extentOf, countIn}
+use Rattle.format.specs.Entries.{entryAt, withEntry, slotsOf, rcOf, countOf, extentOf, countIn}
 use Rattle.format.specs.Notes.{withNote, recordedNote}
 
 -- a slot where the entry (es) has 0 and the FCB (fs) doesn't takes the FCB's block

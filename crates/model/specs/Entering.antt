@@ -7,9 +7,9 @@ use lib.ListN.{getD, take, replicate}
 use Rattle.lists.specs.Tests.{_and_}
 use Rattle.lists.specs.Splice.{part, splice}
 use Rattle.lists.specs.Tab.{tab}
-use Rattle.format.specs.Diskette.{Bytes}
+use Rattle.format.specs.Diskette.{Bytes, entryBytes, slotCount}
 use Rattle.format.specs.Names.{sevenBits, nameBytes}
-use Rattle.format.specs.Entries.{entryBytes, slotCount, exOf}
+use Rattle.format.specs.Entries.{exOf}
 
 -- FCB bytes 1 to 31 become the row's
 unfoldable pub copied : Bytes → Bytes → Bytes

@@ -7,7 +7,7 @@ use lib.Dec.{eqb, leb, ltb}
 use lib.ListN.{getD, length}
 use Rattle.lists.specs.Tests.{_and_, _or_}
 use Rattle.lists.specs.Below.{anyBelow}
-use Rattle.format.specs.Diskette.{Bytes, Geometry, imageBytes, recordBytes}
+use Rattle.format.specs.Diskette.{Bytes, Geometry, imageBytes, recordBytes, extents}
 use Rattle.format.specs.Names.{nameRight}
 use Rattle.format.specs.Entries.{exOf, named, readOnly, findFile, findNamed, findEmpty}
 use Rattle.format.specs.Consistent.{extentRight, consistent}
@@ -21,7 +21,7 @@ use Rattle.model.specs.declared.Code.the-variants.{NotListed, BadParamet
 use Rattle.model.specs.declared.Verdict.{Verdict}
 use Rattle.model.specs.declared.Verdict.the-variants.{Passed, Refused}
 use Rattle.model.specs.Lent.{Lent, rowsOf, searchOn}
-use Rattle.model.specs.Target.{extents, targetExtent, stays, presentEntry, targetEntry, blockThere, recordThere, readOnlyThere}
+use Rattle.model.specs.Target.{targetExtent, stays, presentEntry, targetEntry, blockThere, recordThere, readOnlyThere}
 use Rattle.model.specs.Search.{patternOf, findHit}
 
 -- ---- calls by their numbers

@@ -5,7 +5,7 @@ use Prim.Native.Nat.{ℕ, _+_, _/_, _%_, max}
 use lib.Dec.{eqb, ltb}
 use lib.ListN.{set}
 use Rattle.lists.specs.Tests.{_and_, _or_}
-use Rattle.format.specs.Diskette.{Bytes, Geometry, diskRecord, recordAt, withRecord}
+use Rattle.format.specs.Diskette.{Bytes, Geometry, diskRecord, recordAt, withRecord, extentRecords}
 use Rattle.format.specs.Entries.{entryAt, withEntry, slotOf, countOf, extentOf, countIn, slotFor, findFile, findEmpty, readOnly}
 use Rattle.format.specs.Notes.{pendingFor, withNote, findFree}
 use Rattle.format.specs.Fcb.{crOf, randomOf, current}
@@ -17,13 +17,6 @@ use Rattle.model.specs.declared.Plan.the-variants.{Stay, Move, Make}
 use Rattle.model.specs.Lent.{Lent, lend, rowsOf}
 use Rattle.model.specs.Closing.{closedImage, closedMap}
 use Rattle.model.specs.Entering.{entered, nextRow}
-
--- sizes that are the same on every disk: the records of an extent, and one past the last extent
-abbrev pub extentRecords : ℕ
-extentRecords = 128
-
-abbrev pub extents : ℕ
-extents = 2048
 
 -- 33 and 34 go by the random record, 20 and 21 by cr
 abbrev pub isRandom : ℕ → Bool

@@ -6,7 +6,7 @@ use lib.Dec.{eqb}
 use borrow.Author.Tests.{eq-eqb, ne-eqb, le-leb, lt-leb}
 use Rattle.lists.specs.Splice.{splice}
 use Rattle.lists.specs.Tests.{or-left, or-right, or-then}
-use Rattle.format.specs.Diskette.{Bytes, Geometry}
+use Rattle.format.specs.Diskette.{Bytes, Geometry, extentRecords}
 use Rattle.format.specs.Entries.{extentOf}
 use Rattle.format.specs.Notes.{freshMap, freedMap, freeCount}
 use Rattle.format.specs.Fcb.{crOf}
@@ -15,7 +15,6 @@ use Rattle.model.specs.declared.Answer.{Answer}
 use Rattle.model.specs.declared.Code.the-variants.{Accepted, Failed}
 use Rattle.model.specs.Lent.{Lent, rowsOf, outcome, answerOf, ended, withUser}
 use Rattle.model.specs.Entering.{threeBytes}
-use Rattle.model.specs.Target.{extentRecords}
 use Rattle.model.specs.Table.{positionRight}
 use Rattle.model.specs.Calls.{loggedIn, freed, userSet, positioned, space}
 use Rattle.table.specs.First.{Decides, here}

@@ -7,8 +7,8 @@ use native.Mathlib.Omega.{arith}
 use lib.ListN.{length, getD}
 use Rattle.lists.specs.Cases.{split, lt-or-le, eq-or-ne}
 use Rattle.lists.specs.Splice.{part, splice, length-part, length-splice, part-part, part-splice-same, part-splice-other, getD-splice-out}
-use Rattle.format.specs.Diskette.{Bytes, Geometry, Sound, recordBytes, imageBytes, diskRecord, offsetOf, recordAt, withRecord}
-use Rattle.format.specs.Entries.{entryBytes, entriesPerRecord, entryPlace, entryAt, withEntry}
+use Rattle.format.specs.Diskette.{Bytes, Geometry, Sound, recordBytes, imageBytes, diskRecord, offsetOf, recordAt, withRecord, entryBytes, entriesPerRecord}
+use Rattle.format.specs.Entries.{entryPlace, entryAt, withEntry}
 use Rattle.disk.specs.Places.{blockRecords, offset-fits, offset-past, offset-apart}
 
 -- the records of the directory

@@ -3,8 +3,8 @@ use Prim.Native.Nat.{ℕ, _<_}
 use native.Mathlib.Nat.{mul-comm}
 use native.Mathlib.Omega.{arith}
 use Rattle.lists.specs.Product.{first-below}
-use Rattle.format.specs.Diskette.{Geometry, Sound}
-use Rattle.format.specs.Entries.{slotCount, slotFor}
+use Rattle.format.specs.Diskette.{Geometry, Sound, slotCount}
+use Rattle.format.specs.Entries.{slotFor}
 
 -- each record of an extent has a slot
 pub slot-for-below : {G : Geometry} (S : Sound G) (ext k : ℕ) → k < 128 → slotFor G ext k < slotCount

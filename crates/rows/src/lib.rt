@@ -2,10 +2,10 @@
 ghost use mathlib.Core.Path.{_≡_};
 ghost use Prim.Native.Nat.{_+_, _*_, _≤_, _<_};
 ghost use lib.ListN.{length};
-ghost use Rattle.format.specs.Diskette.{eightInch, imageBytes};
+ghost use Rattle.format.specs.Diskette.{eightInch, imageBytes, entryBytes, slotCount};
 ghost use Rattle.format.specs.Names.{nameBytes};
 ghost use Rattle.format.specs.Consistent.{numbersRight};
-ghost use Rattle.format.specs.Entries.{entryBytes, slotCount, entryPlace, entryAt, withEntry, slotsOf, extentOf, covers, countIn, slotFor, named, isFile, findFile, findNamed, findEmpty};
+ghost use Rattle.format.specs.Entries.{entryPlace, entryAt, withEntry, slotsOf, extentOf, covers, countIn, slotFor, named, isFile, findFile, findNamed, findEmpty};
 use format::ENTRIES;
 use format::ENTRIES_PER_RECORD;
 use format::ENTRY_BYTES;

@@ -6,8 +6,8 @@ use native.Mathlib.Omega.{arith}
 use lib.ListN.{length, List·getD-eq-default}
 use borrow.Author.Tests.{leb-false, eq-eqb, not-false}
 use Rattle.lists.specs.Cases.{split, bool-cases, lt-or-le}
-use Rattle.format.specs.Diskette.{Bytes, Geometry, Sound}
-use Rattle.format.specs.Entries.{slotCount, slotOf, userOf, findFile}
+use Rattle.format.specs.Diskette.{Bytes, Geometry, Sound, slotCount, extents}
+use Rattle.format.specs.Entries.{slotOf, userOf, findFile}
 use Rattle.format.specs.Consistent.{consistent}
 use Rattle.format.specs.Notes.{noteAt, pendingFor}
 use Rattle.facts.specs.Found.{FoundAt, found-cases}
@@ -18,7 +18,7 @@ use Rattle.model.specs.declared.Session.{Session}
 use Rattle.model.specs.declared.Plan.{Plan}
 use Rattle.model.specs.declared.Plan.the-variants.{Stay, Move, Make}
 use Rattle.model.specs.Lent.{Lent, rowsOf}
-use Rattle.model.specs.Target.{extents, targetExtent, targetRecord, targetSlot, crAfter, presentEntry, stays, targetEntry, blockThere, plan}
+use Rattle.model.specs.Target.{targetExtent, targetRecord, targetSlot, crAfter, presentEntry, stays, targetEntry, blockThere, plan}
 use Rattle.model.specs.Table.{firstRow}
 use Rattle.consistency.specs.Reflect.{low-used, consistent-facts}
 use Rattle.notes.specs.Numbers.{pending-not-free}

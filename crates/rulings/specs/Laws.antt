@@ -7,7 +7,7 @@ use lib.Dec.{eqb, leb, ltb}
 use borrow.Author.Tests.{eq-eqb, ne-eqb, lt-ltb, le-ltb, not-true}
 use Rattle.lists.specs.Cases.{split, bool-cases}
 use Rattle.lists.specs.Tests.{_and_, and-right, and-fails-left, and-fails-right, and-both, or-left, or-then}
-use Rattle.format.specs.Diskette.{Bytes, Geometry}
+use Rattle.format.specs.Diskette.{Bytes, Geometry, extents}
 use Rattle.format.specs.Entries.{Rows, extentOf, readOnly, findEmpty}
 use Rattle.format.specs.Notes.{findFree}
 use Rattle.format.specs.Fcb.{current}
@@ -20,7 +20,7 @@ use Rattle.model.specs.declared.Code.the-variants.{BadRecord, NotCurrent, ReadO
 use Rattle.model.specs.declared.Plan.{Plan}
 use Rattle.model.specs.declared.Plan.the-variants.{Make}
 use Rattle.model.specs.Lent.{Lent, rowsOf}
-use Rattle.model.specs.Target.{extents, targetExtent, targetRecord, targetSlot, presentEntry, stays, targetEntry, blockThere, countThere, recordThere, targetBlock, readOnlyThere, planFrom, plan}
+use Rattle.model.specs.Target.{targetExtent, targetRecord, targetSlot, presentEntry, stays, targetEntry, blockThere, countThere, recordThere, targetBlock, readOnlyThere, planFrom, plan}
 use Rattle.model.specs.Table.{Row, firstRow}
 use Rattle.current.specs.Current.{fcb-says, current-says}
 use Rattle.fields.specs.Target.{record-below, moves-extent}

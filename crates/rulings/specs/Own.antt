@@ -8,7 +8,7 @@ use lib.Dec.{ltb}
 use borrow.Author.Tests.{le-leb, lt-leb, lt-ltb, le-ltb, not-false}
 use Rattle.lists.specs.Cases.{split, lt-or-le, clash}
 use Rattle.lists.specs.Tests.{_and_, _or_, and-fails-left, and-fails-right, and-then}
-use Rattle.format.specs.Diskette.{Bytes, Geometry}
+use Rattle.format.specs.Diskette.{Bytes, Geometry, extents}
 use Rattle.format.specs.Fcb.{randomOf}
 use Rattle.format.specs.Found.{isFound}
 use Rattle.facts.specs.Found.{is-found, found-so}
@@ -16,7 +16,7 @@ use Rattle.model.specs.declared.Session.{Session}
 use Rattle.model.specs.declared.Verdict.{Verdict}
 use Rattle.model.specs.declared.Verdict.the-variants.{Passed, Refused}
 use Rattle.model.specs.Lent.{Lent, Outcome}
-use Rattle.model.specs.Target.{extents, isRandom, targetExtent, presentEntry, targetEntry, recordThere, readOnlyThere, plan}
+use Rattle.model.specs.Target.{isRandom, targetExtent, presentEntry, targetEntry, recordThere, readOnlyThere, plan}
 use Rattle.model.specs.Table.{firstRow}
 use Rattle.model.specs.Calls.{reading, read, writing, written}
 use Rattle.model.specs.Step.{refused, carriedOut, effect}

@@ -6,7 +6,7 @@ use mathlib.Core.List.{List, [], _∷_}
 use Prim.Native.Nat.{ℕ, _<_}
 use lib.Dec.{eqb, leb, ltb}
 use Rattle.lists.specs.Tests.{_and_, _or_}
-use Rattle.format.specs.Diskette.{Bytes, Geometry}
+use Rattle.format.specs.Diskette.{Bytes, Geometry, extents}
 use Rattle.format.specs.Entries.{Rows, readOnly, findEmpty}
 use Rattle.format.specs.Notes.{findFree}
 use Rattle.format.specs.Found.{isFound}
@@ -19,7 +19,7 @@ use Rattle.model.specs.declared.Verdict.the-variants.{Passed, Refused}
 use Rattle.model.specs.declared.Plan.{Plan}
 use Rattle.model.specs.declared.Plan.the-variants.{Make}
 use Rattle.model.specs.Lent.{Lent, rowsOf}
-use Rattle.model.specs.Target.{extents, targetExtent, presentEntry, targetEntry, blockThere, recordThere, readOnlyThere, plan}
+use Rattle.model.specs.Target.{targetExtent, presentEntry, targetEntry, blockThere, recordThere, readOnlyThere, plan}
 use Rattle.model.specs.Table.{Row, firstRow}
 use Rattle.table.specs.Own.{when}
 use Rattle.targets.specs.Target.{overLast, missingCode, arrivedSlot, arrivedCount, goTo}

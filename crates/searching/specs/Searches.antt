@@ -7,9 +7,9 @@ use lib.ListN.{getD}
 use borrow.Author.Tests.{eq-eqb, ne-eqb, le-ltb, lt-ltb, le-leb, lt-leb}
 use Rattle.lists.specs.Cases.{split, bool-cases, lt-or-le}
 use Rattle.lists.specs.Tests.{_and_, _or_, and-then, and-first, and-left, and-right}
-use Rattle.format.specs.Diskette.{Bytes, Geometry, recordAt}
+use Rattle.format.specs.Diskette.{Bytes, Geometry, recordAt, entriesPerRecord}
 use Rattle.format.specs.Names.{nameLike, nameRight}
-use Rattle.format.specs.Entries.{Rows, userOf, exOf, named, entriesPerRecord}
+use Rattle.format.specs.Entries.{Rows, userOf, exOf, named}
 use Rattle.format.specs.Found.{numberOf, isFound}
 use Rattle.facts.specs.Found.{FirstAt, first-says}
 use Rattle.format.specs.declared.Found.{Found}

@@ -3,8 +3,8 @@
 ghost use mathlib.Core.Path.{_≡_};
 ghost use Prim.Native.Nat.{ℕ, _≤_};
 ghost use lib.ListN.{length};
-ghost use Rattle.format.specs.Diskette.{Bytes, eightInch, recordBytes, imageBytes};
-ghost use Rattle.format.specs.Entries.{entryBytes, entryAt};
+ghost use Rattle.format.specs.Diskette.{Bytes, eightInch, recordBytes, imageBytes, entryBytes};
+ghost use Rattle.format.specs.Entries.{entryAt};
 ghost use Rattle.format.specs.Fcb.{fcbBytes};
 ghost use Rattle.model.specs.Lent.{lend, outcome};
 ghost use Rattle.model.specs.Search.{patternBytes, extentHit, hit, findHit};

@@ -7,7 +7,7 @@ use lib.Dec.{eqb, ltb}
 use borrow.Author.Tests.{leb-false, lt-leb, ltb-false, le-ltb, ne-eqb, eq-eqb, not-false}
 use Rattle.lists.specs.Cases.{split, bool-cases, eq-or-ne}
 use Rattle.lists.specs.Tests.{_and_, _or_, and-fails-left, and-fails-right}
-use Rattle.format.specs.Diskette.{Bytes, Geometry}
+use Rattle.format.specs.Diskette.{Bytes, Geometry, extents}
 use Rattle.format.specs.Consistent.{consistent}
 use Rattle.format.specs.Notes.{findFree}
 use Rattle.format.specs.Fcb.{randomOf}
@@ -17,7 +17,7 @@ use Rattle.model.specs.declared.Session.{Session}
 use Rattle.model.specs.declared.Code.the-variants.{NotListed}
 use Rattle.model.specs.declared.Verdict.the-variants.{Passed}
 use Rattle.model.specs.Lent.{Lent}
-use Rattle.model.specs.Target.{extents, isRandom, targetExtent, presentEntry, targetEntry, recordThere, blockThere}
+use Rattle.model.specs.Target.{isRandom, targetExtent, presentEntry, targetEntry, recordThere, blockThere}
 use Rattle.model.specs.Table.{isCall, parametersRight, diskRight, verdict}
 use Rattle.table.specs.First.{_&_, NoneHolds, passed-none, none-passed, passed-refused}
 use Rattle.table.specs.Own.{Call, call13, call15, call16, call17, call18, call19, call20, call21, call22, call23, call32, call33, call34, call35, call36, call46, call98, call-of, ownRows, rowsFor, verdict-rows, verdict-unlisted}

@@ -7,7 +7,7 @@ use lib.Dec.{eqb, leb, ltb}
 use borrow.Author.Tests.{eqb-true}
 use Rattle.lists.specs.Cases.{split, clash}
 use Rattle.lists.specs.Tests.{_and_, _or_, or-cases}
-use Rattle.format.specs.Diskette.{Geometry}
+use Rattle.format.specs.Diskette.{Geometry, extents}
 use Rattle.format.specs.Names.{nameRight}
 use Rattle.format.specs.Entries.{exOf, findEmpty}
 use Rattle.format.specs.Notes.{findFree}
@@ -18,7 +18,7 @@ use Rattle.model.specs.declared.Code.{Code}
 use Rattle.model.specs.declared.Code.the-variants.{NotListed, BadParameter, BadDisk, BadRecord, NotCurrent, Failed, BadName, SearchOver, ReadOnly, Exists, NotClosed, NoExtent, NoRecord, NoEntry, DiskFull}
 use Rattle.model.specs.declared.Verdict.the-variants.{Refused}
 use Rattle.model.specs.Lent.{Lent, rowsOf, searchOn}
-use Rattle.model.specs.Target.{extents, targetExtent, stays, presentEntry, targetEntry, blockThere, recordThere, readOnlyThere}
+use Rattle.model.specs.Target.{targetExtent, stays, presentEntry, targetEntry, blockThere, recordThere, readOnlyThere}
 use Rattle.model.specs.Search.{patternOf, findHit}
 use Rattle.model.specs.Table.{oneOf, fcbCalls, plainCalls, usesFcb, isCall, parametersRight, diskRight, anyNamed, askedEntry, anyReadOnly, positionRight, Row, firstRow, table, verdict}
 use Rattle.table.specs.First.{_&_}

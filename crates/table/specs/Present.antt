@@ -8,7 +8,7 @@ use borrow.Author.Tests.{eqb-true, leb-true, ne-eqb, ltb-true}
 use Rattle.lists.specs.Cases.{split, bool-cases}
 use Rattle.lists.specs.Tests.{_and_, and-left, and-right, or-then}
 use Rattle.lists.specs.Below.{all-at}
-use Rattle.format.specs.Diskette.{Bytes, Geometry}
+use Rattle.format.specs.Diskette.{Bytes, Geometry, extents}
 use Rattle.format.specs.Entries.{Rows, entryAt, userOf, exOf, s2Of, empty, slotsOf, extentOf, covers, named, isFile, findFile}
 use Rattle.format.specs.Consistent.{numbersRight, entryRight, consistentRows, consistent}
 use Rattle.format.specs.Fcb.{fcbRight, slotsFit, fitting, current}
@@ -16,7 +16,7 @@ use Rattle.facts.specs.Found.{at-not-nothing, at-once, FoundAt, FirstAt, first-
 use Rattle.format.specs.declared.Found.{Found}
 use Rattle.format.specs.declared.Found.the-variants.{At, Nothing}
 use Rattle.model.specs.Lent.{Lent, rowsOf}
-use Rattle.model.specs.Target.{extents, targetExtent, targetRecord, presentEntry, stays, targetEntry, countAt, countThere, recordThere}
+use Rattle.model.specs.Target.{targetExtent, targetRecord, presentEntry, stays, targetEntry, countAt, countThere, recordThere}
 
 -- the FCB is current, and e is its entry
 pub record Current (G : Geometry) (d : Rows) (map : Bytes) (user : ℕ) (fcb : Bytes) (e : ℕ) : Type 0 where

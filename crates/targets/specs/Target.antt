@@ -4,13 +4,13 @@ use mathlib.Core.Bool.{Bool, cond}
 use Prim.Native.Nat.{ℕ, max}
 use lib.Dec.{eqb, leb}
 use Rattle.lists.specs.Tests.{_and_}
-use Rattle.format.specs.Diskette.{Bytes, Geometry}
+use Rattle.format.specs.Diskette.{Bytes, Geometry, extents}
 use Rattle.format.specs.Entries.{Rows, countOf, slotOf, countIn}
 use Rattle.model.specs.declared.Code.{Code}
 use Rattle.model.specs.declared.Code.the-variants.{NoRecord}
 use Rattle.model.specs.declared.Plan.{Plan}
 use Rattle.model.specs.declared.Plan.the-variants.{Stay, Move}
-use Rattle.model.specs.Target.{extents, isRandom, targetExtent, targetRecord, crAfter}
+use Rattle.model.specs.Target.{isRandom, targetExtent, targetRecord, crAfter}
 use Rattle.targets.specs.declared.Target.{Target}
 
 -- t is the target of call n, with cr afterwards

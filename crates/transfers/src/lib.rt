@@ -2,11 +2,10 @@
 ghost use mathlib.Core.Path.{_≡_};
 ghost use Prim.Native.Nat.{_*_, _≤_, _<_};
 ghost use lib.ListN.{length};
-ghost use Rattle.format.specs.Diskette.{Bytes, eightInch, imageBytes, recordBytes};
-ghost use Rattle.format.specs.Entries.{slotCount};
+ghost use Rattle.format.specs.Diskette.{Bytes, eightInch, imageBytes, recordBytes, slotCount, extentRecords};
 ghost use Rattle.format.specs.Fcb.{fcbBytes};
 ghost use Rattle.model.specs.Lent.{lend};
-ghost use Rattle.model.specs.Target.{extentRecords, placeIn, haveRead, writtenFcb, writtenMap, haveWritten};
+ghost use Rattle.model.specs.Target.{placeIn, haveRead, writtenFcb, writtenMap, haveWritten};
 
 // The disk record that holds record r of an extent, in block b.
 fn place_in(b: usize, r: usize) -> usize

@@ -4,7 +4,7 @@ use Prim.Native.Nat.{_<_}
 use native.Mathlib.Omega.{arith}
 use borrow.Author.Needs.{needs}
 use Rattle.lists.specs.Cases.{clash}
-use Rattle.model.specs.Target.{extents, extentRecords}
+use Rattle.format.specs.Diskette.{extents, extentRecords}
 use Rattle.assured.specs.Script.{diskOf}
 use Rattle.assured.specs.Demands.{request, extent-low, record-low, reads-again}
 use Rattle.assured.proofs.write_and_read.Statement.{statement}

@@ -3,8 +3,7 @@ use mathlib.Core.Path.{_≡_, ap, _∙_}
 use native.Mathlib.Omega.{arith}
 use lib.ListN.{length, length-set}
 use borrow.Author.Needs.{needs}
-use Rattle.format.specs.Diskette.{eightInch}
-use Rattle.format.specs.Entries.{entryBytes, slotCount}
+use Rattle.format.specs.Diskette.{eightInch, entryBytes, slotCount}
 use Rattle.fields.specs.Closing.{length-mergedSlots}
 use Rattle.closing.specs.Laws.{closed-row}
 use Rattle.closing.proofs.closed_row.Statement.{statement}

@@ -5,7 +5,7 @@ use native.Mathlib.Omega.{arith}
 use lib.ListN.{length, length-set}
 use borrow.Author.Needs.{needs}
 use Rattle.lists.specs.Tab.{Filled, filled-none, filled-more, filled-all}
-use Rattle.format.specs.Entries.{slotCount}
+use Rattle.format.specs.Diskette.{slotCount}
 use Rattle.model.specs.Closing.{mergedSlot, mergedSlots}
 use Rattle.closing.proofs.merge.Statement.{statement}
 use Rattle.closing.proofs.merge.Tie as tie

@@ -5,8 +5,7 @@ use native.Mathlib.Omega.{arith}
 use lib.ListN.{length}
 use borrow.Author.Needs.{needs}
 use Rattle.lists.specs.Fold.{foldBelow, fold-none, fold-next, fold-done}
-use Rattle.format.specs.Entries.{slotCount}
-use Rattle.format.specs.Diskette.{Bytes}
+use Rattle.format.specs.Diskette.{Bytes, slotCount}
 use Rattle.model.specs.Closing.{closedNote}
 use Rattle.closing.proofs.record_blocks.Statement.{statement}
 use Rattle.closing.proofs.record_blocks.Tie as tie

@@ -6,7 +6,7 @@ use native.Mathlib.Omega.{arith}
 use borrow.Author.Needs.{needs}
 use borrow.Author.Tests.{not-true, not-false}
 use Rattle.lists.specs.Below.{allBelow, all-none, all-more, all-fails, all-done}
-use Rattle.format.specs.Entries.{slotCount}
+use Rattle.format.specs.Diskette.{slotCount}
 use Rattle.format.specs.Fcb.{slotFits, slotsFit}
 use Rattle.current.proofs.slots_fit.Statement.{statement}
 use Rattle.current.proofs.slots_fit.Tie as tie

@@ -5,7 +5,7 @@ use native.Mathlib.Omega.{arith}
 use lib.ListN.{length, length-set}
 use borrow.Author.Needs.{needs}
 use Rattle.lists.specs.Tab.{Filled}
-use Rattle.format.specs.Entries.{entryBytes}
+use Rattle.format.specs.Diskette.{entryBytes}
 use Rattle.model.specs.Entering.{interfaceByte}
 use Rattle.entering.specs.Rows.{cleared-start, cleared-more, cleared-all}
 use Rattle.entering.proofs.clear_interface.Statement.{statement}

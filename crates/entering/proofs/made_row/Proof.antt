@@ -4,7 +4,7 @@ use Prim.Native.Nat.{_+_, _-_, _≤_}
 use native.Mathlib.Omega.{arith}
 use lib.ListN.{length, length-set}
 use Rattle.format.specs.Names.{nameBytes}
-use Rattle.format.specs.Entries.{entryBytes}
+use Rattle.format.specs.Diskette.{entryBytes}
 use Rattle.model.specs.Entering.{madeRow}
 use Rattle.fields.specs.Making.{byte-made}
 use Rattle.entering.specs.Rows.{Made, made-start, made-more, made-all, blank-zero}

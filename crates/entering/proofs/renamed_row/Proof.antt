@@ -5,7 +5,7 @@ use native.Mathlib.Omega.{arith}
 use lib.ListN.{length, length-set}
 use borrow.Author.Needs.{needs}
 use Rattle.format.specs.Names.{nameBytes}
-use Rattle.format.specs.Entries.{entryBytes}
+use Rattle.format.specs.Diskette.{entryBytes}
 use Rattle.model.specs.Entering.{renamedRow, renamedByte}
 use Rattle.fields.specs.Making.{byte-renamed}
 use Rattle.entering.specs.Rows.{Made, renamed-start, made-more, renamed-all}

@@ -1,10 +1,9 @@
 -- A refusal is the ruling's, with nothing touched; a plan is followed within the disk's bounds.
 use mathlib.Core.Path.{_≡_, sym, _∙_}
 use Prim.Native.Nat.{_<_, _≤_}
-use Rattle.format.specs.Diskette.{eightInch}
+use Rattle.format.specs.Diskette.{eightInch, extents}
 use Rattle.disk.specs.Eight.{eight-sound}
 use Rattle.model.specs.Lent.{lend}
-use Rattle.model.specs.Target.{extents}
 use Rattle.rulings.specs.declared.Ruling.the-variants.{Follow}
 use Rattle.rulings.specs.Ruling.{writeRuling}
 use Rattle.rulings.specs.Bounds.{Sure, write-sure}

@@ -4,8 +4,8 @@ use Prim.Native.Nat.{ℕ, _+_}
 use lib.ListN.{length}
 use Rattle.lists.specs.Splice.{part, take-part}
 use Rattle.disk.specs.Eight.{eight-sound}
-use Rattle.format.specs.Diskette.{eightInch}
-use Rattle.format.specs.Entries.{entryAt, entryBytes, entryPlace}
+use Rattle.format.specs.Diskette.{eightInch, entryBytes}
+use Rattle.format.specs.Entries.{entryAt, entryPlace}
 use Rattle.rows.specs.Entries.{length-entryAt}
 use borrow.Author.Needs.{needs}
 use Rattle.rows.proofs.row.Statement.{statement}
