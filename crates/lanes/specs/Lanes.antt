@@ -1,10 +1,11 @@
 -- List ℕ side by side in one number, the first lowest, each in a lane of its own: what is done to the number is done to every byte at
 -- once, as long as no sum leaves its lane.
 use mathlib.Core.Path.{_≡_, refl, ap, sym, _∙_}
-use Prim.Native.Nat.{ℕ, zero, suc, _+_, _*_, _/_, _%_, _≤_, _<_}
+use Prim.Native.Nat.{ℕ, zero, suc, _+_, _-_, _*_, _<_}
 use native.Mathlib.Nat.{add-zero}
 use native.Mathlib.Omega.{arith}
 use lib.ListN.{getD}
+use Rattle.lists.specs.Cases.{split, lt-or-le}
 use lib.Bits.{bitAnd, bitOr, bitXor, and-block, or-block, xor-block}
 use mathlib.Core.List.{List}
 
@@ -86,6 +87,12 @@ pub word-sum : (l : List ℕ) (at : ℕ) → wordAt l at ≡ halfAt l at + halfA
 unfolding wordAt lanes
 word-sum l at =
     rw add-zero (omega (arith, half-sum l at, half-sum l (at + 4), further l at 4 1, further l at 4 2, further l at 4 3))
+
+-- bytes, if those of the two fours are
+pub word-bytes : (l : List ℕ) (at : ℕ) → ((i : ℕ) → i < 4 → getD l (at + i) 0 < 256) → ((i : ℕ) → i < 4 → getD l (at + 4 + i) 0 < 256) → (i : ℕ) → i < 8 → getD l (at + i) 0 < 256
+word-bytes l at p q i h =
+    split (lt-or-le i 4) (λ w. p i w)
+    (λ w. let e : at + 4 + (i - 4) ≡ at + i = omega arith in rw e at (q (i - 4) (omega arith)))
 
 pub half-zero : (l : List ℕ) (at : ℕ) → halfAt l at ≡ 0 → (i : ℕ) → i < 4 → getD l (at + i) 0 ≡ 0
 unfolding halfAt

@@ -1,7 +1,7 @@
 -- `lanes::word` meets its contract: two fours.
 use native.Mathlib.Omega.{arith}
 use borrow.Author.Needs.{needs}
-use Rattle.lanes.specs.Lanes.{word-sum}
+use Rattle.lanes.specs.Lanes.{word-sum, word-bytes}
 use Rattle.lanes.proofs.word.Statement.{statement}
 use Rattle.lanes.proofs.word.Tie as tie
 
@@ -24,7 +24,7 @@ returns : tie.Need-returns
 returns c =
     let l = c .before .before .before .args .r .now in
     let at = c .before .before .before .args .at in
-    omega (arith, word-sum l at)
+    (omega (arith, word-sum l at), word-bytes l at (c .before .half .ensures .2) (c .half2 .ensures .2))
 
 pub word-spec : {M : Type 1} → statement M
 word-spec =
