@@ -24,7 +24,8 @@ pub record Geometry : Type 0 where
   -- the physical sector, counted from 1, of a logical one, counted from 0
   pub physical : ℕ → ℕ
 
--- ---- sizes that are the same on every disk
+-- sizes that are the same on every disk: the bytes of a record and of an entry, the entries of a record, the slots of an entry, the
+-- records of an extent, and one past the last extent
 abbrev pub recordBytes : ℕ
 recordBytes = 128
 
@@ -34,18 +35,15 @@ entryBytes = 32
 abbrev pub entriesPerRecord : ℕ
 entriesPerRecord = 4
 
--- the block numbers of an entry
 abbrev pub slotCount : ℕ
 slotCount = 16
 
--- the records of an extent, and one past the last extent
 abbrev pub extentRecords : ℕ
 extentRecords = 128
 
 abbrev pub extents : ℕ
 extents = 2048
 
--- ---- the 8-inch disk
 -- the physical sectors of the 8-inch disk, from logical 0 on
 unfoldable pub skew : List ℕ
 skew = 1 ∷ 7 ∷ 13 ∷ 19 ∷ 25 ∷ 5 ∷ 11 ∷ 17 ∷ 23 ∷ 3 ∷ 9 ∷ 15 ∷ 21 ∷ 2 ∷ 8 ∷ 14 ∷ 20 ∷ 26 ∷ 6 ∷ 12 ∷ 18 ∷ 24 ∷ 4 ∷ 10 ∷ 16 ∷ 22 ∷ []
@@ -67,10 +65,10 @@ pub record Sound (G : Geometry) : Type 0 where
   -- every record of every block lies on a track
   pub tracks-hold : G .perBlock * G .blocks + G .sectors * G .reserved ≤ G .sectors * G .tracks
   -- the directory lies in its blocks, from block 0 on, and leaves blocks over
-  pub area-holds : G .entries ≤ 4 * (G .perBlock * G .area)
+  pub area-holds : G .entries ≤ entriesPerRecord * (G .perBlock * G .area)
   pub area-some : 0 < G .area
   pub area-below : G .area < G .blocks
-  pub slots-hold : 128 ≤ 16 * G .perBlock
+  pub slots-hold : extentRecords ≤ slotCount * G .perBlock
 
 -- the image, stored track after track
 abbrev pub imageBytes : Geometry → ℕ
