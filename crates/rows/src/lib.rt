@@ -2,10 +2,11 @@
 ghost use mathlib.Core.Path.{_≡_};
 ghost use Prim.Native.Nat.{_+_, _*_, _≤_, _<_};
 ghost use lib.ListN.{length};
-ghost use Rattle.format.specs.Diskette.{eightInch, imageBytes, entryBytes, slotCount};
+ghost use Rattle.format.specs.Diskette.{eightInch, imageBytes, recordBytes, recordAt, entryBytes, entriesPerRecord, slotCount};
 ghost use Rattle.format.specs.Names.{nameBytes};
 ghost use Rattle.format.specs.Consistent.{numbersRight};
 ghost use Rattle.format.specs.Entries.{entryPlace, entryAt, withEntry, slotsOf, extentOf, covers, countIn, slotFor, named, isFile, findFile, findNamed, findEmpty};
+ghost use Rattle.rows.specs.Entries.{rowOf};
 use format::ENTRIES;
 use format::ENTRIES_PER_RECORD;
 use format::ENTRY_BYTES;
@@ -27,6 +28,26 @@ pub fn row(image: &[u8], e: usize) -> &[u8]
     let at = entry_place(e);
     let end = at + ENTRY_BYTES;
     &image[at..end]
+}
+
+// The rows of four entries: record d of the directory, as a part of the image. A loop over all entries takes the place of each record once.
+pub fn four_rows(image: &[u8], d: usize) -> &[u8]
+    requires { ⌜ (length (now image) ≡ imageBytes eightInch) × (entriesPerRecord * d < eightInch .entries) ⌝ }
+    ensures { λ r. ⌜ (now r ≡ recordAt eightInch (now (image .entry)) d) × (length (now r) ≡ recordBytes) ⌝ }
+{
+    let at = disk::offset(d);
+    let end = at + format::RECORD_BYTES;
+    &image[at..end]
+}
+
+// The i-th row of four.
+pub fn row_of(four: &[u8], i: usize) -> &[u8]
+    requires { ⌜ (length (now four) ≡ recordBytes) × (i < entriesPerRecord) ⌝ }
+    ensures { λ r. ⌜ (now r ≡ rowOf (now (four .entry)) i) × (length (now r) ≡ entryBytes) ⌝ }
+{
+    let at = i * ENTRY_BYTES;
+    let end = at + ENTRY_BYTES;
+    &four[at..end]
 }
 
 // The row of an entry by value, for a caller that goes on to change the image.
