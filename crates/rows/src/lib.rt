@@ -136,7 +136,10 @@ pub fn is_named(wild: bool, user: u8, s: &[u8], q: usize, r: &[u8]) -> bool
     if r[0] != user {
         return false;
     }
-    names::name_like(wild, s, q, r, 1)
+    if wild {
+        return names::name_like(true, s, q, r, 1);
+    }
+    names::name_same(s, q, r, 1)
 }
 
 // Whether a row is the user's, of the name in s at q, and covers the extent.
@@ -147,7 +150,7 @@ pub fn is_file(user: u8, s: &[u8], q: usize, ext: usize, r: &[u8]) -> bool
     if r[0] != user {
         return false;
     }
-    if !names::name_like(false, s, q, r, 1) {
+    if !names::name_same(s, q, r, 1) {
         return false;
     }
     covers_extent(r, ext)

@@ -14,12 +14,12 @@ returns : tie.Need-returns
 unfolding isFile named
 returns c = sym (and-fails-left _ _ (and-fails-left _ _ (ne-eqb _ _ (c .if1 .taken))))
 
-name-like-requires : tie.Need-name-like-requires
-name-like-requires c κs = search needs
+name-same-requires : tie.Need-name-same-requires
+name-same-requires c κs = search needs
 
 returns-2 : tie.Need-returns-2
 unfolding isFile named
-returns-2 c = sym (and-fails-left _ _ (and-fails-right _ _ (sym (c .before .name-like .ensures) ∙ not-true _ (c .if2 .taken))))
+returns-2 c = sym (and-fails-left _ _ (and-fails-right _ _ (sym (c .before .name-same .ensures) ∙ not-true _ (c .if2 .taken))))
 
 covers-extent-requires : tie.Need-covers-extent-requires
 covers-extent-requires c κs = search needs
@@ -27,9 +27,9 @@ covers-extent-requires c κs = search needs
 returns-3 : tie.Need-returns-3
 unfolding isFile named
 returns-3 c =
-    let b = c .before .before in
     c .covers-extent .ensures
-    ∙ sym (and-then _ _ (and-both _ _ (eq-eqb _ _ (b .before .if1 .left)) (sym (b .name-like .ensures) ∙ not-false _ (c .before .if2 .left))))
+    ∙ sym (and-then _ _ (and-both _ _ (eq-eqb _ _ (c .before .before .before .if1 .left))
+    (sym (c .before .before .name-same .ensures) ∙ not-false _ (c .before .if2 .left))))
 
 pub is-file-spec : {M : Type 1} → statement M
 is-file-spec =
@@ -37,7 +37,7 @@ is-file-spec =
     (tie.spec
     shared-slice-read-if1
     returns
-    name-like-requires
+    name-same-requires
     returns-2
     covers-extent-requires
     returns-3)
