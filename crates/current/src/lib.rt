@@ -1,5 +1,6 @@
 // When an FCB is current: its fields are in range, it has an entry, and each of its slots is the entry's or pending for it.
 ghost use mathlib.Core.Path.{_≡_};
+ghost use mathlib.Core.Bool.{true};
 ghost use Prim.Native.Nat.{_≤_, _<_};
 ghost use lib.ListN.{length};
 ghost use Rattle.format.specs.Diskette.{eightInch, imageBytes, slotCount};
@@ -43,11 +44,24 @@ pub fn slot_fits(map: &[u16], e: usize, es: [u8; 16], fs: [u8; 16], j: usize) ->
     notes::note_at(map, lists::wide(fs[j])) == notes::pending_note(e, j)
 }
 
-// Whether every slot of an FCB fits entry e.
+// Whether sixteen slots are the same as sixteen others.
+fn slots_same(es: [u8; 16], fs: [u8; 16]) -> bool
+    ensures { λ r. ⌜ (r ≡ true → es ≡ fs) ⌝ }
+{
+    if lanes::word(&es, 0) != lanes::word(&fs, 0) {
+        return false;
+    }
+    lanes::word(&es, 8) == lanes::word(&fs, 8)
+}
+
+// Whether every slot of an FCB fits entry e. They are the entry's own as a rule, so that is tried first.
 pub fn slots_fit(map: &[u16], e: usize, es: [u8; 16], fs: [u8; 16]) -> bool
     requires { ⌜ e < eightInch .entries ⌝ }
     ensures { λ r. ⌜ r ≡ slotsFit (now (map .entry)) e es fs ⌝ }
 {
+    if slots_same(es, fs) {
+        return true;
+    }
     let mut j = 0;
     while j < format::SLOTS {
         if !slot_fits(map, e, es, fs, j) {

@@ -1,4 +1,4 @@
--- The user is tested first; where it is another's, the conjunction fails at once.
+-- The user is tested first; where it is another's, the conjunction fails at once. Where it is not, the name decides, by either way to compare it.
 use mathlib.Core.Path.{sym, _∙_}
 use borrow.Author.Tests.{eq-eqb, ne-eqb}
 use Rattle.lists.specs.Tests.{and-fails-left, and-then}
@@ -19,7 +19,22 @@ name-like-requires c κs = search needs
 
 returns-2 : tie.Need-returns-2
 unfolding named
-returns-2 c = c .name-like .ensures ∙ sym (and-then _ _ (eq-eqb _ _ (c .before .if1 .left)))
+returns-2 c = rw (c .before .if2 .taken) (c .name-like .ensures ∙ sym (and-then _ _ (eq-eqb _ _ (c .before .before .if1 .left))))
+
+name-same-requires : tie.Need-name-same-requires
+name-same-requires c κs = search needs
+
+returns-3 : tie.Need-returns-3
+unfolding named
+returns-3 c = rw (c .before .if2 .left) (c .name-same .ensures ∙ sym (and-then _ _ (eq-eqb _ _ (c .before .before .if1 .left))))
 
 pub is-named-spec : {M : Type 1} → statement M
-is-named-spec = tie.close (tie.spec shared-slice-read-if1 returns name-like-requires returns-2)
+is-named-spec =
+    tie.close
+    (tie.spec
+    shared-slice-read-if1
+    returns
+    name-like-requires
+    returns-2
+    name-same-requires
+    returns-3)
