@@ -1,12 +1,15 @@
 // The map: one note a block. Every change of a note goes through set_note.
 ghost use mathlib.Core.Path.{_≡_};
+ghost use mathlib.Core.Bool.{not, cond};
 ghost use Prim.Native.Nat.{_<_, _≤_};
-ghost use lib.ListN.{length, getD};
-ghost use Rattle.format.specs.Diskette.{eightInch};
-ghost use Rattle.format.specs.Entries.{Rows, slotCount};
-ghost use Rattle.facts.specs.Marks.{Marked, UsersMarked, markCount};
-ghost use Rattle.format.specs.Notes.{noteAt, pendingFor, withNote, findFree, freeCount, settledNote, freedMap, freshNote, freshMap, heldFor, noteRight, mapRight};
+ghost use lib.Dec.{eqb};
+ghost use lib.ListN.{length};
+ghost use Rattle.format.specs.Diskette.{eightInch, imageBytes};
+ghost use Rattle.format.specs.Entries.{Rows, slotCount, entryAt};
+ghost use Rattle.facts.specs.Marks.{Marked, markCount};
+ghost use Rattle.format.specs.Notes.{freeNote, noteAt, pendingFor, withNote, findFree, freeCount, settledNote, freedMap, freshNote, freshMap, heldFor, heldByUsed, noteRight, mapRight};
 ghost use Rattle.notes.specs.Freeing.{unlistedSlot, unlistedMap, unheldNote, unheldMap, marksPick};
+ghost use Rattle.notes.specs.Told.{toldNote, differenceCount, areaRight};
 use format::Found;
 
 // The numbers of notes. From PENDING on, each entry has PLACES of them, one for each of its slots.
@@ -61,20 +64,28 @@ pub fn first_free(map: &[u16]) -> Found
     Found::Nothing
 }
 
+// 1 where a note is that of a free block, or 0.
+fn free_one(note: u16) -> u16
+    ensures { λ r. ⌜ r ≡ cond (eqb note freeNote) 1 0 ⌝ }
+{
+    if note == FREE {
+        return 1;
+    }
+    0
+}
+
 // How many blocks are free.
 pub fn free_count(map: &[u16]) -> usize
     requires { ⌜ length (now map) ≡ eightInch .blocks ⌝ }
     ensures { λ r. ⌜ (r ≡ freeCount eightInch (now (map .entry))) × (r ≤ eightInch .blocks) ⌝ }
 {
-    let mut n: usize = 0;
+    let mut n: u16 = 0;
     let mut b = 0;
     while b < format::BLOCKS {
-        if map[b] == FREE {
-            n += 1;
-        }
+        n += free_one(map[b]);
         b += 1;
     }
-    n
+    n as usize
 }
 
 // The note without what is pending.
@@ -100,7 +111,17 @@ pub fn free_pending(map: &mut [u16])
     }
 }
 
-// The fresh note of block b, which its mark tells.
+// The fresh note of a block past the directory, which its mark tells.
+fn told_note(mark: u8) -> u16
+    ensures { λ r. ⌜ r ≡ toldNote mark ⌝ }
+{
+    if mark == 0 {
+        return FREE;
+    }
+    RECORDED
+}
+
+// The fresh note of block b.
 fn fresh_note(b: usize, marks: &[u8]) -> u16
     requires { ⌜ (length (now marks) ≡ markCount) × (b < eightInch .blocks) ⌝ }
     ensures { λ r. ⌜ ((d : Rows) → Marked eightInch d (now (marks .entry)) → r ≡ freshNote eightInch d b) ⌝ }
@@ -108,10 +129,7 @@ fn fresh_note(b: usize, marks: &[u8]) -> u16
     if b < format::AREA_BLOCKS {
         return AREA;
     }
-    if marks[b] == 0 {
-        return FREE;
-    }
-    RECORDED
+    told_note(marks[b])
 }
 
 // The fresh map of the directory whose listed blocks are marked.
@@ -141,11 +159,26 @@ fn held_for(n: u16, marks: &[u8]) -> bool
     marks[e] != 0
 }
 
+// Whether a note is pending for a used entry.
+fn held_by_used(n: u16, image: &[u8]) -> bool
+    requires { ⌜ length (now image) ≡ imageBytes eightInch ⌝ }
+    ensures { λ r. ⌜ r ≡ heldByUsed eightInch (entryAt eightInch (now (image .entry))) n ⌝ }
+{
+    if (n as usize) < PENDING {
+        return false;
+    }
+    let e = (n as usize - PENDING) / PLACES;
+    if format::ENTRIES <= e {
+        return false;
+    }
+    rows::row(image, e)[0] <= 15
+}
+
 // Whether block b has a note that is right.
-fn note_right(b: usize, n: u16, marks: &[u8], users: &[u8]) -> bool
-    requires { ⌜ (length (now marks) ≡ markCount) × (length (now users) ≡ eightInch .entries) × (b < eightInch .blocks) ⌝ }
-    ensures { λ r. ⌜ ((d : Rows) → Marked eightInch d (now (marks .entry)) → UsersMarked eightInch d (now (users .entry))
-        → r ≡ noteRight eightInch d b n) ⌝ }
+fn note_right(b: usize, n: u16, marks: &[u8], image: &[u8]) -> bool
+    requires { ⌜ (length (now marks) ≡ markCount) × (length (now image) ≡ imageBytes eightInch) × (b < eightInch .blocks) ⌝ }
+    ensures { λ r. ⌜ (Marked eightInch (entryAt eightInch (now (image .entry))) (now (marks .entry))
+        → r ≡ noteRight eightInch (entryAt eightInch (now (image .entry))) b n) ⌝ }
 {
     if b < format::AREA_BLOCKS {
         return n == AREA;
@@ -156,23 +189,79 @@ fn note_right(b: usize, n: u16, marks: &[u8], users: &[u8]) -> bool
     if n == FREE {
         return true;
     }
-    held_for(n, users)
+    held_by_used(n, image)
 }
 
-// Whether the map is right for the directory whose listed blocks and used entries are marked.
-pub fn map_right(map: &[u16], marks: &[u8], users: &[u8]) -> bool
-    requires { ⌜ (length (now map) ≡ eightInch .blocks) × (length (now marks) ≡ markCount) × (length (now users) ≡ eightInch .entries) ⌝ }
-    ensures { λ r. ⌜ ((d : Rows) → Marked eightInch d (now (marks .entry)) → UsersMarked eightInch d (now (users .entry))
-        → r ≡ mapRight eightInch d (now (map .entry))) ⌝ }
+// Whether every note is right, asked note by note.
+fn notes_right(map: &[u16], marks: &[u8], image: &[u8]) -> bool
+    requires { ⌜ (length (now map) ≡ eightInch .blocks) × (length (now marks) ≡ markCount) × (length (now image) ≡ imageBytes eightInch) ⌝ }
+    ensures { λ r. ⌜ (Marked eightInch (entryAt eightInch (now (image .entry))) (now (marks .entry))
+        → r ≡ mapRight eightInch (entryAt eightInch (now (image .entry))) (now (map .entry))) ⌝ }
 {
     let mut b = 0;
     while b < format::BLOCKS {
-        if !note_right(b, map[b], marks, users) {
+        if !note_right(b, map[b], marks, image) {
             return false;
         }
         b += 1;
     }
     true
+}
+
+// Whether the directory's blocks have its note.
+fn area_right(map: &[u16]) -> bool
+    requires { ⌜ length (now map) ≡ eightInch .blocks ⌝ }
+    ensures { λ r. ⌜ r ≡ areaRight eightInch (now (map .entry)) ⌝ }
+{
+    let mut b = 0;
+    while b < format::AREA_BLOCKS {
+        if map[b] != AREA {
+            return false;
+        }
+        b += 1;
+    }
+    true
+}
+
+// 1 where a note past the directory is not the fresh one of a block with this mark, or 0.
+fn difference(n: u16, mark: u8) -> u16
+    ensures { λ r. ⌜ r ≡ cond (not (eqb n (toldNote mark))) 1 0 ⌝ }
+{
+    if n != told_note(mark) {
+        return 1;
+    }
+    0
+}
+
+// How many notes past the directory are not the fresh ones. No turn leaves the loop or branches, so that the notes are compared many at
+// a time.
+fn differences(map: &[u16], marks: &[u8]) -> u16
+    requires { ⌜ (length (now map) ≡ eightInch .blocks) × (length (now marks) ≡ markCount) ⌝ }
+    ensures { λ r. ⌜ r ≡ differenceCount eightInch (now (map .entry)) (now (marks .entry)) ⌝ }
+{
+    let mut n: u16 = 0;
+    let mut b = format::AREA_BLOCKS;
+    while b < format::BLOCKS {
+        n += difference(map[b], marks[b]);
+        b += 1;
+    }
+    n
+}
+
+// Whether the map is right for the image whose listed blocks are marked. Most maps are the fresh one: only where notes differ from it,
+// as pending ones do, is each asked for by itself.
+pub fn map_right(map: &[u16], marks: &[u8], image: &[u8]) -> bool
+    requires { ⌜ (length (now map) ≡ eightInch .blocks) × (length (now marks) ≡ markCount) × (length (now image) ≡ imageBytes eightInch) ⌝ }
+    ensures { λ r. ⌜ (Marked eightInch (entryAt eightInch (now (image .entry))) (now (marks .entry))
+        → r ≡ mapRight eightInch (entryAt eightInch (now (image .entry))) (now (map .entry))) ⌝ }
+{
+    if !area_right(map) {
+        return false;
+    }
+    if differences(map, marks) == 0 {
+        return true;
+    }
+    notes_right(map, marks, image)
 }
 
 // The block that a slot lists becomes free; a slot of 0, or past the last block, lists none.

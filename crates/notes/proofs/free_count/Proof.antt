@@ -1,32 +1,38 @@
 -- `notes::free_count` meets its contract. The loop's invariant: n is the count of the free blocks below b.
-use mathlib.Core.Logic.{⊎-elim}
 use mathlib.Core.Path.{_≡_, sym}
-use Prim.Native.Nat.{_-_, _≤_}
+use Prim.Native.Nat.{_+_, _-_, _≤_}
 use native.Mathlib.Omega.{arith}
-use borrow.Author.Tests.{eq-eqb, ne-eqb}
-use Rattle.lists.specs.Count.{countBelow, count-none, count-hit, count-miss, count-done}
+use borrow.Author.Needs.{needs}
+use Rattle.lists.specs.Count.{countBelow, count-none, count-next, count-high, count-done}
 use Rattle.format.specs.Diskette.{eightInch}
 use Rattle.format.specs.Notes.{isFree, freeCount}
 use Rattle.notes.proofs.free_count.Statement.{statement}
 use Rattle.notes.proofs.free_count.Tie as tie
 
 abbrev Inv-loop : tie.InvT-loop
-Inv-loop map n₀ b₀ n b = (n ≡ countBelow (isFree map) b) × (n ≤ b) × (b ≤ eightInch .blocks)
+Inv-loop map n₀ b₀ n b = (n ≡ countBelow (isFree map) b) × (b ≤ eightInch .blocks)
 
 abbrev μ-loop : tie.MeasureT-loop
 μ-loop map n₀ b₀ n b = eightInch .blocks - b
 
 loop-holds : tie.Need-loop-holds Inv-loop μ-loop
-loop-holds c = (sym (count-none _), omega arith, omega arith)
+loop-holds c = (sym (count-none _), omega arith)
 
-mul-if1 : tie.Need-mul-if1 Inv-loop μ-loop
-mul-if1 c = omega arith
+mul-free-one : tie.Need-mul-free-one Inv-loop μ-loop
+mul-free-one c = omega arith
 
-shared-slice-read-if1 : tie.Need-shared-slice-read-if1 Inv-loop μ-loop
-shared-slice-read-if1 c = omega arith
+shared-slice-read-free-one : tie.Need-shared-slice-read-free-one Inv-loop μ-loop
+shared-slice-read-free-one c = omega arith
+
+free-one-requires : tie.Need-free-one-requires Inv-loop μ-loop
+free-one-requires c κs = search needs
 
 add-n : tie.Need-add-n Inv-loop μ-loop
-add-n c = omega arith
+unfolding isFree
+add-n c =
+    let l = c .before .before .before in
+    let p = isFree (l .before .before .args .map .now) in
+    omega (arith, count-next p (l .loop .b), count-high p (l .loop .b + 1), c .free-one .ensures)
 
 add-b : tie.Need-add-b Inv-loop μ-loop
 add-b c = omega arith
@@ -36,20 +42,21 @@ loop-less c = omega arith
 
 loop-again : tie.Need-loop-again Inv-loop μ-loop
 unfolding isFree
-loop-again c = let l = c .before .before .before in
-    let p = isFree (l .before .args .map .now) in
-    ⊎-elim
-    (λ w. (omega (arith, count-hit p (l .loop .b) (eq-eqb _ _ (w .0 .taken))), omega arith, omega arith))
-    (λ w. (omega (arith, count-miss p (l .loop .b) (ne-eqb _ _ (w .0 .left))), omega arith, omega arith))
-    (c .if1 .came)
+loop-again c =
+    let l = c .before .before .before in
+    let p = isFree (l .before .before .args .map .now) in
+    (omega (arith, count-next p (l .loop .b), c .free-one .ensures), omega arith)
+
+cast-result : tie.Need-cast-result Inv-loop μ-loop
+cast-result c = let l = c .before in omega (arith, count-high (isFree (l .before .before .args .map .now)) (l .loop .b))
 
 returns : tie.Need-returns Inv-loop μ-loop
 unfolding freeCount
 returns c =
-    let l = c .before in (
-      count-done (isFree (l .before .args .map .now)) (l .loop .b) (eightInch .blocks) (omega arith) (omega arith) (l .loop .n)
-          (l .loop .inv .0),
-      omega arith,
+    let l = c .before in
+    let p = isFree (l .before .before .args .map .now) in (
+      count-done p (l .loop .b) (eightInch .blocks) (omega arith) (omega arith) (l .loop .n) (l .loop .inv .0),
+      omega (arith, count-high p (l .loop .b)),
     )
 
 pub free-count-spec : {M : Type 1} → statement M
@@ -59,10 +66,12 @@ free-count-spec =
     Inv-loop
     μ-loop
     loop-holds
-    mul-if1
-    shared-slice-read-if1
+    mul-free-one
+    shared-slice-read-free-one
+    free-one-requires
     add-n
     add-b
     loop-less
     loop-again
+    cast-result
     returns)

@@ -1,75 +1,40 @@
--- `notes::map_right` meets its contract. The loop's invariant, for each directory so marked: the notes below b are right.
-use mathlib.Core.Bool.{true}
-use mathlib.Core.Path.{_≡_, sym, _∙_}
-use Prim.Native.Nat.{ℕ, _-_, _≤_}
+-- `notes::map_right` meets its contract: a map with no differences is the fresh one, which is right; any other is asked for note by note.
+use mathlib.Core.Path.{sym, _∙_}
 use native.Mathlib.Omega.{arith}
 use borrow.Author.Needs.{needs}
 use borrow.Author.Tests.{not-true, not-false}
-use Rattle.lists.specs.Below.{allBelow, all-none, all-more, all-fails, all-done}
 use Rattle.format.specs.Diskette.{eightInch}
-use Rattle.format.specs.Entries.{Rows}
-use Rattle.facts.specs.Marks.{Marked, UsersMarked}
-use Rattle.format.specs.Notes.{noteAt, noteRight, mapRight}
+use Rattle.notes.specs.Told.{area-wrong, same-right}
 use Rattle.notes.proofs.map_right.Statement.{statement}
 use Rattle.notes.proofs.map_right.Tie as tie
 
-abbrev Inv-loop : tie.InvT-loop
-Inv-loop map marks users b₀ b =
-    ((d : Rows) → Marked eightInch d marks → UsersMarked eightInch d users → allBelow (λ (k : ℕ). noteRight eightInch d k
-    (noteAt map k)) b ≡ true) × (b ≤ eightInch .blocks)
+area-right-requires : tie.Need-area-right-requires
+area-right-requires c κs = search needs
 
-abbrev μ-loop : tie.MeasureT-loop
-μ-loop map marks users b₀ b = eightInch .blocks - b
+returns : tie.Need-returns
+returns c = λ m. sym (area-wrong eightInch _ _ (omega arith) (sym (c .before .area-right .ensures) ∙ not-true _ (c .if1 .taken)))
 
-loop-holds : tie.Need-loop-holds Inv-loop μ-loop
-loop-holds c = (λ d m u. all-none _, omega arith)
+differences-requires : tie.Need-differences-requires
+differences-requires c κs = search needs
 
-mul-note-right : tie.Need-mul-note-right Inv-loop μ-loop
-mul-note-right c = omega arith
+returns-2 : tie.Need-returns-2
+returns-2 c =
+    λ m. sym (same-right eightInch _ _ _ m (sym (c .before .before .before .area-right .ensures) ∙ not-false _ (c .before .before .if1 .left))
+    (sym (c .before .differences .ensures) ∙ c .if2 .taken))
 
-shared-slice-read-note-right : tie.Need-shared-slice-read-note-right Inv-loop μ-loop
-shared-slice-read-note-right c = omega arith
+notes-right-requires : tie.Need-notes-right-requires
+notes-right-requires c κs = search needs
 
-note-right-requires : tie.Need-note-right-requires Inv-loop μ-loop
-note-right-requires c κs = search needs
-
-returns : tie.Need-returns Inv-loop μ-loop
-unfolding mapRight
-returns c =
-    let l = c .before .before .before .before in
-    λ d m u. sym (all-fails _ (eightInch .blocks) (l .loop .b) (omega arith) (sym (c .before .note-right .ensures d m u)
-    ∙ not-true _ (c .if1 .taken)))
-
-add-b : tie.Need-add-b Inv-loop μ-loop
-add-b c = omega arith
-
-loop-less : tie.Need-loop-less Inv-loop μ-loop
-loop-less c = omega arith
-
-loop-again : tie.Need-loop-again Inv-loop μ-loop
-loop-again c =
-    let l = c .before .before .before .before in (
-      λ d m u. all-more _ (l .loop .b) (l .loop .inv .0 d m u) (sym (c .before .note-right .ensures d m u)
-          ∙ not-false _ (c .if1 .left)),
-      omega arith,
-    )
-
-returns-2 : tie.Need-returns-2 Inv-loop μ-loop
-unfolding mapRight
-returns-2 c = let l = c .before in λ d m u. all-done _ (l .loop .b) (eightInch .blocks) (omega arith) (omega arith) (l .loop .inv .0 d m u)
+returns-3 : tie.Need-returns-3
+returns-3 c = search needs
 
 pub map-right-spec : {M : Type 1} → statement M
 map-right-spec =
     tie.close
     (tie.spec
-    Inv-loop
-    μ-loop
-    loop-holds
-    mul-note-right
-    shared-slice-read-note-right
-    note-right-requires
+    area-right-requires
     returns
-    add-b
-    loop-less
-    loop-again
-    returns-2)
+    differences-requires
+    returns-2
+    notes-right-requires
+    returns-3)
