@@ -1,0 +1,107 @@
+-- List ℕ side by side in one number, the first lowest, each in a lane of its own: what is done to the number is done to every byte at
+-- once, as long as no sum leaves its lane.
+use mathlib.Core.Path.{_≡_, refl, ap, sym, _∙_}
+use Prim.Native.Nat.{ℕ, zero, suc, _+_, _-_, _*_, _<_}
+use native.Mathlib.Nat.{add-zero}
+use native.Mathlib.Omega.{arith}
+use lib.ListN.{getD}
+use Rattle.lists.specs.Cases.{split, lt-or-le}
+use lib.Bits.{bitAnd, bitOr, bitXor, and-block, or-block, xor-block}
+use mathlib.Core.List.{List}
+
+-- f 0, f 1, .., f (n - 1)
+unfoldable pub lanes : ℕ → (ℕ → ℕ) → ℕ
+lanes zero f = 0
+lanes (suc n) f = lanes n (λ (i : ℕ). f (suc i)) * 256 + f 0
+
+-- four bytes of a list from a place on, and eight
+unfoldable pub halfAt : List ℕ → ℕ → ℕ
+halfAt l at = lanes 4 (λ (i : ℕ). getD l (at + i) 0)
+
+unfoldable pub wordAt : List ℕ → ℕ → ℕ
+wordAt l at = lanes 8 (λ (i : ℕ). getD l (at + i) 0)
+
+pub lanes-cong : (n : ℕ) (f g : ℕ → ℕ) → ((i : ℕ) → i < n → f i ≡ g i) → lanes n f ≡ lanes n g
+unfolding lanes
+lanes-cong zero f g p = refl
+lanes-cong (suc n) f g p =
+    let rest = lanes-cong n (λ (i : ℕ). f (suc i)) (λ (i : ℕ). g (suc i)) (λ i h. p (suc i) (omega arith)) in
+    let first = p 0 (omega arith) in
+    rw (rest, first)
+
+-- ---- the lanes of a sum, and of what an operation on digits gives
+pub lanes-add : (n : ℕ) (f g : ℕ → ℕ) → lanes n f + lanes n g ≡ lanes n (λ (i : ℕ). f i + g i)
+unfolding lanes
+lanes-add zero f g = refl
+lanes-add (suc n) f g = let rest = lanes-add n (λ (i : ℕ). f (suc i)) (λ (i : ℕ). g (suc i)) in omega arith
+
+module _ (op : ℕ → ℕ → ℕ) (none : op 0 0 ≡ 0) (block : (a b r s : ℕ) → r < 256 → s < 256 → op (a * 256 + r) (b * 256 + s) ≡ op a b * 256 + op r s) where
+  each : (n : ℕ) (f g : ℕ → ℕ) → ((i : ℕ) → i < n → f i < 256) → ((i : ℕ) → i < n → g i < 256) → op (lanes n f) (lanes n g) ≡ lanes n (λ (i : ℕ). op (f i) (g i))
+  unfolding lanes
+  each zero f g p q = none
+  each (suc n) f g p q =
+      block (lanes n (λ (i : ℕ). f (suc i))) (lanes n (λ (i : ℕ). g (suc i))) (f 0) (g 0) (p 0 (omega arith)) (q 0 (omega arith))
+      ∙ ap (λ (x : ℕ). x * 256 + op (f 0) (g 0))
+      (each n (λ (i : ℕ). f (suc i)) (λ (i : ℕ). g (suc i)) (λ i h. p (suc i) (omega arith)) (λ i h. q (suc i) (omega arith)))
+
+pub lanes-and : (n : ℕ) (f g : ℕ → ℕ) → ((i : ℕ) → i < n → f i < 256) → ((i : ℕ) → i < n → g i < 256) → bitAnd (lanes n f) (lanes n g) ≡ lanes n (λ (i : ℕ). bitAnd (f i) (g i))
+lanes-and = each bitAnd refl (and-block 8)
+
+pub lanes-or : (n : ℕ) (f g : ℕ → ℕ) → ((i : ℕ) → i < n → f i < 256) → ((i : ℕ) → i < n → g i < 256) → bitOr (lanes n f) (lanes n g) ≡ lanes n (λ (i : ℕ). bitOr (f i) (g i))
+lanes-or = each bitOr refl (or-block 8)
+
+pub lanes-xor : (n : ℕ) (f g : ℕ → ℕ) → ((i : ℕ) → i < n → f i < 256) → ((i : ℕ) → i < n → g i < 256) → bitXor (lanes n f) (lanes n g) ≡ lanes n (λ (i : ℕ). bitXor (f i) (g i))
+lanes-xor = each bitXor refl (xor-block 8)
+
+-- ---- what the number says of its lanes
+pub lanes-same : (n : ℕ) (f g : ℕ → ℕ) → ((i : ℕ) → i < n → f i < 256) → ((i : ℕ) → i < n → g i < 256) → lanes n f ≡ lanes n g → (i : ℕ) → i < n → f i ≡ g i
+unfolding lanes
+lanes-same (suc n) f g p q e zero h = let a = p 0 h in let b = q 0 h in omega arith
+lanes-same (suc n) f g p q e (suc i) h =
+    let a = p 0 (omega arith) in
+    let b = q 0 (omega arith) in
+    lanes-same n (λ (k : ℕ). f (suc k)) (λ (k : ℕ). g (suc k)) (λ k l. p (suc k) (omega arith)) (λ k l. q (suc k) (omega arith)) (omega arith) i (omega arith)
+
+pub lanes-zero : (n : ℕ) (f : ℕ → ℕ) → lanes n f ≡ 0 → (i : ℕ) → i < n → f i ≡ 0
+unfolding lanes
+lanes-zero (suc n) f e zero h = omega arith
+lanes-zero (suc n) f e (suc i) h = lanes-zero n (λ (k : ℕ). f (suc k)) (omega arith) i (omega arith)
+
+pub zero-lanes : (n : ℕ) (f : ℕ → ℕ) → ((i : ℕ) → i < n → f i ≡ 0) → lanes n f ≡ 0
+unfolding lanes
+zero-lanes zero f p = refl
+zero-lanes (suc n) f p =
+    let rest = zero-lanes n (λ (i : ℕ). f (suc i)) (λ i h. p (suc i) (omega arith)) in
+    let first = p 0 (omega arith) in
+    omega arith
+
+-- ---- bytes of a list: their sums, four that make 0, and two words that are the same
+pub half-sum : (l : List ℕ) (at : ℕ) → halfAt l at ≡ getD l at 0 + getD l (at + 1) 0 * 256 + getD l (at + 2) 0 * 65536 + getD l (at + 3) 0 * 16777216
+unfolding halfAt lanes
+half-sum l at = rw add-zero (omega arith)
+
+further : (l : List ℕ) (at m n : ℕ) → getD l (at + m + n) 0 ≡ getD l (at + (m + n)) 0
+further l at m n = ap (λ (k : ℕ). getD l k 0) (omega arith)
+
+pub word-sum : (l : List ℕ) (at : ℕ) → wordAt l at ≡ halfAt l at + halfAt l (at + 4) * 4294967296
+unfolding wordAt lanes
+word-sum l at =
+    rw add-zero (omega (arith, half-sum l at, half-sum l (at + 4), further l at 4 1, further l at 4 2, further l at 4 3))
+
+-- bytes, if those of the two fours are
+pub word-bytes : (l : List ℕ) (at : ℕ) → ((i : ℕ) → i < 4 → getD l (at + i) 0 < 256) → ((i : ℕ) → i < 4 → getD l (at + 4 + i) 0 < 256) → (i : ℕ) → i < 8 → getD l (at + i) 0 < 256
+word-bytes l at p q i h =
+    split (lt-or-le i 4) (λ w. p i w)
+    (λ w. let e : at + 4 + (i - 4) ≡ at + i = omega arith in rw e at (q (i - 4) (omega arith)))
+
+pub half-zero : (l : List ℕ) (at : ℕ) → halfAt l at ≡ 0 → (i : ℕ) → i < 4 → getD l (at + i) 0 ≡ 0
+unfolding halfAt
+half-zero l at e i h = lanes-zero 4 (λ (k : ℕ). getD l (at + k) 0) e i h
+
+pub word-same : (l m : List ℕ) (at to : ℕ) → ((i : ℕ) → i < 8 → getD l (at + i) 0 < 256) → ((i : ℕ) → i < 8 → getD m (to + i) 0 < 256) → wordAt l at ≡ wordAt m to → (i : ℕ) → i < 8 → getD l (at + i) 0 ≡ getD m (to + i) 0
+unfolding wordAt
+word-same l m at to p q e = lanes-same 8 (λ (i : ℕ). getD l (at + i) 0) (λ (i : ℕ). getD m (to + i) 0) p q e
+
+pub same-word : (l m : List ℕ) (at to : ℕ) → ((i : ℕ) → i < 8 → getD l (at + i) 0 ≡ getD m (to + i) 0) → wordAt l at ≡ wordAt m to
+unfolding wordAt
+same-word l m at to p = lanes-cong 8 (λ (i : ℕ). getD l (at + i) 0) (λ (i : ℕ). getD m (to + i) 0) p
