@@ -93,9 +93,13 @@ module _ (p : ℕ → Bool) (i n : ℕ) where
       (λ w. rw (first-end p i n (omega arith)) (found-nothing n i (omega arith)))
       (λ w. rw (first-none p i n w f) (found-nothing n n (omega arith)))
 
+  -- the answer of a loop that has found it
+  pub look-at : (k : ℕ) → firstIn p i n ≡ k → k < n → At k ≡ foundBelow n (firstIn p i n)
+  look-at k q h = sym (rw q (found-at n k h))
+
   -- a loop that has come to e: a hit there, and its end
   pub look-hit : (e : ℕ) → firstIn p e n ≡ firstIn p i n → e < n → p e ≡ true → At e ≡ foundBelow n (firstIn p i n)
-  look-hit e q h t = sym (rw (← q, first-hit p e n h t) (found-at n e h))
+  look-hit e q h t = look-at e (sym q ∙ first-hit p e n h t) h
 
   pub look-end : (e : ℕ) → firstIn p e n ≡ firstIn p i n → n ≤ e → Nothing ≡ foundBelow n (firstIn p i n)
   look-end e q h = sym (rw (← q, first-end p e n h) (found-nothing n e h))

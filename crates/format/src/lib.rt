@@ -35,6 +35,9 @@ pub const ENTRY_BYTES: usize = 32;
 
 pub const ENTRIES_PER_RECORD: usize = 4;
 
+// The records that the entries fill.
+pub const DIRECTORY_RECORDS: usize = 16;
+
 // Entries and FCBs.
 pub const SLOTS: usize = 16;
 

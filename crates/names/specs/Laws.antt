@@ -21,6 +21,9 @@ exact-byte : (x y : ℕ) → byteLike false x y ≡ eqb (sevenBits x) (sevenBits
 unfolding byteLike _and_
 exact-byte x y = or-first _ _ refl
 
+pub same-byte : (x y : ℕ) → sevenBits x ≡ sevenBits y → byteLike false x y ≡ true
+same-byte x y e = exact-byte x y ∙ eq-eqb _ _ e
+
 pub like-at : (s : Bytes) (q : ℕ) (r : Bytes) (p : ℕ) → nameLike false s q r p ≡ true → (i : ℕ) → i < nameBytes → nameBits s q i ≡ nameBits r p i
 unfolding nameLike
 like-at s q r p h i l = eqb-true _ _ (sym (exact-byte _ _) ∙ all-at _ nameBytes h i l)

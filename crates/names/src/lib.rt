@@ -1,10 +1,15 @@
 // Names: the name rule, and the comparison of names in their low seven bits, of a name with a name or with a search pattern.
 ghost use mathlib.Core.Path.{_≡_};
-ghost use mathlib.Core.Bool.{not, cond};
+ghost use mathlib.Core.Bool.{false, not, cond};
 ghost use Prim.Native.Nat.{_+_, _≤_};
 ghost use lib.ListN.{length};
 ghost use Rattle.format.specs.Names.{nameBytes, nameByte, nameRight, byteLike, nameLike};
 use format::NAME_BYTES;
+
+// The low seven bits of each of the eight bytes of a word.
+const SEVENS: u64 = 0x7F7F7F7F7F7F7F7F;
+
+const EIGHT: usize = 8;
 
 // Whether a name may hold the byte: 20H to 7EH in the low seven bits, and 3FH only in a pattern.
 pub fn name_byte(wild: bool, b: u8) -> bool
@@ -72,6 +77,24 @@ pub fn name_like(wild: bool, s: &[u8], q: usize, r: &[u8], p: usize) -> bool
     let mut i = 0;
     while i < NAME_BYTES {
         if !byte_like(wild, s[q + i], r[p + i]) {
+            return false;
+        }
+        i += 1;
+    }
+    true
+}
+
+// The same for names without 3FH, of which the first eight bytes are compared at once.
+pub fn name_same(s: &[u8], q: usize, r: &[u8], p: usize) -> bool
+    requires { ⌜ (q + nameBytes ≤ length (now s)) × (p + nameBytes ≤ length (now r)) ⌝ }
+    ensures { λ b. ⌜ b ≡ nameLike false (now (s .entry)) q (now (r .entry)) p ⌝ }
+{
+    if lanes::word(s, q) & SEVENS != lanes::word(r, p) & SEVENS {
+        return false;
+    }
+    let mut i = EIGHT;
+    while i < NAME_BYTES {
+        if !byte_like(false, s[q + i], r[p + i]) {
             return false;
         }
         i += 1;

@@ -15,6 +15,10 @@ use Rattle.disk.specs.Places.{blockRecords, offset-fits, offset-past, offset-ap
 abbrev pub areaRecords : Geometry → ℕ
 areaRecords G = G .perBlock * G .area
 
+-- the i-th row of four, which fill a record
+abbrev pub rowOf : Bytes → ℕ → Bytes
+rowOf four i = part four (i * entryBytes) entryBytes
+
 -- a block past the directory has its records past the directory's
 pub block-past : (G : Geometry) (b k : ℕ) → G .area ≤ b → areaRecords G ≤ diskRecord G b k
 block-past G b k h = omega (arith, mul-le-mul-left (G .perBlock) h)
@@ -61,6 +65,14 @@ module _ {G : Geometry} (S : Sound G) where
     entry-in-record e h =
         part-part img (offsetOf G (e / entriesPerRecord)) recordBytes (e % entriesPerRecord * entryBytes) entryBytes
         (omega (arith, offset-fits S (e / entriesPerRecord) (omega (arith, entry-record e h, area-within)))) (omega arith)
+
+    -- the i-th row of record d
+    pub row-in-record : (d i : ℕ) → i < entriesPerRecord → entriesPerRecord * d + i < G .entries → rowOf (recordAt G img d) i ≡ entryAt G img (entriesPerRecord * d + i)
+    row-in-record d i h l =
+        let e : ℕ = entriesPerRecord * d + i in
+        let q : e / entriesPerRecord ≡ d = omega arith in
+        let r : e % entriesPerRecord ≡ i = omega arith in
+        ap (λ (k : ℕ). rowOf (recordAt G img d) k) (sym r) ∙ ap (λ (k : ℕ). rowOf (recordAt G img k) (e % entriesPerRecord)) (sym q) ∙ entry-in-record e l
 
     -- a record past the directory leaves every entry
     pub entry-kept : (d : ℕ) → areaRecords G ≤ d → d < blockRecords G → (bytes : Bytes) → length bytes ≡ recordBytes → (e : ℕ) → e < G .entries → entryAt G (withRecord G img d bytes) e ≡ entryAt G img e

@@ -1,20 +1,15 @@
 -- What the look-ups say: the entry found passes the test and is the first that does; where nothing is found, no entry passes.
-use mathlib.Core.Path.{_≡_, _∙_}
+use mathlib.Core.Path.{_≡_, ap, _∙_}
 use mathlib.Core.Bool.{Bool, true, false}
-use Prim.Native.Nat.{ℕ, _≤_, _<_}
+use Prim.Native.Nat.{ℕ, _+_, _*_, _≤_, _<_}
 use native.Mathlib.Omega.{arith}
-use borrow.Author.Tests.{eq-eqb}
-use Rattle.lists.specs.Tests.{and-then, and-first}
-use Rattle.format.specs.Diskette.{Bytes, Geometry}
-use Rattle.format.specs.Names.{nameLike}
-use Rattle.format.specs.Entries.{Rows, userOf, covers, empty, named, isFile, findFile, findNamed, findEmpty}
+use lib.ListN.{length}
+use Rattle.lists.specs.Below.{firstIn, first-among, first-past}
+use Rattle.format.specs.Diskette.{Bytes, Geometry, Sound, imageBytes, recordAt, entriesPerRecord}
+use Rattle.format.specs.Entries.{Rows, entryAt, empty, named, isFile, findFile, findNamed, findEmpty}
 use Rattle.format.specs.declared.Found.the-variants.{At, Nothing}
 use Rattle.facts.specs.Found.{FirstAt, first-says, first-is-at, none-says, none-is}
-
--- among the user's rows that cover the extent, the name decides
-pub file-by-name : (G : Geometry) (user : ℕ) (s : Bytes) (q ext : ℕ) (row : Bytes) → userOf row ≡ user → covers G row ext ≡ true → isFile G user s q ext row ≡ nameLike false s q row 1
-unfolding isFile named
-file-by-name G user s q ext row h t = and-first _ _ t ∙ and-then _ _ (eq-eqb _ _ h)
+use Rattle.rows.specs.Entries.{rowOf, row-in-record}
 
 -- the test of each look-up, at an entry
 abbrev pub fileTest : Geometry → Rows → ℕ → Bytes → ℕ → ℕ → ℕ → Bool
@@ -76,3 +71,23 @@ module _ (G : Geometry) (d : Rows) where
   pub none-empty-is : ((e : ℕ) → e < G .entries → empty (d e) ≡ false) → findEmpty G d ≡ Nothing
   unfolding findEmpty
   none-empty-is f = none-is (emptyTest d) 0 (G .entries) (λ e a l. f e l)
+
+-- ---- a look-up that takes four entries a turn. At record d it looks for the first of the record's rows that passes a test: i, or 4
+module _ {G : Geometry} (S : Sound G) (img : Bytes) (long : length img ≡ imageBytes G) (test : Bytes → Bool) (d : ℕ)
+    (whole : entriesPerRecord * d + entriesPerRecord ≤ G .entries) (four : Bytes) (is : four ≡ recordAt G img d)
+    (i : ℕ) (among : i ≡ firstIn (λ (k : ℕ). test (rowOf four k)) 0 entriesPerRecord) where
+  -- the test of an entry of the record is that of its row
+  same : (k : ℕ) → k < entriesPerRecord → test (rowOf four k) ≡ test (entryAt G img (entriesPerRecord * d + k))
+  same k h = ap test (ap (λ (f : Bytes). rowOf f k) is ∙ row-in-record S img long d k h (omega arith))
+
+  pub four-hit : i < entriesPerRecord → firstIn (λ (e : ℕ). test (entryAt G img e)) (entriesPerRecord * d) (G .entries) ≡ entriesPerRecord * d + i
+  four-hit h =
+      first-among (λ (e : ℕ). test (entryAt G img e)) (λ (k : ℕ). test (rowOf four k)) (entriesPerRecord * d) entriesPerRecord (G .entries) whole same (omega arith)
+      ∙ (omega arith)
+
+  pub four-past : entriesPerRecord ≤ i → firstIn (λ (e : ℕ). test (entryAt G img e)) (entriesPerRecord * (d + 1)) (G .entries)
+      ≡ firstIn (λ (e : ℕ). test (entryAt G img e)) (entriesPerRecord * d) (G .entries)
+  four-past h =
+      let q : entriesPerRecord * (d + 1) ≡ entriesPerRecord * d + entriesPerRecord = omega arith in
+      ap (λ (k : ℕ). firstIn (λ (e : ℕ). test (entryAt G img e)) k (G .entries)) q
+      ∙ first-past (λ (e : ℕ). test (entryAt G img e)) (λ (k : ℕ). test (rowOf four k)) (entriesPerRecord * d) entriesPerRecord (G .entries) whole same (omega arith)

@@ -2,10 +2,13 @@
 ghost use mathlib.Core.Path.{_≡_};
 ghost use Prim.Native.Nat.{_+_, _*_, _≤_, _<_};
 ghost use lib.ListN.{length};
-ghost use Rattle.format.specs.Diskette.{eightInch, imageBytes, entryBytes, slotCount};
+ghost use Rattle.lists.specs.Below.{firstIn};
+ghost use Rattle.format.specs.Diskette.{eightInch, imageBytes, recordBytes, recordAt, entryBytes, entriesPerRecord, slotCount};
 ghost use Rattle.format.specs.Names.{nameBytes};
 ghost use Rattle.format.specs.Consistent.{numbersRight};
 ghost use Rattle.format.specs.Entries.{entryPlace, entryAt, withEntry, slotsOf, extentOf, covers, countIn, slotFor, named, isFile, findFile, findNamed, findEmpty};
+ghost use Rattle.rows.specs.Entries.{rowOf};
+ghost use Rattle.rows.specs.Find.{fileTest};
 use format::ENTRIES;
 use format::ENTRIES_PER_RECORD;
 use format::ENTRY_BYTES;
@@ -27,6 +30,26 @@ pub fn row(image: &[u8], e: usize) -> &[u8]
     let at = entry_place(e);
     let end = at + ENTRY_BYTES;
     &image[at..end]
+}
+
+// The rows of four entries: record d of the directory, as a part of the image. A loop over all entries takes the place of each record once.
+pub fn four_rows(image: &[u8], d: usize) -> &[u8]
+    requires { ⌜ (length (now image) ≡ imageBytes eightInch) × (entriesPerRecord * d < eightInch .entries) ⌝ }
+    ensures { λ r. ⌜ (now r ≡ recordAt eightInch (now (image .entry)) d) × (length (now r) ≡ recordBytes) ⌝ }
+{
+    let at = disk::offset(d);
+    let end = at + format::RECORD_BYTES;
+    &image[at..end]
+}
+
+// The i-th row of four.
+pub fn row_of(four: &[u8], i: usize) -> &[u8]
+    requires { ⌜ (length (now four) ≡ recordBytes) × (i < entriesPerRecord) ⌝ }
+    ensures { λ r. ⌜ (now r ≡ rowOf (now (four .entry)) i) × (length (now r) ≡ entryBytes) ⌝ }
+{
+    let at = i * ENTRY_BYTES;
+    let end = at + ENTRY_BYTES;
+    &four[at..end]
 }
 
 // The row of an entry by value, for a caller that goes on to change the image.
@@ -116,7 +139,7 @@ pub fn is_named(wild: bool, user: u8, s: &[u8], q: usize, r: &[u8]) -> bool
     names::name_like(wild, s, q, r, 1)
 }
 
-// Whether a row is the user's, of the name in s at q, and covers the extent. The name is compared last: it takes longest.
+// Whether a row is the user's, of the name in s at q, and covers the extent.
 pub fn is_file(user: u8, s: &[u8], q: usize, ext: usize, r: &[u8]) -> bool
     requires { ⌜ (q + nameBytes ≤ length (now s)) × (entryBytes ≤ length (now r)) ⌝ }
     ensures { λ b. ⌜ b ≡ isFile eightInch user (now (s .entry)) q ext (now (r .entry)) ⌝ }
@@ -124,10 +147,25 @@ pub fn is_file(user: u8, s: &[u8], q: usize, ext: usize, r: &[u8]) -> bool
     if r[0] != user {
         return false;
     }
-    if !covers_extent(r, ext) {
+    if !names::name_like(false, s, q, r, 1) {
         return false;
     }
-    names::name_like(false, s, q, r, 1)
+    covers_extent(r, ext)
+}
+
+// The place among four rows of the first that is of this user, name and extent; 4 where none is.
+fn file_among(four: &[u8], user: u8, s: &[u8], q: usize, ext: usize) -> usize
+    requires { ⌜ (length (now four) ≡ recordBytes) × (q + nameBytes ≤ length (now s)) ⌝ }
+    ensures { λ r. ⌜ r ≡ firstIn (fileTest eightInch (rowOf (now (four .entry))) user (now (s .entry)) q ext) 0 entriesPerRecord ⌝ }
+{
+    let mut i = 0;
+    while i < ENTRIES_PER_RECORD {
+        if is_file(user, s, q, ext, row_of(four, i)) {
+            return i;
+        }
+        i += 1;
+    }
+    ENTRIES_PER_RECORD
 }
 
 // The entry of this user, name and extent.
@@ -135,12 +173,13 @@ pub fn find_file(image: &[u8], user: u8, s: &[u8], q: usize, ext: usize) -> Foun
     requires { ⌜ (length (now image) ≡ imageBytes eightInch) × (q + nameBytes ≤ length (now s)) ⌝ }
     ensures { λ r. ⌜ r ≡ findFile eightInch (entryAt eightInch (now (image .entry))) user (now (s .entry)) q ext ⌝ }
 {
-    let mut e = 0;
-    while e < ENTRIES {
-        if is_file(user, s, q, ext, row(image, e)) {
-            return Found::At(e);
+    let mut d = 0;
+    while d < format::DIRECTORY_RECORDS {
+        let i = file_among(four_rows(image, d), user, s, q, ext);
+        if i < ENTRIES_PER_RECORD {
+            return Found::At(ENTRIES_PER_RECORD * d + i);
         }
-        e += 1;
+        d += 1;
     }
     Found::Nothing
 }

@@ -1,61 +1,77 @@
--- The loop's invariant: what is first from e on is first from the start on, since no entry passed before e.
-use mathlib.Core.Path.{_≡_, refl, _∙_}
+-- The loop's invariant: what is first from record d on is first from the start on, since no entry of the records before d passed.
+use mathlib.Core.Path.{_≡_, refl, sym, _∙_}
 use mathlib.Core.Bool.{Bool}
-use Prim.Native.Nat.{ℕ, _-_}
+use Prim.Native.Nat.{ℕ, _+_, _*_, _-_}
 use native.Mathlib.Omega.{arith}
 use borrow.Author.Needs.{needs}
-use Rattle.lists.specs.Below.{firstIn, first-turn}
-use Rattle.format.specs.Diskette.{eightInch}
-use Rattle.format.specs.Entries.{entryAt, findFile}
-use Rattle.facts.specs.Found.{look-hit, look-end}
-use Rattle.rows.specs.Find.{fileTest}
+use Rattle.lists.specs.Below.{firstIn}
+use Rattle.format.specs.Diskette.{Bytes, eightInch, entriesPerRecord}
+use Rattle.format.specs.Entries.{entryAt, isFile, findFile}
+use Rattle.facts.specs.Found.{look-at, look-end}
+use Rattle.disk.specs.Eight.{eight-sound}
+use Rattle.rows.specs.Find.{fileTest, four-hit, four-past}
 use Rattle.rows.proofs.find_file.Statement.{statement}
 use Rattle.rows.proofs.find_file.Tie as tie
 
 abbrev Inv-loop : tie.InvT-loop
-Inv-loop image user s q ext e₀ e = firstIn (fileTest eightInch (entryAt eightInch image) user s q ext) e (eightInch .entries) ≡ firstIn (fileTest eightInch (entryAt eightInch image) user s q ext) 0 (eightInch .entries)
+Inv-loop image user s q ext d₀ d = firstIn (fileTest eightInch (entryAt eightInch image) user s q ext) (entriesPerRecord * d) (eightInch .entries) ≡ firstIn (fileTest eightInch (entryAt eightInch image) user s q ext) 0 (eightInch .entries)
 
 abbrev μ-loop : tie.MeasureT-loop
-μ-loop image user s q ext e₀ e = eightInch .entries - e
+μ-loop image user s q ext d₀ d = 16 - d
 
--- the test at each entry
+-- the test of a row, and of each entry
+abbrev ofRow : tie.Start Inv-loop μ-loop → Bytes → Bool
+ofRow c = let a = c .args in isFile eightInch (a .user) (a .s .now) (a .q) (a .ext)
+
 abbrev test : tie.Start Inv-loop μ-loop → ℕ → Bool
-test c = let a = c .args in fileTest eightInch (entryAt eightInch (a .image .now)) (a .user) (a .s .now) (a .q) (a .ext)
+test c e = ofRow c (entryAt eightInch (c .args .image .now) e)
 
 loop-holds : tie.Need-loop-holds Inv-loop μ-loop
 loop-holds c = refl
 
-row-requires : tie.Need-row-requires Inv-loop μ-loop
-row-requires c κs = search needs
+four-rows-requires : tie.Need-four-rows-requires Inv-loop μ-loop
+four-rows-requires c κs = search needs
 
-is-file-requires : tie.Need-is-file-requires Inv-loop μ-loop
-is-file-requires c κs = search needs
+file-among-requires : tie.Need-file-among-requires Inv-loop μ-loop
+file-among-requires c κs = search needs
+
+mul-t10 : tie.Need-mul-t10 Inv-loop μ-loop
+mul-t10 c = omega arith
+
+add-t11 : tie.Need-add-t11 Inv-loop μ-loop
+add-t11 c = omega arith
 
 returns : tie.Need-returns Inv-loop μ-loop
 unfolding findFile
 returns c =
-    let l = c .before .before .before .before in
+    let r = c .before .before in
+    let l = r .before .before in
     let m = l .before .before .before in
-    look-hit (test m) 0 (eightInch .entries) (l .loop .e) (l .loop .inv) (omega arith) (cc)
+    let hit = four-hit eight-sound (m .args .image .now) (m .pre .0) (ofRow m) (l .loop .d) (omega arith) (r .four-rows .result .now)
+    (r .four-rows .ensures .0) (c .before .file-among .result) (c .before .file-among .ensures) (omega arith) in
+    look-at (test m) 0 (eightInch .entries) (entriesPerRecord * l .loop .d + c .before .file-among .result) (sym (l .loop .inv) ∙ hit) (omega arith)
 
-add-e : tie.Need-add-e Inv-loop μ-loop
-add-e c = omega arith
+add-d : tie.Need-add-d Inv-loop μ-loop
+add-d c = omega arith
 
 loop-less : tie.Need-loop-less Inv-loop μ-loop
 loop-less c = omega arith
 
 loop-again : tie.Need-loop-again Inv-loop μ-loop
 loop-again c =
-    let l = c .before .before .before .before in
+    let r = c .before .before in
+    let l = r .before .before in
     let m = l .before .before .before in
-    first-turn (test m) (l .loop .e) (eightInch .entries) (omega arith) (cc) ∙ l .loop .inv
+    four-past eight-sound (m .args .image .now) (m .pre .0) (ofRow m) (l .loop .d) (omega arith) (r .four-rows .result .now)
+    (r .four-rows .ensures .0) (c .before .file-among .result) (c .before .file-among .ensures) (omega arith)
+    ∙ l .loop .inv
 
 returns-2 : tie.Need-returns-2 Inv-loop μ-loop
 unfolding findFile
 returns-2 c =
     let l = c .before in
     let m = l .before .before .before in
-    look-end (test m) 0 (eightInch .entries) (l .loop .e) (l .loop .inv) (omega arith)
+    look-end (test m) 0 (eightInch .entries) (entriesPerRecord * l .loop .d) (l .loop .inv) (omega arith)
 
 pub find-file-spec : {M : Type 1} → statement M
 find-file-spec =
@@ -64,10 +80,12 @@ find-file-spec =
     Inv-loop
     μ-loop
     loop-holds
-    row-requires
-    is-file-requires
+    four-rows-requires
+    file-among-requires
+    mul-t10
+    add-t11
     returns
-    add-e
+    add-d
     loop-less
     loop-again
     returns-2)
