@@ -1,9 +1,10 @@
 // Whether an image is consistent, decided in one pass over the directory. Every call of the file system asks this first.
 ghost use mathlib.Core.Path.{_≡_};
 ghost use mathlib.Core.Bool.{true};
-ghost use Prim.Native.Nat.{ℕ, _+_, _≤_, _<_};
+ghost use Prim.Native.Nat.{ℕ, _+_, _*_, _≤_, _<_};
 ghost use lib.ListN.{getD, length};
-ghost use Rattle.format.specs.Diskette.{eightInch, imageBytes};
+ghost use Rattle.lists.specs.Below.{allBelow};
+ghost use Rattle.format.specs.Diskette.{eightInch, imageBytes, entriesPerRecord};
 ghost use Rattle.format.specs.Names.{nameBytes};
 ghost use Rattle.format.specs.Entries.{entryBytes, slotCount, entryAt, slotOf, used};
 ghost use Rattle.format.specs.Consistent.{sameFile, alone, consistent};
@@ -15,7 +16,9 @@ ghost use Rattle.consistent.specs.Chain.{Lasts, Links};
 ghost use Rattle.consistent.specs.Pass.{rowRight, entryFits, Passed};
 use format::AREA_BLOCKS;
 use format::BLOCKS;
+use format::DIRECTORY_RECORDS;
 use format::ENTRIES;
+use format::ENTRIES_PER_RECORD;
 use format::MARKS;
 use format::NAME_BYTES;
 
@@ -165,20 +168,21 @@ fn take_key(image: &[u8], e: usize, r: &[u8], lasts: &mut [u8], links: &mut [u8]
     is_alone(image, e, links)
 }
 
-// Whether entry e passes, after all before it have.
+// Whether entry e passes, after all before it have; r is its row.
 fn take_entry(
     image: &[u8],
     e: usize,
+    r: &[u8],
     marks: &mut [u8],
     lasts: &mut [u8],
     links: &mut [u8],
 ) -> bool
     requires { ⌜ (length (now image) ≡ imageBytes eightInch) × (e < eightInch .entries)
+        × (entryBytes ≤ length (now r)) × (now r ≡ entryAt eightInch (now image) e)
         × Passed eightInch (entryAt eightInch (now image)) e (now marks) (now lasts) (now links) ⌝ }
     ensures { λ b. ⌜ (b ≡ entryFits eightInch (entryAt eightInch (now (image .entry))) e)
         × (b ≡ true → Passed eightInch (entryAt eightInch (now (image .entry))) (e + 1) (now (marks .exit)) (now (lasts .exit)) (now (links .exit))) ⌝ }
 {
-    let r = rows::row(image, e);
     if r[0] == 0xE5 {
         return true;
     }
@@ -191,6 +195,31 @@ fn take_entry(
     take_key(image, e, r, lasts, links)
 }
 
+// Whether the four entries of the directory's record d pass, after all before them have. So a record's place is computed once for four rows.
+fn take_record(image: &[u8], d: usize, marks: &mut [u8], lasts: &mut [u8], links: &mut [u8]) -> bool
+    requires { ⌜ (length (now image) ≡ imageBytes eightInch) × (entriesPerRecord * d < eightInch .entries)
+        × Passed eightInch (entryAt eightInch (now image)) (entriesPerRecord * d) (now marks) (now lasts) (now links) ⌝ }
+    ensures { λ b. ⌜ (b ≡ allBelow (λ (i : ℕ). entryFits eightInch (entryAt eightInch (now (image .entry))) (entriesPerRecord * d + i)) entriesPerRecord)
+        × (b ≡ true → Passed eightInch (entryAt eightInch (now (image .entry))) (entriesPerRecord * d + entriesPerRecord) (now (marks .exit)) (now (lasts .exit)) (now (links .exit))) ⌝ }
+{
+    let four = rows::four_rows(image, d);
+    let mut i = 0;
+    while i < ENTRIES_PER_RECORD {
+        if !take_entry(
+            image,
+            ENTRIES_PER_RECORD * d + i,
+            rows::row_of(four, i),
+            marks,
+            lasts,
+            links,
+        ) {
+            return false;
+        }
+        i += 1;
+    }
+    true
+}
+
 // Whether the image is consistent. Where it is, the marks tell which blocks are listed.
 pub fn is_consistent(image: &[u8], marks: &mut [u8]) -> bool
     requires { ⌜ (length (now image) ≡ imageBytes eightInch) × (length (now marks) ≡ markCount) ⌝ }
@@ -200,12 +229,12 @@ pub fn is_consistent(image: &[u8], marks: &mut [u8]) -> bool
     start_marks(marks);
     let mut lasts = [0u8; KEYS];
     let mut links = [0u8; ENTRIES];
-    let mut e = 0;
-    while e < ENTRIES {
-        if !take_entry(image, e, marks, &mut lasts, &mut links) {
+    let mut d = 0;
+    while d < DIRECTORY_RECORDS {
+        if !take_record(image, d, marks, &mut lasts, &mut links) {
             return false;
         }
-        e += 1;
+        d += 1;
     }
     true
 }
