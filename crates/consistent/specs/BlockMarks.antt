@@ -1,27 +1,28 @@
--- The marks of blocks: 1 at each number that no slot may list from now on. That is the number of no block past the directory,
+-- The marks of blocks: not 0 at each number that no slot may list from now on. That is the number of no block past the directory,
 -- barred from the start, or of a block that a slot listed before. So one look at the mark of a slot's number decides whether the
--- number is in range and stands there for the first time.
+-- number is in range and stands there for the first time. A slot of 0 lists nothing; its mark is 0 and stays so.
 use mathlib.Core.Path.{_≡_, refl, ap, sym, _∙_}
-use mathlib.Core.Logic.{inl, inr}
-use mathlib.Core.Bool.{Bool, true, false, not, cond}
+use mathlib.Core.Logic.{_⊎_, inl, inr}
+use mathlib.Core.Bool.{Bool, true, false, not}
 use Prim.Native.Nat.{ℕ, zero, suc, _+_, _-_, _*_, _≤_, _<_}
 use native.Mathlib.Nat.{add-zero}
 use native.Mathlib.Omega.{arith}
 use lib.Dec.{eqb, leb, ltb}
-use lib.ListN.{getD, length, set, length-set}
+use lib.ListN.{getD, length, length-set}
 use borrow.Author.Tests.{le-leb, lt-leb, lt-ltb, le-ltb, eq-eqb, ne-eqb}
 use Rattle.lists.specs.Cases.{split, lt-or-le, eq-or-ne}
 use Rattle.lists.specs.Tests.{_and_, _or_, and-both, and-fails-left, and-fails-right, or-left, or-right, or-first, or-then}
 use Rattle.lists.specs.Below.{allBelow, all-cong, all-both}
-use Rattle.lists.specs.Fold.{foldBelow, fold-none, fold-next}
+use Rattle.lists.specs.Fold.{foldBelow}
 use Rattle.lists.specs.Splice.{splice, copies, length-fill, getD-fill-in, getD-fill-out}
-use Rattle.lists.specs.Seen.{bit, taken, Seen, seen-start, seen-more, seen-kept, seen-at}
+use Rattle.lists.specs.Seen.{taken, Seen, seen-start, seen-more, seen-kept}
 use Rattle.format.specs.Diskette.{Bytes, Geometry}
 use Rattle.format.specs.Entries.{Rows, slotCount, slotOf, used}
 use Rattle.format.specs.Consistent.{slotRight, slotsRight, slotsInAll, listed, listedOnce}
 use Rattle.format.specs.Notes.{isListed}
 use Rattle.facts.specs.Marks.{markCount, Marked}
 use Rattle.consistency.specs.Listed.{listed-used, listed-unused}
+use Rattle.consistent.specs.Runs.{numberFree, markNumber, markRun, runFree}
 
 -- no block past the directory has this number
 unfoldable pub barred : Geometry → ℕ → Bool
@@ -34,32 +35,14 @@ pub record BlockMarks (G : Geometry) (d : Rows) (x : ℕ) (l : Bytes) : Type 0 w
 
 -- the marks before the first slot
 unfoldable pub startMarks : Geometry → Bytes → Bytes
-startMarks G l = splice (splice (splice l 0 (copies markCount 0)) 0 (copies (G .area) 1)) (G .blocks) (copies (markCount - G .blocks) 1)
-
--- a slot may list b: 0, or a number without a mark; and b marked
-unfoldable pub numberFree : Bytes → ℕ → Bool
-numberFree l b = eqb b 0 or eqb (getD l b 0) 0
-
-unfoldable pub markNumber : Bytes → ℕ → Bytes
-markNumber l b = cond (eqb b 0) l (set l b 1)
+startMarks G l = splice (splice (splice l 0 (copies markCount 0)) 1 (copies (G .area - 1) 1)) (G .blocks) (copies (markCount - G .blocks) 1)
 
 -- the first j slots of a row marked, and whether each slot may list what it lists
 unfoldable pub markSlots : Bytes → Bytes → ℕ → Bytes
-markSlots l r j = foldBelow (λ (m : Bytes) (k : ℕ). markNumber m (slotOf r k)) l j
-
-unfoldable pub slotFree : Bytes → Bytes → ℕ → Bool
-slotFree l r j = numberFree (markSlots l r j) (slotOf r j)
+markSlots l r j = markRun l r 16 j
 
 unfoldable pub slotsFree : Bytes → Bytes → Bool
-slotsFree l r = allBelow (slotFree l r) slotCount
-
-pub mark-slots-none : (l r : Bytes) → markSlots l r 0 ≡ l
-unfolding markSlots
-mark-slots-none l r = fold-none _ l
-
-pub mark-slots-next : (l r : Bytes) (j : ℕ) → markSlots l r (j + 1) ≡ markNumber (markSlots l r j) (slotOf r j)
-unfolding markSlots
-mark-slots-next l r j = fold-next _ l j
+slotsFree l r = runFree l r 16 slotCount
 
 -- ---- which numbers are barred
 barred-low : (G : Geometry) (b : ℕ) → b < G .area → barred G b ≡ true
@@ -86,20 +69,20 @@ right-open G b r =
     (λ w. split (lt-or-le b (G .blocks)) (λ v. and-both _ _ (le-leb _ _ w) (lt-ltb _ _ v) ∙ ap not (sym (inside-open G b w v)))
     (λ v. and-fails-right _ _ (le-ltb _ _ v) ∙ ap not (sym (barred-high G b v))))
 
-bit-test : (t b : Bool) → eqb (bit (t or b)) 0 ≡ (not b and not t)
+neither : (t b : Bool) → not (t or b) ≡ (not b and not t)
 unfolding _and_ _or_
-bit-test true true = refl
-bit-test true false = refl
-bit-test false true = refl
-bit-test false false = refl
+neither true true = refl
+neither true false = refl
+neither false true = refl
+neither false false = refl
 
 -- ---- the start
-module _ (G : Geometry) (d : Rows) (l : Bytes) (h : length l ≡ markCount) (m : G .area ≤ G .blocks) (n : G .blocks ≤ markCount) where
+module _ (G : Geometry) (d : Rows) (l : Bytes) (h : length l ≡ markCount) (some : 0 < G .area) (m : G .area ≤ G .blocks) (n : G .blocks ≤ markCount) where
   cleared : Bytes
   cleared = splice l 0 (copies markCount 0)
 
   low : Bytes
-  low = splice cleared 0 (copies (G .area) 1)
+  low = splice cleared 1 (copies (G .area - 1) 1)
 
   long-cleared : length cleared ≡ markCount
   unfolding cleared
@@ -107,30 +90,33 @@ module _ (G : Geometry) (d : Rows) (l : Bytes) (h : length l ≡ markCount) (m :
 
   long-low : length low ≡ markCount
   unfolding low
-  long-low = length-fill cleared 0 (G .area) 1 (omega (arith, long-cleared)) ∙ long-cleared
+  long-low = length-fill cleared 1 (G .area - 1) 1 (omega (arith, long-cleared)) ∙ long-cleared
 
-  at-low : (b : ℕ) → b < G .area → getD (startMarks G l) b 0 ≡ 1
+  -- before the blocks only the low numbers but 0 are marked
+  before : (b : ℕ) → b < G .blocks → getD (startMarks G l) b 0 ≡ getD low b 0
   unfolding startMarks low cleared
-  at-low b p =
-      getD-fill-out low (G .blocks) (markCount - G .blocks) 1 (omega (arith, long-low)) b (inl (omega arith))
-      ∙ getD-fill-in cleared 0 (G .area) 1 (omega (arith, long-cleared)) b (omega arith) (omega arith)
+  before b p = getD-fill-out low (G .blocks) (markCount - G .blocks) 1 (omega (arith, long-low)) b (inl (omega arith))
+
+  unmarked : (b : ℕ) → (b < 1) ⊎ (G .area ≤ b) → b < G .blocks → getD (startMarks G l) b 0 ≡ 0
+  unfolding low cleared
+  unmarked b p q =
+      before b q
+      ∙ getD-fill-out cleared 1 (G .area - 1) 1 (omega (arith, long-cleared)) b (split p (λ w. inl w) (λ w. inr (omega arith)))
+      ∙ getD-fill-in l 0 markCount 0 (omega arith) b (omega arith) (omega arith)
+
+  at-low : (b : ℕ) → 0 < b → b < G .area → getD (startMarks G l) b 0 ≡ 1
+  unfolding low
+  at-low b p q = before b (omega arith) ∙ getD-fill-in cleared 1 (G .area - 1) 1 (omega (arith, long-cleared)) b (omega arith) (omega arith)
 
   at-high : (b : ℕ) → G .blocks ≤ b → b < markCount → getD (startMarks G l) b 0 ≡ 1
   unfolding startMarks low cleared
   at-high b p q = getD-fill-in low (G .blocks) (markCount - G .blocks) 1 (omega (arith, long-low)) b p (omega arith)
 
-  at-open : (b : ℕ) → G .area ≤ b → b < G .blocks → getD (startMarks G l) b 0 ≡ 0
-  unfolding startMarks low cleared
-  at-open b p q =
-      getD-fill-out low (G .blocks) (markCount - G .blocks) 1 (omega (arith, long-low)) b (inl (omega arith))
-      ∙ getD-fill-out cleared 0 (G .area) 1 (omega (arith, long-cleared)) b (inr (omega arith))
-      ∙ getD-fill-in l 0 markCount 0 (omega arith) b (omega arith) (omega arith)
-
-  start-bit : (b : ℕ) → b < markCount → getD (startMarks G l) b 0 ≡ bit (barred G b)
-  start-bit b k =
-      split (lt-or-le b (G .area)) (λ w. at-low b w ∙ ap bit (sym (barred-low G b w)))
-      (λ w. split (lt-or-le b (G .blocks)) (λ v. at-open b w v ∙ ap bit (sym (inside-open G b w v)))
-      (λ v. at-high b v k ∙ ap bit (sym (barred-high G b v))))
+  start-mark : (b : ℕ) → 0 < b → b < markCount → eqb (getD (startMarks G l) b 0) 0 ≡ not (barred G b)
+  start-mark b p k =
+      split (lt-or-le b (G .area)) (λ w. rw (at-low b p w, barred-low G b w))
+      (λ w. split (lt-or-le b (G .blocks)) (λ v. rw (unmarked b (inr w) v, inside-open G b w v))
+      (λ v. rw (at-high b v k, barred-high G b v)))
 
   long-start : length (startMarks G l) ≡ markCount
   unfolding startMarks low cleared
@@ -139,25 +125,23 @@ module _ (G : Geometry) (d : Rows) (l : Bytes) (h : length l ≡ markCount) (m :
   pub marks-start : BlockMarks G d 0 (startMarks G l)
   marks-start = record {
     long = long-start;
-    seen = seen-start (barred G) (listed d) (startMarks G l) (λ b k. start-bit b (omega (arith, long-start)));
+    seen = seen-start (barred G) (listed d) (startMarks G l) (unmarked 0 (inl (omega arith)) (omega arith))
+        (λ b p k. start-mark b p (omega (arith, long-start)));
   }
 
-module _ (G : Geometry) (some : 0 < G .area) (d : Rows) where
+module _ (G : Geometry) (d : Rows) where
   -- ---- a slot: marked, or listing none
   marks-kept : (x : ℕ) (l : Bytes) → listed d x ≡ 0 → BlockMarks G d x l → BlockMarks G d (x + 1) l
-  marks-kept x l q m = record {
-    long = m .long;
-    seen = seen-kept (barred G) (listed d) l x (ap (barred G) q ∙ barred-low G 0 some) (m .seen);
-  }
+  marks-kept x l q m = record { long = m .long; seen = seen-kept (barred G) (listed d) l x (m .seen) q }
 
   marks-more : (x v : ℕ) (l : Bytes) → listed d x ≡ v → v < markCount → BlockMarks G d x l → BlockMarks G d (x + 1) (markNumber l v)
   unfolding markNumber
   marks-more x v l q h m =
-      split (eq-or-ne v 0) (λ z. rw (eq-eqb v 0 z) (marks-kept x l (q ∙ z) m))
-      (λ z. let long = m .long in rw (ne-eqb v 0 z) (record {
-        long = length-set l v 1 ∙ m .long;
-        seen = seen-more (barred G) (listed d) l x v (sym q) (omega arith) (m .seen);
-      }))
+      let long = m .long in
+      record {
+        long = length-set l v v ∙ m .long;
+        seen = seen-more (barred G) (listed d) l x (m .seen) v (sym q) (omega arith);
+      }
 
   -- the look at the mark is both tests of the slot
   mark-decides : (x v : ℕ) (l : Bytes) → listed d x ≡ v → v < markCount → BlockMarks G d x l → numberFree l v ≡ (slotRight G v and listedOnce d x)
@@ -165,10 +149,9 @@ module _ (G : Geometry) (some : 0 < G .area) (d : Rows) where
   mark-decides x v l q h m =
       let long = m .long in
       split (eq-or-ne v 0)
-      (λ z. or-left _ _ (eq-eqb v 0 z) ∙ sym (and-both _ _ (zero-right G v z) (or-left _ _ (eq-eqb _ _ (q ∙ z)))))
-      (λ z. let at : getD l v 0 ≡ bit (taken (listed d) x v or barred G v) = seen-at (barred G) (listed d) x l (m .seen) v (omega arith) in
-      let once : (eqb (listed d x) 0 or not (taken (listed d) x (listed d x))) ≡ not (taken (listed d) x v) = rw q (or-then _ _ (ne-eqb v 0 z)) in
-      or-then _ _ (ne-eqb v 0 z) ∙ rw (at, once, right-open G v z) (bit-test (taken (listed d) x v) (barred G v)))
+      (λ z. rw z (eq-eqb _ _ (m .seen .none)) ∙ sym (and-both _ _ (zero-right G v z) (or-left _ _ (eq-eqb _ _ (q ∙ z)))))
+      (λ z. let once : (eqb (listed d x) 0 or not (taken (listed d) x (listed d x))) ≡ not (taken (listed d) x v) = rw q (or-then _ _ (ne-eqb v 0 z)) in
+      m .seen .mark v (omega arith) (omega arith) ∙ rw (once, right-open G v z) (neither (taken (listed d) x v) (barred G v)))
 
   -- ---- the slots of an entry that is not used
   skipped : (e j : ℕ) (l : Bytes) → used (d e) ≡ false → j ≤ slotCount → BlockMarks G d (slotCount * e) l → BlockMarks G d (slotCount * e + j) l
@@ -183,29 +166,29 @@ module _ (G : Geometry) (some : 0 < G .area) (d : Rows) where
 
   -- ---- the slots of a used entry
   module _ (e : ℕ) (l : Bytes) (u : used (d e) ≡ true) (bytes : (j : ℕ) → j < slotCount → slotOf (d e) j < markCount) (m : BlockMarks G d (slotCount * e) l) where
-    passed : (j : ℕ) → j ≤ slotCount → BlockMarks G d (slotCount * e + j) (markSlots l (d e) j)
-    unfolding markSlots foldBelow
+    passed : (j : ℕ) → j ≤ slotCount → BlockMarks G d (slotCount * e + j) (markRun l (d e) 16 j)
+    unfolding markRun foldBelow slotOf
     passed zero h = rw add-zero m
     passed (suc j) h =
         let q : slotCount * e + suc j ≡ slotCount * e + j + 1 = omega arith in
-        rw q (marks-more (slotCount * e + j) (slotOf (d e) j) (markSlots l (d e) j) (listed-used d e j h u) (bytes j h) (passed j (omega arith)))
+        rw q (marks-more (slotCount * e + j) (slotOf (d e) j) (markRun l (d e) 16 j) (listed-used d e j h u) (bytes j h) (passed j (omega arith)))
 
     pub marks-row : BlockMarks G d (slotCount * (e + 1)) (markSlots l (d e) slotCount)
+    unfolding markSlots
     marks-row = let q : slotCount * (e + 1) ≡ slotCount * e + slotCount = omega arith in rw q (passed slotCount (omega arith))
 
-    free-right : (j : ℕ) → j < slotCount → slotFree l (d e) j ≡ (slotRight G (slotOf (d e) j) and listedOnce d (slotCount * e + j))
-    unfolding slotFree
-    free-right j h = mark-decides (slotCount * e + j) (slotOf (d e) j) (markSlots l (d e) j) (listed-used d e j h u) (bytes j h) (passed j (omega arith))
+    free-right : (j : ℕ) → j < slotCount → numberFree (markRun l (d e) 16 j) (slotOf (d e) j) ≡ (slotRight G (slotOf (d e) j) and listedOnce d (slotCount * e + j))
+    free-right j h = mark-decides (slotCount * e + j) (slotOf (d e) j) (markRun l (d e) 16 j) (listed-used d e j h u) (bytes j h) (passed j (omega arith))
 
     pub slots-right : slotsFree l (d e) ≡ (slotsRight G (d e) and allBelow (λ (j : ℕ). listedOnce d (slotCount * e + j)) slotCount)
-    unfolding slotsFree slotsRight
+    unfolding slotsFree runFree slotsRight slotOf
     slots-right = all-cong _ _ slotCount free-right ∙ all-both _ _ slotCount
 
 -- ---- the end: after all slots the marks tell which blocks are listed
-pub marks-end : (G : Geometry) (d : Rows) (l : Bytes) → G .blocks ≤ markCount → BlockMarks G d (slotsInAll G) l → Marked G d l
+pub marks-end : (G : Geometry) (d : Rows) (l : Bytes) → 0 < G .area → G .blocks ≤ markCount → BlockMarks G d (slotsInAll G) l → Marked G d l
 unfolding isListed
-marks-end G d l n m = record {
+marks-end G d l some n m = record {
   long = m .long;
   mark = λ b h k. let long = m .long in
-      seen-at (barred G) (listed d) (slotsInAll G) l (m .seen) b (omega arith) ∙ ap bit (or-first _ _ (inside-open G b h k));
+      m .seen .mark b (omega arith) (omega arith) ∙ ap not (or-first _ _ (inside-open G b h k));
 }

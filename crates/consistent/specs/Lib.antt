@@ -1,3 +1,4 @@
+pub mod Runs
 pub mod BlockMarks
 pub mod Key
 pub mod Chain

@@ -3,18 +3,16 @@ use mathlib.Core.Path.{_≡_, ap, sym, _∙_}
 use mathlib.Core.Bool.{Bool, true, false, not}
 use Prim.Native.Nat.{ℕ, _+_, _*_, _/_, _%_, _<_}
 use native.Mathlib.Omega.{arith}
-use lib.ListN.{getD, length, set, length-set}
-use lib.Seq.{getD-set-same, getD-set-other}
+use lib.ListN.{length}
 use borrow.Author.Tests.{eq-eqb}
-use Rattle.lists.specs.Cases.{split, bool-cases, lt-or-le, bool-ext, refute, not-both}
+use Rattle.lists.specs.Cases.{split, bool-cases, bool-ext, refute, not-both}
 use Rattle.lists.specs.Tests.{_and_, and-left, and-right, and-both, and-then, and-fails-left, or-left, or-then}
 use Rattle.lists.specs.Below.{allBelow, all-at, all-intro}
-use Rattle.lists.specs.Seen.{bit}
 use Rattle.format.specs.Diskette.{Bytes, Geometry}
 use Rattle.format.specs.Names.{nameRight}
 use Rattle.format.specs.Entries.{Rows, slotCount, slotOf, empty, used}
 use Rattle.format.specs.Consistent.{numbersRight, slotsRight, entryRight, slotsInAll, listedOnce, alone, consistentRows}
-use Rattle.facts.specs.Marks.{markCount, UsersMarked}
+use Rattle.facts.specs.Marks.{markCount}
 use Rattle.consistency.specs.Listed.{listed-unused}
 use Rattle.consistency.specs.Reflect.{used-full, empty-right, alone-intro, same-used-left}
 use Rattle.consistent.specs.BlockMarks.{BlockMarks, markSlots, slotsFree, marks-skip, marks-row, slots-right}
@@ -29,31 +27,12 @@ unfoldable pub entryFits : Geometry → Rows → ℕ → Bool
 entryFits G d e =
     entryRight G (d e) and allBelow (λ (j : ℕ). listedOnce d (slotCount * e + j)) slotCount and alone G d e
 
--- 1 at the used entries below n, 0 at the others
-pub record Users (G : Geometry) (d : Rows) (n : ℕ) (users : Bytes) : Type 0 where
-  pub long : length users ≡ G .entries
-  pub mark : (k : ℕ) → k < n → getD users k 0 ≡ bit (used (d k))
-
 -- what stands after the first n entries
-pub record Passed (G : Geometry) (d : Rows) (n : ℕ) (marks users lasts links : Bytes) : Type 0 where
+pub record Passed (G : Geometry) (d : Rows) (n : ℕ) (marks lasts links : Bytes) : Type 0 where
   pub blocks : BlockMarks G d (slotCount * n) marks
-  pub users-so : Users G d n users
   pub lasts-so : Lasts d n lasts
   pub links-so : Links d n links
   pub links-long : length links ≡ G .entries
-
-pub users-more : (G : Geometry) (d : Rows) (e v : ℕ) (l : Bytes) → e < G .entries → v ≡ bit (used (d e)) → Users G d e l → Users G d (e + 1) (set l e v)
-users-more G d e v l h q s =
-    let long = s .long in
-    record {
-      long = length-set l e v ∙ s .long;
-      mark = λ k w. split (lt-or-le k e) (λ z. getD-set-other l e k v 0 (λ y. omega arith) ∙ s .mark k z)
-          (λ z. let y : e ≡ k = omega arith in
-          ap (λ (n : ℕ). getD (set l e v) n 0) (sym y) ∙ getD-set-same l e v 0 (omega arith) ∙ q ∙ ap (λ (n : ℕ). bit (used (d n))) y);
-    }
-
-pub users-end : (G : Geometry) (d : Rows) (l : Bytes) → Users G d (G .entries) l → UsersMarked G d l
-users-end G d l s = record { long = s .long; mark = s .mark }
 
 -- ---- the directory is consistent when each entry passes
 module _ (G : Geometry) (d : Rows) where
@@ -113,12 +92,12 @@ module _ (G : Geometry) (d : Rows) (e : ℕ) where
   unfolding entryFits
   row-fails h r = and-fails-left _ _ (full-right h ∙ and-fails-left _ _ r)
 
-  module _ (some : 0 < G .area) (l : Bytes) (bytes : (j : ℕ) → j < slotCount → slotOf (d e) j < markCount) (r : rowRight (d e) ≡ true) (m : BlockMarks G d (slotCount * e) l) where
+  module _ (l : Bytes) (bytes : (j : ℕ) → j < slotCount → slotOf (d e) j < markCount) (r : rowRight (d e) ≡ true) (m : BlockMarks G d (slotCount * e) l) where
     full : empty (d e) ≡ false
     full = used-full (d e) (row-used (d e) r)
 
     free : slotsFree l (d e) ≡ (slotsRight G (d e) and allBelow (λ (j : ℕ). listedOnce d (slotCount * e + j)) slotCount)
-    free = slots-right G some d e l (row-used (d e) r) bytes m
+    free = slots-right G d e l (row-used (d e) r) bytes m
 
     pub slots-fail : slotsFree l (d e) ≡ false → entryFits G d e ≡ false
     unfolding entryFits
@@ -133,36 +112,26 @@ module _ (G : Geometry) (d : Rows) (e : ℕ) where
         and-then _ _ (full-right full ∙ and-both _ _ r (and-left _ _ both)) ∙ and-then _ _ (and-right _ _ both)
 
 -- ---- what stands after one more entry
-module _ (G : Geometry) (some : 0 < G .area) (d : Rows) where
-  pub passed-none : (marks users lasts links : Bytes) → BlockMarks G d 0 marks → length users ≡ G .entries → Lasts d 0 lasts → length links ≡ G .entries → Passed G d 0 marks users lasts links
-  passed-none marks users lasts links m u l k = record {
-    blocks = m;
-    users-so = record { long = u; mark = λ i h. absurd (omega arith) };
-    lasts-so = l;
-    links-so = links-none d links;
-    links-long = k;
-  }
+module _ (G : Geometry) (d : Rows) where
+  pub passed-none : (marks lasts links : Bytes) → BlockMarks G d 0 marks → Lasts d 0 lasts → length links ≡ G .entries → Passed G d 0 marks lasts links
+  passed-none marks lasts links m l k = record { blocks = m; lasts-so = l; links-so = links-none d links; links-long = k }
 
-  pub passed-empty : (e : ℕ) (marks users lasts links : Bytes) → e < G .entries → empty (d e) ≡ true → Passed G d e marks users lasts links → Passed G d (e + 1) marks (set users e 0) lasts links
-  passed-empty e marks users lasts links h n p =
+  pub passed-empty : (e : ℕ) (marks lasts links : Bytes) → empty (d e) ≡ true → Passed G d e marks lasts links → Passed G d (e + 1) marks lasts links
+  passed-empty e marks lasts links n p =
       let u : used (d e) ≡ false = empty-unused (d e) n in
       record {
-        blocks = marks-skip G some d e marks u (p .blocks);
-        users-so = users-more G d e 0 users h (ap bit (sym u)) (p .users-so);
+        blocks = marks-skip G d e marks u (p .blocks);
         lasts-so = lasts-skip d e lasts u (p .lasts-so);
         links-so = links-skip d e links u (p .links-so);
         links-long = p .links-long;
       }
 
-  pub passed-used : (e : ℕ) (marks users lasts links marks′ lasts′ links′ : Bytes) → e < G .entries → rowRight (d e) ≡ true
-      → ((j : ℕ) → j < slotCount → slotOf (d e) j < markCount) → Passed G d e marks users lasts links → marks′ ≡ markSlots marks (d e) slotCount
-      → Lasts d (e + 1) lasts′ → Links d (e + 1) links′ → length links′ ≡ length links → Passed G d (e + 1) marks′ (set users e 1) lasts′ links′
-  passed-used e marks users lasts links marks′ lasts′ links′ h r bytes p q l k n =
-      let u : used (d e) ≡ true = row-used (d e) r in
-      record {
-        blocks = rw q (marks-row G some d e marks u bytes (p .blocks));
-        users-so = users-more G d e 1 users h (ap bit (sym u)) (p .users-so);
-        lasts-so = l;
-        links-so = k;
-        links-long = n ∙ p .links-long;
-      }
+  pub passed-used : (e : ℕ) (marks lasts links marks′ lasts′ links′ : Bytes) → rowRight (d e) ≡ true
+      → ((j : ℕ) → j < slotCount → slotOf (d e) j < markCount) → Passed G d e marks lasts links → marks′ ≡ markSlots marks (d e) slotCount
+      → Lasts d (e + 1) lasts′ → Links d (e + 1) links′ → length links′ ≡ length links → Passed G d (e + 1) marks′ lasts′ links′
+  passed-used e marks lasts links marks′ lasts′ links′ r bytes p q l k n = record {
+    blocks = rw q (marks-row G d e marks (row-used (d e) r) bytes (p .blocks));
+    lasts-so = l;
+    links-so = k;
+    links-long = n ∙ p .links-long;
+  }

@@ -1,23 +1,26 @@
 // Whether an image is consistent, decided in one pass over the directory. Every call of the file system asks this first.
 ghost use mathlib.Core.Path.{_≡_};
 ghost use mathlib.Core.Bool.{true};
-ghost use Prim.Native.Nat.{ℕ, _+_, _≤_, _<_};
-ghost use lib.ListN.{length};
-ghost use Rattle.format.specs.Diskette.{eightInch, imageBytes};
+ghost use Prim.Native.Nat.{ℕ, _+_, _*_, _≤_, _<_};
+ghost use lib.ListN.{getD, length};
+ghost use Rattle.lists.specs.Below.{allBelow};
+ghost use Rattle.format.specs.Diskette.{eightInch, imageBytes, entriesPerRecord};
 ghost use Rattle.format.specs.Names.{nameBytes};
 ghost use Rattle.format.specs.Entries.{entryBytes, slotCount, entryAt, slotOf, used};
 ghost use Rattle.format.specs.Consistent.{sameFile, alone, consistent};
-ghost use Rattle.facts.specs.Marks.{markCount, Marked, UsersMarked};
-ghost use Rattle.consistent.specs.BlockMarks.{startMarks, numberFree, markNumber, markSlots, slotsFree};
+ghost use Rattle.facts.specs.Marks.{markCount, Marked};
+ghost use Rattle.consistent.specs.Runs.{markNumber, Taken};
+ghost use Rattle.consistent.specs.BlockMarks.{startMarks, markSlots, slotsFree};
 ghost use Rattle.consistent.specs.Key.{keyCount, nameSum, keyOf};
 ghost use Rattle.consistent.specs.Chain.{Lasts, Links};
 ghost use Rattle.consistent.specs.Pass.{rowRight, entryFits, Passed};
 use format::AREA_BLOCKS;
 use format::BLOCKS;
+use format::DIRECTORY_RECORDS;
 use format::ENTRIES;
+use format::ENTRIES_PER_RECORD;
 use format::MARKS;
 use format::NAME_BYTES;
-use format::SLOTS;
 
 // The number of keys, and what each byte of a name, the user and the extent weigh in one.
 const KEYS: usize = 256;
@@ -48,39 +51,59 @@ fn start_marks(marks: &mut [u8])
     ensures { λ _. ⌜ now (marks .exit) ≡ startMarks eightInch (now (marks .entry)) ⌝ }
 {
     lists::fill(marks, 0, MARKS, 0);
-    lists::fill(marks, 0, AREA_BLOCKS, 1);
+    lists::fill(marks, 1, AREA_BLOCKS - 1, 1);
     lists::fill(marks, BLOCKS, MARKS - BLOCKS, 1);
 }
 
-// Whether a slot may list the number, which is marked then. Most slots hold 0, which needs no look at the marks.
-fn mark_number(marks: &mut [u8], b: u8) -> bool
+// Takes the number's place among the marks; the answer is the mark that stood there, 0 where the number was free. A slot of 0 lists
+// nothing: its mark is 0 and stays so, and no test is needed.
+fn take_number(marks: &mut [u8], b: u8) -> u8
     requires { ⌜ length (now marks) ≡ markCount ⌝ }
-    ensures { λ r. ⌜ (r ≡ numberFree (now (marks .entry)) b) × (r ≡ true → now (marks .exit) ≡ markNumber (now (marks .entry)) b) ⌝ }
+    ensures { λ old. ⌜ (old ≡ getD (now (marks .entry)) b 0) × (now (marks .exit) ≡ markNumber (now (marks .entry)) b) ⌝ }
 {
-    if b == 0 {
-        return true;
-    }
     let at = lists::wide(b);
-    if marks[at] != 0 {
-        return false;
-    }
-    marks[at] = 1;
-    true
+    let old = marks[at];
+    marks[at] = b;
+    old
 }
 
-// Whether each slot of a row may list what it lists; the numbers are marked on the way.
-fn mark_slots(marks: &mut [u8], r: &[u8]) -> bool
-    requires { ⌜ (length (now marks) ≡ markCount) × (entryBytes ≤ length (now r)) ⌝ }
-    ensures { λ b. ⌜ (b ≡ slotsFree (now (marks .entry)) (now (r .entry))) × (b ≡ true → now (marks .exit) ≡ markSlots (now (marks .entry)) (now (r .entry)) slotCount) ⌝ }
+// Takes the four numbers of a row from `at` on; the answer is the marks that they met or-ed together, so 0 where each was free.
+fn take_four(marks: &mut [u8], r: &[u8], at: usize) -> u8
+    requires { ⌜ (length (now marks) ≡ markCount) × (at + 4 ≤ length (now r)) ⌝ }
+    ensures { λ met. ⌜ Taken (now (marks .entry)) (now (r .entry)) at 4 (now (marks .exit)) met ⌝ }
 {
+    let mut met: u8 = 0;
     let mut j = 0;
-    while j < SLOTS {
-        if !mark_number(marks, r[16 + j]) {
-            return false;
-        }
+    while j < 4 {
+        met = met | take_number(marks, r[at + j]);
         j += 1;
     }
-    true
+    met
+}
+
+// The same, without a look at the marks where all four are 0, as most are.
+fn take_any(marks: &mut [u8], r: &[u8], at: usize) -> u8
+    requires { ⌜ (length (now marks) ≡ markCount) × (getD (now marks) 0 0 ≡ 0) × (at + 4 ≤ length (now r)) ⌝ }
+    ensures { λ met. ⌜ Taken (now (marks .entry)) (now (r .entry)) at 4 (now (marks .exit)) met ⌝ }
+{
+    if lanes::half(r, at) == 0 {
+        return 0;
+    }
+    take_four(marks, r, at)
+}
+
+// Whether each slot of a row may list what it lists; the numbers are taken on the way.
+fn take_slots(marks: &mut [u8], r: &[u8]) -> bool
+    requires { ⌜ (length (now marks) ≡ markCount) × (getD (now marks) 0 0 ≡ 0) × (entryBytes ≤ length (now r)) ⌝ }
+    ensures { λ b. ⌜ (b ≡ slotsFree (now (marks .entry)) (now (r .entry))) × (now (marks .exit) ≡ markSlots (now (marks .entry)) (now (r .entry)) slotCount) ⌝ }
+{
+    let mut met = take_four(marks, r, 16);
+    let mut k = 1;
+    while k < 4 {
+        met = met | take_any(marks, r, 16 + 4 * k);
+        k += 1;
+    }
+    met == 0
 }
 
 // The bytes of a row's name, weighed and summed.
@@ -145,51 +168,73 @@ fn take_key(image: &[u8], e: usize, r: &[u8], lasts: &mut [u8], links: &mut [u8]
     is_alone(image, e, links)
 }
 
-// Whether entry e passes, after all before it have.
+// Whether entry e passes, after all before it have; r is its row.
 fn take_entry(
     image: &[u8],
     e: usize,
+    r: &[u8],
     marks: &mut [u8],
-    users: &mut [u8],
     lasts: &mut [u8],
     links: &mut [u8],
 ) -> bool
     requires { ⌜ (length (now image) ≡ imageBytes eightInch) × (e < eightInch .entries)
-        × Passed eightInch (entryAt eightInch (now image)) e (now marks) (now users) (now lasts) (now links) ⌝ }
+        × (entryBytes ≤ length (now r)) × (now r ≡ entryAt eightInch (now image) e)
+        × Passed eightInch (entryAt eightInch (now image)) e (now marks) (now lasts) (now links) ⌝ }
     ensures { λ b. ⌜ (b ≡ entryFits eightInch (entryAt eightInch (now (image .entry))) e)
-        × (b ≡ true → Passed eightInch (entryAt eightInch (now (image .entry))) (e + 1) (now (marks .exit)) (now (users .exit)) (now (lasts .exit)) (now (links .exit))) ⌝ }
+        × (b ≡ true → Passed eightInch (entryAt eightInch (now (image .entry))) (e + 1) (now (marks .exit)) (now (lasts .exit)) (now (links .exit))) ⌝ }
 {
-    let r = rows::row(image, e);
     if r[0] == 0xE5 {
-        users[e] = 0;
         return true;
     }
     if !row_right(r) {
         return false;
     }
-    users[e] = 1;
-    if !mark_slots(marks, r) {
+    if !take_slots(marks, r) {
         return false;
     }
     take_key(image, e, r, lasts, links)
 }
 
-// Whether the image is consistent. Where it is, the marks tell which blocks are listed, and users which entries are used.
-pub fn is_consistent(image: &[u8], marks: &mut [u8], users: &mut [u8]) -> bool
-    requires { ⌜ (length (now image) ≡ imageBytes eightInch) × (length (now marks) ≡ markCount) × (length (now users) ≡ eightInch .entries) ⌝ }
+// Whether the four entries of the directory's record d pass, after all before them have. So a record's place is computed once for four rows.
+fn take_record(image: &[u8], d: usize, marks: &mut [u8], lasts: &mut [u8], links: &mut [u8]) -> bool
+    requires { ⌜ (length (now image) ≡ imageBytes eightInch) × (entriesPerRecord * d < eightInch .entries)
+        × Passed eightInch (entryAt eightInch (now image)) (entriesPerRecord * d) (now marks) (now lasts) (now links) ⌝ }
+    ensures { λ b. ⌜ (b ≡ allBelow (λ (i : ℕ). entryFits eightInch (entryAt eightInch (now (image .entry))) (entriesPerRecord * d + i)) entriesPerRecord)
+        × (b ≡ true → Passed eightInch (entryAt eightInch (now (image .entry))) (entriesPerRecord * d + entriesPerRecord) (now (marks .exit)) (now (lasts .exit)) (now (links .exit))) ⌝ }
+{
+    let four = rows::four_rows(image, d);
+    let mut i = 0;
+    while i < ENTRIES_PER_RECORD {
+        if !take_entry(
+            image,
+            ENTRIES_PER_RECORD * d + i,
+            rows::row_of(four, i),
+            marks,
+            lasts,
+            links,
+        ) {
+            return false;
+        }
+        i += 1;
+    }
+    true
+}
+
+// Whether the image is consistent. Where it is, the marks tell which blocks are listed.
+pub fn is_consistent(image: &[u8], marks: &mut [u8]) -> bool
+    requires { ⌜ (length (now image) ≡ imageBytes eightInch) × (length (now marks) ≡ markCount) ⌝ }
     ensures { λ b. ⌜ (b ≡ consistent eightInch (now (image .entry)))
-        × (b ≡ true → Marked eightInch (entryAt eightInch (now (image .entry))) (now (marks .exit)))
-        × (b ≡ true → UsersMarked eightInch (entryAt eightInch (now (image .entry))) (now (users .exit))) ⌝ }
+        × (b ≡ true → Marked eightInch (entryAt eightInch (now (image .entry))) (now (marks .exit))) ⌝ }
 {
     start_marks(marks);
     let mut lasts = [0u8; KEYS];
     let mut links = [0u8; ENTRIES];
-    let mut e = 0;
-    while e < ENTRIES {
-        if !take_entry(image, e, marks, users, &mut lasts, &mut links) {
+    let mut d = 0;
+    while d < DIRECTORY_RECORDS {
+        if !take_record(image, d, marks, &mut lasts, &mut links) {
             return false;
         }
-        e += 1;
+        d += 1;
     }
     true
 }

@@ -67,6 +67,14 @@ all-both p q n =
     (λ t. and-both _ _ (all-intro p n (λ k h. and-left _ _ (all-at _ n t k h))) (all-intro q n (λ k h. and-right _ _ (all-at _ n t k h))))
     (λ t. all-intro _ n (λ k h. and-both _ _ (all-at p n (and-left _ _ t) k h) (all-at q n (and-right _ _ t) k h)))
 
+-- the numbers below m, and then those from m on
+pub all-join : (p : ℕ → Bool) (m n : ℕ) → allBelow p (m + n) ≡ (allBelow p m and allBelow (λ (k : ℕ). p (m + k)) n)
+all-join p m n =
+    bool-ext _ _
+    (λ t. and-both _ _ (all-intro p m (λ k h. all-at p (m + n) t k (omega arith))) (all-intro _ n (λ k h. all-at p (m + n) t (m + k) (omega arith))))
+    (λ t. all-intro p (m + n) (λ k h. split (lt-or-le k m) (λ w. all-at p m (and-left _ _ t) k w)
+    (λ w. let q : m + (k - m) ≡ k = omega arith in rw q at (all-at _ n (and-right _ _ t) (k - m) (omega arith)))))
+
 -- a turn of a loop that tests p i, and its end
 pub all-more : (p : ℕ → Bool) (i : ℕ) → allBelow p i ≡ true → p i ≡ true → allBelow p (i + 1) ≡ true
 all-more p i e f = all-next p i ∙ and-both _ _ e f

@@ -1,6 +1,7 @@
 -- A value carried through the numbers below a bound: what a loop has made after its turns.
 use mathlib.Core.Path.{_≡_, refl, ap, sym, _∙_}
 use Prim.Native.Nat.{ℕ, zero, suc, _+_, _≤_, _<_}
+use native.Mathlib.Nat.{add-zero, add-suc}
 use native.Mathlib.Numerals.{add-one}
 use native.Mathlib.Omega.{arith}
 
@@ -42,3 +43,9 @@ module _ {A : Type 0} where
   unfolding foldBelow
   fold-cong f g a zero h = refl
   fold-cong f g a (suc n) h = rw (fold-cong f g a n (λ x k l. h x k (omega arith)), h (foldBelow g a n) n (omega arith))
+
+  -- the turns before m, and then those from m on
+  pub fold-join : (f : A → ℕ → A) (a : A) (m n : ℕ) → foldBelow f a (m + n) ≡ foldBelow (λ (x : A) (k : ℕ). f x (m + k)) (foldBelow f a m) n
+  unfolding foldBelow
+  fold-join f a m zero = rw add-zero
+  fold-join f a m (suc n) = rw (add-suc, fold-join f a m n)

@@ -5,6 +5,7 @@ pub mod Count
 pub mod Splice
 pub mod Tab
 pub mod Seen
+pub mod Bits
 pub mod Table
 pub mod Fold
 pub mod Product
