@@ -1,13 +1,15 @@
 -- What it says that an FCB is current, as facts: its fields are in range, its entry is found, and its slots fit, slot by slot.
 use mathlib.Core.Path.{_≡_, sym, ap, _∙_}
 use mathlib.Core.Bool.{Bool, true, false, cond}
-use Prim.Native.Nat.{ℕ, _≤_, _<_}
+use Prim.Native.Nat.{ℕ, _+_, _-_, _≤_, _<_}
+use native.Mathlib.Omega.{arith}
 use lib.Dec.{eqb}
 use lib.ListN.{getD}
 use borrow.Author.Tests.{leb-true, le-leb, eqb-true, eq-eqb, ne-eqb}
-use Rattle.lists.specs.Cases.{split, bool-cases}
+use Rattle.lists.specs.Cases.{split, bool-cases, bool-ext, refute, lt-or-le}
 use Rattle.lists.specs.Tests.{_and_, _or_, and-left, and-right, and-both, and-then, or-then, or-left, or-right, or-cases}
-use Rattle.lists.specs.Below.{all-at, all-intro}
+use Rattle.lists.specs.Below.{allBelow, all-at, all-intro}
+use Rattle.lanes.specs.Lanes.{wordAt, word-same, same-word}
 use Rattle.format.specs.Diskette.{Bytes, Geometry, slotCount}
 use Rattle.format.specs.Names.{nameRight}
 use Rattle.format.specs.Entries.{Rows, slotsOf, slotOf, extentOf, findFile}
@@ -73,6 +75,36 @@ pub slot-by-note : (map es fs : Bytes) (e j b n p : ℕ) → (getD fs j 0 ≡ ge
 unfolding slotFits
 slot-by-note map es fs e j b n p x z hb hn hp =
     rw (hn, hp, hb) (sym (or-then _ _ (ne-eqb _ _ x) ∙ and-then _ _ (eq-eqb _ _ z)))
+
+-- ---- the usual case: every slot of the FCB is the entry's
+unfoldable pub slotsSame : Bytes → Bytes → Bool
+slotsSame es fs = allBelow (λ (j : ℕ). eqb (getD fs j 0) (getD es j 0)) slotCount
+
+pub same-slots-fit : (map es fs : Bytes) (e : ℕ) → slotsSame es fs ≡ true → slotsFit map e es fs ≡ true
+unfolding slotsSame slotsFit slotFits
+same-slots-fit map es fs e t = all-intro (slotFits map e es fs) slotCount (λ j h. or-left _ _ (all-at _ slotCount t j h))
+
+-- the slots as two words, of which the first is at 0 and the second at 8
+module _ (es fs : Bytes) where
+  same-words : slotsSame es fs ≡ true → (at : ℕ) → at + 8 ≤ slotCount → wordAt es at ≡ wordAt fs at
+  unfolding slotsSame
+  same-words t at h = same-word es fs at at (λ i l. sym (eqb-true _ _ (all-at _ slotCount t (at + i) (omega arith))))
+
+  -- words that differ, at either place
+  pub words-differ : (at w v : ℕ) → at + 8 ≤ slotCount → w ≡ wordAt es at → v ≡ wordAt fs at → (w ≡ v → ⊥) → false ≡ slotsSame es fs
+  words-differ at w v h p q n = refute (slotsSame es fs) (λ t. n (p ∙ same-words t at h ∙ sym q))
+
+  -- the first words are the same, so the second decide
+  pub words-decide : (w v x y : ℕ) → (w ≡ wordAt es 0) × ((i : ℕ) → i < 8 → getD es (0 + i) 0 < 256) → (v ≡ wordAt fs 0) × ((i : ℕ) → i < 8 → getD fs (0 + i) 0 < 256)
+      → w ≡ v → (x ≡ wordAt es 8) × ((i : ℕ) → i < 8 → getD es (8 + i) 0 < 256) → (y ≡ wordAt fs 8) × ((i : ℕ) → i < 8 → getD fs (8 + i) 0 < 256)
+      → eqb x y ≡ slotsSame es fs
+  unfolding slotsSame
+  words-decide w v x y p q e r s =
+      bool-ext (eqb x y) (slotsSame es fs)
+      (λ t. all-intro _ slotCount (λ j h. eq-eqb _ _ (sym (split (lt-or-le j 8)
+      (λ l. let z : 0 + j ≡ j = omega arith in rw z at (word-same es fs 0 0 (p .1) (q .1) (sym (p .0) ∙ e ∙ q .0) j l))
+      (λ l. let z : 8 + (j - 8) ≡ j = omega arith in rw z at (word-same es fs 8 8 (r .1) (s .1) (sym (r .0) ∙ eqb-true _ _ t ∙ s .0) (j - 8) (omega arith)))))))
+      (λ t. eq-eqb _ _ (r .0 ∙ same-words t 8 (omega arith) ∙ sym (s .0)))
 
 -- ---- the FCB is current, and e is its entry
 pub record Current (G : Geometry) (d : Rows) (map : Bytes) (user : ℕ) (fcb : Bytes) (e : ℕ) : Type 0 where

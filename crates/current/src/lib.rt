@@ -1,11 +1,11 @@
 // When an FCB is current: its fields are in range, it has an entry, and each of its slots is the entry's or pending for it.
 ghost use mathlib.Core.Path.{_≡_};
-ghost use mathlib.Core.Bool.{true};
 ghost use Prim.Native.Nat.{_≤_, _<_};
 ghost use lib.ListN.{length};
 ghost use Rattle.format.specs.Diskette.{eightInch, imageBytes, slotCount};
 ghost use Rattle.format.specs.Entries.{entryAt};
 ghost use Rattle.format.specs.Fcb.{fcbBytes, randomOf, fcbRight, slotFits, slotsFit, current};
+ghost use Rattle.current.specs.Current.{slotsSame};
 use format::Found;
 
 // The random record number of an FCB, as its three bytes give it: in range or not.
@@ -44,9 +44,9 @@ pub fn slot_fits(map: &[u16], e: usize, es: [u8; 16], fs: [u8; 16], j: usize) ->
     notes::note_at(map, lists::wide(fs[j])) == notes::pending_note(e, j)
 }
 
-// Whether sixteen slots are the same as sixteen others.
+// Whether every slot of an FCB is the entry's. Sixteen slots are two words.
 fn slots_same(es: [u8; 16], fs: [u8; 16]) -> bool
-    ensures { λ r. ⌜ (r ≡ true → es ≡ fs) ⌝ }
+    ensures { λ r. ⌜ r ≡ slotsSame es fs ⌝ }
 {
     if lanes::word(&es, 0) != lanes::word(&fs, 0) {
         return false;
