@@ -16,7 +16,7 @@ use Rattle.format.specs.Diskette.{Bytes, Geometry}
 use Rattle.format.specs.Entries.{Rows, userOf, used, isFile, extentOf}
 use Rattle.format.specs.Consistent.{sameFile, alone}
 use Rattle.consistency.specs.Reflect.{same-elim, same-used-right}
-use Rattle.consistent.specs.Key.{keyCount, keyOf, key-same, key-below}
+use Rattle.heads.specs.Key.{keyCount, keyOf, key-same, key-below}
 
 -- of used rows the look-up of one by the other decides
 pub file-same : (G : Geometry) (r t : Bytes) (ext : ℕ) → used r ≡ true → used t ≡ true → ext ≡ extentOf t → isFile G (userOf t) t 1 ext r ≡ sameFile G r t

@@ -1,5 +1,4 @@
 pub mod Runs
 pub mod BlockMarks
-pub mod Key
 pub mod Chain
 pub mod Pass

@@ -15,12 +15,9 @@ use Rattle.format.specs.Consistent.{numbersRight, slotsRight, entryRight, slots
 use Rattle.facts.specs.Marks.{markCount}
 use Rattle.consistency.specs.Listed.{listed-unused}
 use Rattle.consistency.specs.Reflect.{used-full, empty-right, alone-intro, same-used-left}
+use Rattle.heads.specs.Head.{rowRight}
 use Rattle.consistent.specs.BlockMarks.{BlockMarks, markSlots, slotsFree, marks-skip, marks-row, slots-right}
 use Rattle.consistent.specs.Chain.{Lasts, Links, links-none, lasts-skip, links-skip}
-
--- a used entry, but for its slots
-unfoldable pub rowRight : Bytes → Bool
-rowRight r = used r and nameRight false r 1 and numbersRight r
 
 -- entry e passes: it is right, its blocks do not stand before, and it is alone
 unfoldable pub entryFits : Geometry → Rows → ℕ → Bool

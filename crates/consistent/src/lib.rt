@@ -5,45 +5,22 @@ ghost use Prim.Native.Nat.{ℕ, _+_, _*_, _≤_, _<_};
 ghost use lib.ListN.{getD, length};
 ghost use Rattle.lists.specs.Below.{allBelow};
 ghost use Rattle.format.specs.Diskette.{eightInch, imageBytes, entriesPerRecord};
-ghost use Rattle.format.specs.Names.{nameBytes};
 ghost use Rattle.format.specs.Entries.{entryBytes, slotCount, entryAt, slotOf, used};
 ghost use Rattle.format.specs.Consistent.{sameFile, alone, consistent};
 ghost use Rattle.facts.specs.Marks.{markCount, Marked};
 ghost use Rattle.consistent.specs.Runs.{markNumber, Taken};
 ghost use Rattle.consistent.specs.BlockMarks.{startMarks, markSlots, slotsFree};
-ghost use Rattle.consistent.specs.Key.{keyCount, nameSum, keyOf};
 ghost use Rattle.consistent.specs.Chain.{Lasts, Links};
-ghost use Rattle.consistent.specs.Pass.{rowRight, entryFits, Passed};
+ghost use Rattle.consistent.specs.Pass.{entryFits, Passed};
 use format::AREA_BLOCKS;
 use format::BLOCKS;
 use format::DIRECTORY_RECORDS;
 use format::ENTRIES;
 use format::ENTRIES_PER_RECORD;
 use format::MARKS;
-use format::NAME_BYTES;
 
-// The number of keys, and what each byte of a name, the user and the extent weigh in one.
+// The number of keys.
 const KEYS: usize = 256;
-
-const WEIGHTS: [usize; NAME_BYTES] = [215, 179, 227, 1, 229, 187, 225, 253, 131, 81, 171];
-
-const USER_WEIGHT: usize = 121;
-
-const EXTENT_WEIGHT: usize = 33;
-
-// Whether a row has a user, a name and numbers in range.
-fn row_right(r: &[u8]) -> bool
-    requires { ⌜ entryBytes ≤ length (now r) ⌝ }
-    ensures { λ b. ⌜ b ≡ rowRight (now (r .entry)) ⌝ }
-{
-    if 15 < r[0] {
-        return false;
-    }
-    if !names::name_right(false, r, 1) {
-        return false;
-    }
-    rows::numbers_right(r)
-}
 
 // Marks the numbers that are no block's past the directory: no slot may list them.
 fn start_marks(marks: &mut [u8])
@@ -106,28 +83,6 @@ fn take_slots(marks: &mut [u8], r: &[u8]) -> bool
     met == 0
 }
 
-// The bytes of a row's name, weighed and summed.
-fn name_sum(r: &[u8]) -> usize
-    requires { ⌜ entryBytes ≤ length (now r) ⌝ }
-    ensures { λ n. ⌜ (n ≡ nameSum (now (r .entry)) nameBytes) × (n < 1000000) ⌝ }
-{
-    let mut sum: usize = 0;
-    let mut i = 0;
-    while i < NAME_BYTES {
-        sum += WEIGHTS[i] * lists::wide(r[1 + i] % 128);
-        i += 1;
-    }
-    sum
-}
-
-// The key of a row: rows of one file have one key.
-fn key(r: &[u8]) -> usize
-    requires { ⌜ entryBytes ≤ length (now r) ⌝ }
-    ensures { λ k. ⌜ (k ≡ keyOf (now (r .entry))) × (k < keyCount) ⌝ }
-{
-    (name_sum(r) + USER_WEIGHT * lists::wide(r[0]) + EXTENT_WEIGHT * rows::extent(r)) % KEYS
-}
-
 // Whether two used rows are of one file.
 fn same_file(r: &[u8], t: &[u8]) -> bool
     requires { ⌜ (entryBytes ≤ length (now r)) × (entryBytes ≤ length (now t)) × (used (now r) ≡ true) × (used (now t) ≡ true) ⌝ }
@@ -162,7 +117,7 @@ fn take_key(image: &[u8], e: usize, r: &[u8], lasts: &mut [u8], links: &mut [u8]
         × Lasts (entryAt eightInch (now (image .entry))) (e + 1) (now (lasts .exit))
         × Links (entryAt eightInch (now (image .entry))) (e + 1) (now (links .exit)) ⌝ }
 {
-    let k = key(r);
+    let k = heads::key(r);
     links[e] = lasts[k];
     lasts[k] = (e + 1) as u8;
     is_alone(image, e, links)
@@ -186,7 +141,7 @@ fn take_entry(
     if r[0] == 0xE5 {
         return true;
     }
-    if !row_right(r) {
+    if !heads::row_right(r) {
         return false;
     }
     if !take_slots(marks, r) {

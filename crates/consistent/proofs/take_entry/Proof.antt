@@ -1,5 +1,6 @@
 -- Each return is one of the laws of an entry: it is empty, its row is wrong, a slot is wrong, or being alone decides.
-use Rattle.consistent.specs.Pass.{rowRight, empty-fits, row-fails, slots-fail, alone-decides, passed-empty, passed-used, row-used}
+use Rattle.heads.specs.Head.{rowRight}
+use Rattle.consistent.specs.Pass.{empty-fits, row-fails, slots-fail, alone-decides, passed-empty, passed-used, row-used}
 use Rattle.facts.specs.Marks.{markCount}
 use Rattle.format.specs.Entries.{Rows, slotCount, slotOf, entryAt, empty}
 use Rattle.format.specs.Diskette.{eightInch}
