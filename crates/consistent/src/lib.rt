@@ -91,13 +91,13 @@ fn same_file(r: &[u8], t: &[u8]) -> bool
     rows::is_file(t[0], t, 1, rows::extent(t), r)
 }
 
-// Whether no entry before e is of the same file: only those of its key are looked at.
-fn is_alone(image: &[u8], e: usize, links: &[u8]) -> bool
+// Whether no entry before e, whose row is r, is of the same file: only those of its key are looked at.
+fn is_alone(image: &[u8], e: usize, r: &[u8], links: &[u8]) -> bool
     requires { ⌜ (length (now image) ≡ imageBytes eightInch) × (e < eightInch .entries) × (length (now links) ≡ eightInch .entries)
-        × (used (entryAt eightInch (now image) e) ≡ true) × Links (entryAt eightInch (now image)) (e + 1) (now links) ⌝ }
+        × (entryBytes ≤ length (now r)) × (now r ≡ entryAt eightInch (now image) e) × (used (now r) ≡ true)
+        × Links (entryAt eightInch (now image)) (e + 1) (now links) ⌝ }
     ensures { λ b. ⌜ b ≡ alone eightInch (entryAt eightInch (now (image .entry))) e ⌝ }
 {
-    let r = rows::row(image, e);
     let mut f = lists::wide(links[e]);
     while f != 0 {
         if same_file(r, rows::row(image, f - 1)) {
@@ -120,7 +120,7 @@ fn take_key(image: &[u8], e: usize, r: &[u8], lasts: &mut [u8], links: &mut [u8]
     let k = heads::key(r);
     links[e] = lasts[k];
     lasts[k] = (e + 1) as u8;
-    is_alone(image, e, links)
+    is_alone(image, e, r, links)
 }
 
 // Whether entry e passes, after all before it have; r is its row.

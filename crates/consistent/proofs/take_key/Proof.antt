@@ -32,7 +32,7 @@ is-alone-requires : tie.Need-is-alone-requires
 is-alone-requires c κs =
     let a = c .before .before .before .before .before .before .before in let k = c .before .before .key in let d = entryAt eightInch (a .args .image .now) in
     let h : k .result < 256 = k .ensures .1 in
-    (omega arith, omega arith, simp length-set (omega arith), rw (a .pre .4) at (a .pre .5), links-take d (a .args .e) (k .result) (a .args .r .now) (a .args .lasts .now) (a .args .links .now) (a .pre .4) (k .ensures .0) h (omega arith) (a .pre .6) (a .pre .7))
+    (omega arith, omega arith, simp length-set (omega arith), omega arith, a .pre .4, a .pre .5, links-take d (a .args .e) (k .result) (a .args .r .now) (a .args .lasts .now) (a .args .links .now) (a .pre .4) (k .ensures .0) h (omega arith) (a .pre .6) (a .pre .7))
 
 same-length : tie.Need-same-length
 same-length c = search needs
