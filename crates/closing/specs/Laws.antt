@@ -1,10 +1,15 @@
 -- What the steps of a close come to, and call 16 by the entry of its FCB.
 use mathlib.Core.Path.{_≡_, refl, sym, ap, _∙_}
-use mathlib.Core.Bool.{not}
+use mathlib.Core.Bool.{true, false, not}
 use Prim.Native.Nat.{ℕ, _<_}
-use lib.ListN.{set}
+use lib.Dec.{eqb}
+use lib.ListN.{length, getD, set}
+use borrow.Author.Tests.{eqb-true}
 use Rattle.lists.specs.Splice.{splice}
-use Rattle.lists.specs.Fold.{foldBelow}
+use Rattle.lists.specs.Tests.{and-not}
+use Rattle.lists.specs.Below.{all-at}
+use Rattle.lists.specs.Tab.{tab-getD, tab-cong}
+use Rattle.lists.specs.Fold.{foldBelow, fold-keeps}
 use Rattle.format.specs.Diskette.{Bytes, Geometry, slotCount}
 use Rattle.format.specs.Entries.{entryAt, withEntry, slotsOf}
 use Rattle.format.specs.Fcb.{current}
@@ -15,13 +20,31 @@ use Rattle.model.specs.declared.Session.{Session}
 use Rattle.model.specs.declared.Answer.{Answer}
 use Rattle.model.specs.declared.Code.the-variants.{Accepted, Failed}
 use Rattle.model.specs.Lent.{lend, outcome, answerOf, ended}
-use Rattle.model.specs.Closing.{mergedSlots, closedCount, closedRow, closedNote, closedMap, closedImage, closedFcb}
+use Rattle.model.specs.Closing.{takesSlot, mergedSlot, mergedSlots, closedCount, closedRow, closedNote, closedMap, closedImage, closedFcb}
 use Rattle.model.specs.Target.{presentEntry}
 use Rattle.model.specs.Calls.{entryNumber, closedAt, closed}
 use Rattle.table.specs.First.{_&_, here}
 use Rattle.table.specs.Own.{call16}
-use Rattle.current.specs.Current.{current-says, current-low}
+use Rattle.current.specs.Current.{slotsSame, current-says, current-low}
 use Rattle.table.specs.OwnStep.{ownStep, refuses-own, carries-own}
+
+-- ---- slots that are the same: nothing is taken, so nothing changes
+module _ (es fs : Bytes) (same : slotsSame es fs ≡ true) where
+  slot-is : (j : ℕ) → j < slotCount → getD fs j 0 ≡ getD es j 0
+  unfolding slotsSame
+  slot-is j h = eqb-true _ _ (all-at _ slotCount same j h)
+
+  takes-none : (j : ℕ) → j < slotCount → takesSlot es fs j ≡ false
+  unfolding takesSlot
+  takes-none j h = rw (slot-is j h) (and-not (eqb (getD es j 0) 0))
+
+  pub same-merged : length es ≡ slotCount → es ≡ mergedSlots es fs
+  unfolding mergedSlots mergedSlot
+  same-merged l = sym (tab-getD es slotCount l) ∙ tab-cong slotCount _ _ (λ j h. sym (rw (takes-none j h) refl))
+
+  pub same-recorded : (map : Bytes) → map ≡ foldBelow (closedNote es fs) map slotCount
+  unfolding closedNote
+  same-recorded map = sym (fold-keeps (λ (m : Bytes). m ≡ map) (closedNote es fs) map slotCount refl (λ m j h q. rw (takes-none j h) q))
 
 -- ---- a row and a map, from their parts
 pub closed-row : (G : Geometry) (row fcb es fs m r : Bytes) (n : ℕ) → es ≡ slotsOf row → fs ≡ slotsOf fcb → m ≡ mergedSlots es fs → n ≡ closedCount G row fcb

@@ -37,10 +37,13 @@ fn merged_slot(es: [u8; 16], fs: [u8; 16], j: usize) -> u8
     es[j]
 }
 
-// The slots after a close.
+// The slots after a close: as they are, where the FCB's are the same.
 fn merge(es: [u8; 16], fs: [u8; 16]) -> [u8; 16]
     ensures { λ r. ⌜ r ≡ mergedSlots es fs ⌝ }
 {
+    if current::slots_same(es, fs) {
+        return es;
+    }
     let mut r = [0u8; 16];
     let mut j = 0;
     while j < format::SLOTS {
@@ -87,10 +90,13 @@ fn record_block(map: &mut [u16], es: [u8; 16], fs: [u8; 16], j: usize)
     }
 }
 
-// The blocks that the entry takes become recorded.
+// The blocks that the entry takes become recorded: none, where the FCB's slots are the same.
 fn record_blocks(map: &mut [u16], es: [u8; 16], fs: [u8; 16])
     ensures { λ _. ⌜ now (map .exit) ≡ foldBelow (closedNote es fs) (now (map .entry)) slotCount ⌝ }
 {
+    if current::slots_same(es, fs) {
+        return;
+    }
     let mut j = 0;
     while j < format::SLOTS {
         record_block(map, es, fs, j);

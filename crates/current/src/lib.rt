@@ -45,7 +45,7 @@ pub fn slot_fits(map: &[u16], e: usize, es: [u8; 16], fs: [u8; 16], j: usize) ->
 }
 
 // Whether every slot of an FCB is the entry's. Sixteen slots are two words.
-fn slots_same(es: [u8; 16], fs: [u8; 16]) -> bool
+pub fn slots_same(es: [u8; 16], fs: [u8; 16]) -> bool
     ensures { λ r. ⌜ r ≡ slotsSame es fs ⌝ }
 {
     if lanes::word(&es, 0) != lanes::word(&fs, 0) {

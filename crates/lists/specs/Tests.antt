@@ -2,7 +2,7 @@
 -- `_&&_`, whose calls are written out wherever they stand.
 use mathlib.Core.Path.{_≡_, refl, sym}
 use mathlib.Core.Logic.{_⊎_, inl, inr}
-use mathlib.Core.Bool.{Bool, true, false, cond}
+use mathlib.Core.Bool.{Bool, true, false, not, cond}
 use Rattle.lists.specs.Cases.{clash}
 
 unfoldable pub _and_ : Bool → Bool → Bool
@@ -48,6 +48,12 @@ pub and-first : (a b : Bool) → b ≡ true → (a and b) ≡ a
 unfolding _and_
 and-first true b q = q
 and-first false b q = refl
+
+-- a test and its contrary
+pub and-not : (a : Bool) → (a and not a) ≡ false
+unfolding _and_
+and-not true = refl
+and-not false = refl
 
 pub or-left : (a b : Bool) → a ≡ true → (a or b) ≡ true
 unfolding _or_

@@ -1,5 +1,5 @@
 -- `closing::merge` meets its contract. The invariant: the slots below j are the merged ones.
-use mathlib.Core.Path.{_≡_, refl}
+use mathlib.Core.Path.{_≡_, refl, sym, _∙_}
 use Prim.Native.Nat.{_-_, _≤_}
 use native.Mathlib.Omega.{arith}
 use lib.ListN.{length, length-set}
@@ -7,6 +7,7 @@ use borrow.Author.Needs.{needs}
 use Rattle.lists.specs.Tab.{Filled, filled-none, filled-more, filled-all}
 use Rattle.format.specs.Diskette.{slotCount}
 use Rattle.model.specs.Closing.{mergedSlot, mergedSlots}
+use Rattle.closing.specs.Laws.{same-merged}
 use Rattle.closing.proofs.merge.Statement.{statement}
 use Rattle.closing.proofs.merge.Tie as tie
 
@@ -15,6 +16,12 @@ Inv-loop es fs r₀ j₀ r j = Filled (mergedSlot es fs) r₀ j r × (j ≤ slot
 
 abbrev μ-loop : tie.MeasureT-loop
 μ-loop es fs r₀ j₀ r j = slotCount - j
+
+slots-same-requires : tie.Need-slots-same-requires Inv-loop μ-loop
+slots-same-requires c κs = search needs
+
+returns : tie.Need-returns Inv-loop μ-loop
+returns c = let a = c .before .before .args in same-merged (a .es) (a .fs) (sym (c .before .slots-same .ensures) ∙ c .if1 .taken) (omega arith)
 
 loop-holds : tie.Need-loop-holds Inv-loop μ-loop
 loop-holds c = (filled-none _ _, omega arith, refl)
@@ -36,9 +43,9 @@ loop-again c =
     let l = c .before .before .loop in
     (filled-more _ _ (l .j) (l .r) (c .merged-slot .result) (omega arith) (c .merged-slot .ensures) (l .inv .0), omega arith, simp length-set (l .inv .2))
 
-returns : tie.Need-returns Inv-loop μ-loop
+returns-2 : tie.Need-returns-2 Inv-loop μ-loop
 unfolding mergedSlots
-returns c = let l = c .before .loop in filled-all _ _ slotCount (l .j) (l .r) refl (omega arith) (l .inv .0)
+returns-2 c = let l = c .before .loop in filled-all _ _ slotCount (l .j) (l .r) refl (omega arith) (l .inv .0)
 
 pub merge-spec : {M : Type 1} → statement M
 merge-spec =
@@ -46,10 +53,12 @@ merge-spec =
     (tie.spec
     Inv-loop
     μ-loop
+    slots-same-requires
+    returns
     loop-holds
     merged-slot-requires
     array-write-r
     add-j
     loop-less
     loop-again
-    returns)
+    returns-2)

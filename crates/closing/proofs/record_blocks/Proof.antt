@@ -7,6 +7,7 @@ use borrow.Author.Needs.{needs}
 use Rattle.lists.specs.Fold.{foldBelow, fold-none, fold-next, fold-done}
 use Rattle.format.specs.Diskette.{Bytes, slotCount}
 use Rattle.model.specs.Closing.{closedNote}
+use Rattle.closing.specs.Laws.{same-recorded}
 use Rattle.closing.proofs.record_blocks.Statement.{statement}
 use Rattle.closing.proofs.record_blocks.Tie as tie
 
@@ -15,6 +16,12 @@ Inv-loop map₀ es fs j₀ map j = (map ≡ foldBelow (closedNote es fs) map₀ 
 
 abbrev μ-loop : tie.MeasureT-loop
 μ-loop map₀ es fs j₀ map j = slotCount - j
+
+slots-same-requires : tie.Need-slots-same-requires Inv-loop μ-loop
+slots-same-requires c κs = search needs
+
+returns : tie.Need-returns Inv-loop μ-loop
+returns c = let a = c .before .before .before .args in same-recorded (a .es) (a .fs) (sym (c .before .slots-same .ensures) ∙ c .if1 .taken) (a .map .now)
 
 loop-holds : tie.Need-loop-holds Inv-loop μ-loop
 loop-holds c = (sym (fold-none _ _), omega arith, refl)
@@ -31,17 +38,17 @@ loop-less c = omega arith
 loop-again : tie.Need-loop-again Inv-loop μ-loop
 loop-again c =
     let l = c .before .before .before .before .before .loop in
-    let a = c .before .before .before .before .before .before .before .args in
+    let a = c .before .before .before .before .before .before .before .before .before .args in
     let f = closedNote (a .es) (a .fs) in
     (c .before .before .record-block .ensures ∙ ap (λ (m : Bytes). f m (l .j)) (l .inv .0) ∙ sym (fold-next f (a .map .now) (l .j)), omega arith, c .before .before .record-block .kept .0 ∙ l .inv .2)
 
 same-length : tie.Need-same-length Inv-loop μ-loop
 same-length c = search needs
 
-returns : tie.Need-returns Inv-loop μ-loop
-returns c =
+returns-2 : tie.Need-returns-2 Inv-loop μ-loop
+returns-2 c =
     let l = c .before .loop in
-    let a = c .before .before .before .args in
+    let a = c .before .before .before .before .before .args in
     fold-done (closedNote (a .es) (a .fs)) (a .map .now) (l .map) (l .j) slotCount (omega arith) (omega arith) (l .inv .0)
 
 pub record-blocks-spec : {M : Type 1} → statement M
@@ -50,10 +57,12 @@ record-blocks-spec =
     (tie.spec
     Inv-loop
     μ-loop
+    slots-same-requires
+    returns
     loop-holds
     record-block-requires
     add-j
     loop-less
     loop-again
     same-length
-    returns)
+    returns-2)
