@@ -28,12 +28,11 @@ fn disk_right(number: u8, image: &[u8], map: &[u16], marks: &mut [u8]) -> bool
     ensures { λ r. ⌜ ((fcb buffer : Bytes) → r ≡ diskRight eightInch (lend (now (image .entry)) (now (map .entry)) fcb buffer) number)
         × (r ≡ true → Marked eightInch (entryAt eightInch (now (image .entry))) (now (marks .exit))) ⌝ }
 {
-    let mut users = [0u8; format::ENTRIES];
-    if !consistent::is_consistent(image, marks, &mut users) {
+    if !consistent::is_consistent(image, marks) {
         return false;
     }
     if number != 13 {
-        return notes::map_right(map, marks, &users);
+        return notes::map_right(map, marks, image);
     }
     true
 }

@@ -8,9 +8,6 @@ use Rattle.bdos.specs.Disk.{image-wrong, log-in-right, map-decides}
 use Rattle.bdos.proofs.disk_right.Statement.{statement}
 use Rattle.bdos.proofs.disk_right.Tie as tie
 
-slice-aggregate-is-consistent : tie.Need-slice-aggregate-is-consistent
-slice-aggregate-is-consistent c = search needs
-
 is-consistent-requires : tie.Need-is-consistent-requires
 is-consistent-requires c κs = search needs
 
@@ -19,11 +16,8 @@ same-length c = search needs
 
 returns : tie.Need-returns
 returns c =
-    let e = c .before .before .before .before .is-consistent .ensures in
+    let e = c .before .before .before .is-consistent .ensures in
     (λ fcb buffer. sym (image-wrong eightInch _ _ (sym (e .0) ∙ not-true _ (c .if1 .taken))), λ t. clash (sym t))
-
-slice-aggregate-map-right : tie.Need-slice-aggregate-map-right
-slice-aggregate-map-right c = search needs
 
 map-right-requires : tie.Need-map-right-requires
 map-right-requires c κs = search needs
@@ -33,16 +27,16 @@ same-length-2 c = search needs
 
 returns-2 : tie.Need-returns-2
 returns-2 c =
-    let e = c .before .before .before .before .before .before .before .before .is-consistent .ensures in
-    let r = not-false _ (c .before .before .before .before .if1 .left) in
-    (λ fcb buffer. c .map-right .ensures _ (e .1 r) (e .2 r) ∙ sym (map-decides eightInch _ _ (sym (e .0) ∙ r) (c .before .before .before .if2 .taken)), λ t. e .1 r)
+    let e = c .before .before .before .before .before .before .is-consistent .ensures in
+    let r = not-false _ (c .before .before .before .if1 .left) in
+    (λ fcb buffer. c .map-right .ensures (e .1 r) ∙ sym (map-decides eightInch _ _ (sym (e .0) ∙ r) (c .before .before .if2 .taken)), λ t. e .1 r)
 
 same-length-3 : tie.Need-same-length-3
 same-length-3 c = search needs
 
 returns-3 : tie.Need-returns-3
 returns-3 c =
-    let e = c .before .before .before .before .before .is-consistent .ensures in
+    let e = c .before .before .before .before .is-consistent .ensures in
     let r = not-false _ (c .before .if1 .left) in
     (λ fcb buffer. sym (log-in-right eightInch _ _ (sym (e .0) ∙ r) (c .if2 .left)), λ t. e .1 r)
 
@@ -50,11 +44,9 @@ pub disk-right-spec : {M : Type 1} → statement M
 disk-right-spec =
     tie.close
     (tie.spec
-    slice-aggregate-is-consistent
     is-consistent-requires
     same-length
     returns
-    slice-aggregate-map-right
     map-right-requires
     same-length-2
     returns-2
