@@ -4,7 +4,6 @@ use Rattle.facts.specs.Marks.{markCount}
 use Rattle.format.specs.Entries.{Rows, slotCount, slotOf, entryAt, empty}
 use Rattle.format.specs.Diskette.{eightInch}
 use Rattle.lists.specs.Cases.{clash}
-use Rattle.lists.specs.Tests.{_or_}
 use borrow.Author.Tests.{eq-eqb, ne-eqb, not-true, not-false}
 use lib.ListN.{getD}
 use Prim.Native.Nat.{ℕ, _+_, _<_}
