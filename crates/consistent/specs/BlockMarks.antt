@@ -16,8 +16,8 @@ use Rattle.lists.specs.Below.{allBelow, all-cong, all-both}
 use Rattle.lists.specs.Fold.{foldBelow}
 use Rattle.lists.specs.Splice.{splice, copies, length-fill, getD-fill-in, getD-fill-out}
 use Rattle.lists.specs.Seen.{taken, Seen, seen-start, seen-more, seen-kept}
-use Rattle.format.specs.Diskette.{Bytes, Geometry}
-use Rattle.format.specs.Entries.{Rows, slotCount, slotOf, used}
+use Rattle.format.specs.Diskette.{Bytes, Geometry, slotCount}
+use Rattle.format.specs.Entries.{Rows, slotOf, used}
 use Rattle.format.specs.Consistent.{slotRight, slotsRight, slotsInAll, listed, listedOnce}
 use Rattle.format.specs.Notes.{isListed}
 use Rattle.facts.specs.Marks.{markCount, Marked}

@@ -7,7 +7,7 @@ use native.Mathlib.Nat.{add-assoc}
 use native.Mathlib.Omega.{arith}
 use lib.Bits.{bitOr}
 use lib.Dec.{eqb}
-use lib.ListN.{getD, length, set, length-set}
+use lib.ListN.{getD, set}
 use borrow.Author.Tests.{eq-eqb}
 use Rattle.lists.specs.Tests.{_and_}
 use Rattle.lists.specs.Below.{allBelow, all-none, all-next, all-intro, all-cong, all-join}

@@ -4,8 +4,8 @@ ghost use mathlib.Core.Bool.{true};
 ghost use Prim.Native.Nat.{ℕ, _+_, _*_, _≤_, _<_};
 ghost use lib.ListN.{getD, length};
 ghost use Rattle.lists.specs.Below.{allBelow};
-ghost use Rattle.format.specs.Diskette.{eightInch, imageBytes, entriesPerRecord};
-ghost use Rattle.format.specs.Entries.{entryBytes, slotCount, entryAt, slotOf, used};
+ghost use Rattle.format.specs.Diskette.{eightInch, imageBytes, entryBytes, entriesPerRecord, slotCount};
+ghost use Rattle.format.specs.Entries.{entryAt, used};
 ghost use Rattle.format.specs.Consistent.{sameFile, alone, consistent};
 ghost use Rattle.facts.specs.Marks.{markCount, Marked};
 ghost use Rattle.consistent.specs.Runs.{markNumber, Taken};
@@ -160,14 +160,8 @@ fn take_record(image: &[u8], d: usize, marks: &mut [u8], lasts: &mut [u8], links
     let four = rows::four_rows(image, d);
     let mut i = 0;
     while i < ENTRIES_PER_RECORD {
-        if !take_entry(
-            image,
-            ENTRIES_PER_RECORD * d + i,
-            rows::row_of(four, i),
-            marks,
-            lasts,
-            links,
-        ) {
+        let r = rows::row_of(four, i);
+        if !take_entry(image, ENTRIES_PER_RECORD * d + i, r, marks, lasts, links) {
             return false;
         }
         i += 1;

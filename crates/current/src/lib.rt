@@ -1,6 +1,6 @@
 // When an FCB is current: its fields are in range, it has an entry, and each of its slots is the entry's or pending for it.
 ghost use mathlib.Core.Path.{_≡_};
-ghost use Prim.Native.Nat.{_≤_, _<_};
+ghost use Prim.Native.Nat.{_<_};
 ghost use lib.ListN.{length};
 ghost use Rattle.format.specs.Diskette.{eightInch, imageBytes, slotCount};
 ghost use Rattle.format.specs.Entries.{entryAt};

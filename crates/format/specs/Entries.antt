@@ -6,9 +6,7 @@ use lib.ListN.{getD}
 use Rattle.lists.specs.Tests.{_and_}
 use Rattle.lists.specs.Splice.{part, splice}
 use Rattle.lists.specs.Below.{firstIn}
-use Rattle.format.specs.Diskette.{Bytes, Geometry, offsetOf, entriesPerRecord}
--- named from here too
-pub use Rattle.format.specs.Diskette.{entryBytes, slotCount}
+use Rattle.format.specs.Diskette.{Bytes, Geometry, offsetOf, entryBytes, entriesPerRecord, slotCount}
 use Rattle.format.specs.Names.{nameLike}
 use Rattle.format.specs.Found.{foundBelow}
 use Rattle.format.specs.declared.Found.{Found}

@@ -1,14 +1,13 @@
 -- One byte of a row's head: whether its lane of a word shows a fault. Each law is one test that the checker computes for all 256
 -- bytes.
-use mathlib.Core.Path.{_≡_, refl, sym, _∙_}
+use mathlib.Core.Path.{_≡_, refl, sym}
 use mathlib.Core.Bool.{Bool, true, false, not, cond}
-use Prim.Native.Nat.{ℕ, _+_, _≤_, _<_}
-use native.Mathlib.Omega.{arith}
-use lib.Dec.{eqb, leb, ltb}
+use Prim.Native.Nat.{ℕ, _+_, _<_}
+use lib.Dec.{eqb, leb}
 use lib.Bits.{bitAnd, bitOr, bitXor}
 use Rattle.lists.specs.Tests.{_and_, _or_}
 use Rattle.lists.specs.Below.{allBelow, all-at}
-use Rattle.format.specs.Names.{sevenBits, anyByte, nameByte}
+use Rattle.format.specs.Names.{sevenBits, nameByte}
 
 -- tests that agree are equal
 agree : Bool → Bool → Bool

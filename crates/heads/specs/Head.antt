@@ -3,17 +3,18 @@ use mathlib.Core.Path.{_≡_, refl, ap, sym, _∙_}
 use mathlib.Core.Bool.{Bool, true, false, not, cond}
 use Prim.Native.Nat.{ℕ, zero, suc, _+_, _-_, _≤_, _<_}
 use native.Mathlib.Omega.{arith}
-use lib.Dec.{eqb, leb, ltb}
+use lib.Dec.{eqb, ltb}
 use lib.ListN.{getD}
-use lib.Bits.{bitAnd, bitOr, bitXor, and-le-l, and-le-r, or-lt, xor-lt, and-zero-r, or-add-and}
+use lib.Bits.{bitAnd, bitOr, bitXor, and-le-r, or-lt, xor-lt, and-zero-r}
 use borrow.Author.Tests.{eqb-true, eqb-false, eq-eqb, ne-eqb, leb-true, le-leb, lt-ltb, le-ltb, ltb-true, not-true}
 use Rattle.lists.specs.Cases.{split, lt-or-le, eq-or-ne, cond-either}
 use Rattle.lists.specs.Tests.{_and_, _or_, and-left, and-right, and-both, or-left, or-right, or-then}
+use Rattle.lists.specs.Bits.{or-left-zero, or-right-zero}
 use Rattle.lists.specs.Below.{allBelow, all-at}
-use Rattle.lanes.specs.Lanes.{lanes, wordAt, lanes-cong, lanes-and, lanes-or, lanes-xor, lanes-add, lanes-zero, zero-lanes}
+use Rattle.lanes.specs.Lanes.{lanes, wordAt, lanes-and, lanes-or, lanes-xor, lanes-add, lanes-zero, zero-lanes}
 use Rattle.format.specs.Diskette.{Bytes}
 use Rattle.format.specs.Names.{nameBytes, sevenBits, nameByte, nameRight}
-use Rattle.format.specs.Entries.{userOf, exOf, s2Of, rcOf, used}
+use Rattle.format.specs.Entries.{rcOf, used}
 use Rattle.format.specs.Consistent.{numbersRight}
 use Rattle.names.specs.Laws.{Named, right-elim, right-intro}
 use Rattle.heads.specs.Bytes.{noName, firstByte, laterByte, byteOk, sevenOf, raiseOf, sixOf, liftOf, faultOf, fault-tells, user-limit, ex-limit, s2-limit}
@@ -138,13 +139,6 @@ byte-goes-on : (b : ℕ) → nameByte false b ≡ true → byteOk laterByte b �
 unfolding byteOk
 byte-goes-on b h = or-right _ _ (and-both _ _ h (or-left _ _ refl))
 
--- ---- nothing in either, nothing in both together
-or-none-left : (a b : ℕ) → bitOr a b ≡ 0 → a ≡ 0
-or-none-left a b e = omega (arith, or-add-and a b, and-le-r a b)
-
-or-none-right : (a b : ℕ) → bitOr a b ≡ 0 → b ≡ 0
-or-none-right a b e = omega (arith, or-add-and a b, and-le-l a b)
-
 -- ---- both words of a row's head, and the bits that user, ex and s2 may not have
 abbrev pub numberMask : ℕ → ℕ
 numberMask i = cond (eqb i 4) 224 (cond (eqb i 6) 192 0)
@@ -191,23 +185,23 @@ module _ (r : Bytes) (in-low : (i : ℕ) → i < 8 → getD r i 0 < 256) (in-hig
   -- ---- words without a fault: a head that is right
   module _ (clear : wrongIn (wordAt r 0) (wordAt r 8) ≡ 0) (count : rcOf r ≤ 128) where
     heads-clear : bitOr (bitOr (lowFaults (wordAt r 0)) (highFaults (wordAt r 8))) (bitAnd (wordAt r 0) 240) ≡ 0
-    heads-clear = or-none-left (bitOr (bitOr (lowFaults (wordAt r 0)) (highFaults (wordAt r 8))) (bitAnd (wordAt r 0) 240)) (bitAnd (wordAt r 8) 54044157601120256) clear
+    heads-clear = or-left-zero (bitOr (bitOr (lowFaults (wordAt r 0)) (highFaults (wordAt r 8))) (bitAnd (wordAt r 0) 240)) (bitAnd (wordAt r 8) 54044157601120256) clear
 
     names-clear : bitOr (lowFaults (wordAt r 0)) (highFaults (wordAt r 8)) ≡ 0
-    names-clear = or-none-left (bitOr (lowFaults (wordAt r 0)) (highFaults (wordAt r 8))) (bitAnd (wordAt r 0) 240) heads-clear
+    names-clear = or-left-zero (bitOr (lowFaults (wordAt r 0)) (highFaults (wordAt r 8))) (bitAnd (wordAt r 0) 240) heads-clear
 
     low-ok : (i : ℕ) → i < 8 → byteOk (lowKind i) (low i) ≡ true
-    low-ok = word-clear lowKind (λ i h. low-kinds i) low in-low (sym low-faults ∙ or-none-left (lowFaults (wordAt r 0)) (highFaults (wordAt r 8)) names-clear)
+    low-ok = word-clear lowKind (λ i h. low-kinds i) low in-low (sym low-faults ∙ or-left-zero (lowFaults (wordAt r 0)) (highFaults (wordAt r 8)) names-clear)
 
     high-ok : (i : ℕ) → i < 8 → byteOk (highKind i) (high i) ≡ true
-    high-ok = word-clear highKind (λ i h. high-kinds i) high in-high (sym high-faults ∙ or-none-right (lowFaults (wordAt r 0)) (highFaults (wordAt r 8)) names-clear)
+    high-ok = word-clear highKind (λ i h. high-kinds i) high in-high (sym high-faults ∙ or-right-zero (lowFaults (wordAt r 0)) (highFaults (wordAt r 8)) names-clear)
 
     user-ok : used r ≡ true
     unfolding used
-    user-ok = sym (user-limit (low 0) (in-low 0 (omega arith))) ∙ eq-eqb _ _ (lanes-zero 8 (λ (i : ℕ). bitAnd (low i) (userMask i)) (sym user-lanes ∙ or-none-right (bitOr (lowFaults (wordAt r 0)) (highFaults (wordAt r 8))) (bitAnd (wordAt r 0) 240) heads-clear) 0 (omega arith))
+    user-ok = sym (user-limit (low 0) (in-low 0 (omega arith))) ∙ eq-eqb _ _ (lanes-zero 8 (λ (i : ℕ). bitAnd (low i) (userMask i)) (sym user-lanes ∙ or-right-zero (bitOr (lowFaults (wordAt r 0)) (highFaults (wordAt r 8))) (bitAnd (wordAt r 0) 240) heads-clear) 0 (omega arith))
 
     number-ok : (i : ℕ) → i < 8 → bitAnd (high i) (numberMask i) ≡ 0
-    number-ok = lanes-zero 8 (λ (i : ℕ). bitAnd (high i) (numberMask i)) (sym number-lanes ∙ or-none-right (bitOr (bitOr (lowFaults (wordAt r 0)) (highFaults (wordAt r 8))) (bitAnd (wordAt r 0) 240)) (bitAnd (wordAt r 8) 54044157601120256) clear)
+    number-ok = lanes-zero 8 (λ (i : ℕ). bitAnd (high i) (numberMask i)) (sym number-lanes ∙ or-right-zero (bitOr (bitOr (lowFaults (wordAt r 0)) (highFaults (wordAt r 8))) (bitAnd (wordAt r 0) 240)) (bitAnd (wordAt r 8) 54044157601120256) clear)
 
     numbers-ok : numbersRight r ≡ true
     unfolding numbersRight

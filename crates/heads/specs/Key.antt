@@ -1,16 +1,15 @@
 -- The key of a row: a number below 256 made of user, seven-bit name and extent, so that rows of one file have one key. Where two
 -- rows' keys differ they need no comparison.
 use mathlib.Core.Path.{_≡_, refl, ap, sym, _∙_}
-use mathlib.Core.List.{List, [], _∷_}
+use mathlib.Core.List.{[], _∷_}
 use Prim.Native.Nat.{ℕ, zero, suc, _+_, _-_, _*_, _/_, _%_, _<_}
 use native.Mathlib.Omega.{arith}
 use lib.ListN.{getD}
 use lib.Bits.{bitAnd, bitXor, and-mask, and-zero-r}
-use Rattle.lists.specs.Cases.{split, lt-or-le}
 use Rattle.lanes.specs.Lanes.{lanes, wordAt, lanes-cong, lanes-and}
 use Rattle.format.specs.Diskette.{Bytes}
-use Rattle.format.specs.Names.{nameBytes, sevenBits}
-use Rattle.format.specs.Entries.{userOf, exOf, extentOf}
+use Rattle.format.specs.Names.{nameBytes}
+use Rattle.format.specs.Entries.{exOf, extentOf}
 use Rattle.names.specs.Laws.{nameBits, like-at}
 use Rattle.consistency.specs.Facts.{SameFile}
 

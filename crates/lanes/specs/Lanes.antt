@@ -1,6 +1,6 @@
 -- List ℕ side by side in one number, the first lowest, each in a lane of its own: what is done to the number is done to every byte at
 -- once, as long as no sum leaves its lane.
-use mathlib.Core.Path.{_≡_, refl, ap, sym, _∙_}
+use mathlib.Core.Path.{_≡_, refl, ap, _∙_}
 use Prim.Native.Nat.{ℕ, zero, suc, _+_, _-_, _*_, _<_}
 use native.Mathlib.Nat.{add-zero}
 use native.Mathlib.Omega.{arith}

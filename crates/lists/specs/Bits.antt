@@ -1,9 +1,8 @@
 -- Bits of numbers or-ed together.
 use mathlib.Core.Path.{_≡_}
-use mathlib.Core.Bool.{true}
-use Prim.Native.Nat.{ℕ, _+_, _≤_}
+use Prim.Native.Nat.{ℕ}
 use native.Mathlib.Omega.{arith}
-use lib.Bits.{bitAnd, bitOr, or-add-and, and-le-l, and-le-r}
+use lib.Bits.{bitOr, or-add-and, and-le-l, and-le-r}
 use lib.Dec.{eqb}
 use borrow.Author.Tests.{eqb-true, eq-eqb}
 use Rattle.lists.specs.Cases.{bool-ext}
@@ -11,13 +10,13 @@ use Rattle.lists.specs.Tests.{_and_, and-left, and-right, and-both}
 
 -- the common bits are in each of the two, so where the or is 0 both are
 module _ (a b : ℕ) where
-  or-left-zero : bitOr a b ≡ 0 → a ≡ 0
+  pub or-left-zero : bitOr a b ≡ 0 → a ≡ 0
   or-left-zero h = omega (arith, or-add-and a b, and-le-r a b)
 
-  or-right-zero : bitOr a b ≡ 0 → b ≡ 0
+  pub or-right-zero : bitOr a b ≡ 0 → b ≡ 0
   or-right-zero h = omega (arith, or-add-and a b, and-le-l a b)
 
-  or-both-zero : a ≡ 0 → b ≡ 0 → bitOr a b ≡ 0
+  pub or-both-zero : a ≡ 0 → b ≡ 0 → bitOr a b ≡ 0
   or-both-zero p q = omega (arith, or-add-and a b)
 
   -- a or b is 0 exactly when both are

@@ -6,8 +6,7 @@ use lib.ListN.{getD}
 use Rattle.lists.specs.Tests.{_and_}
 use Rattle.lists.specs.Below.{anyBelow}
 use Rattle.lists.specs.Tab.{tab}
-use Rattle.format.specs.Diskette.{Bytes, Geometry}
-use Rattle.format.specs.Entries.{slotCount}
+use Rattle.format.specs.Diskette.{Bytes, Geometry, slotCount}
 use Rattle.format.specs.Notes.{freeNote, noteAt, withNote, heldFor}
 
 -- one of the slots below j lists block b: a slot of 0 lists none

@@ -10,8 +10,8 @@ use Rattle.lists.specs.Cases.{split, bool-cases, bool-ext, cond-either, eq-or-n
 use Rattle.lists.specs.Tests.{_and_, _or_, and-left, and-right, and-both, and-then, and-fails-left, and-fails-right, or-left, or-right, or-first, cond-or}
 use Rattle.lists.specs.Below.{anyBelow, any-none, any-next, any-at, any-some}
 use Rattle.lists.specs.Tab.{tab, length-tab, getD-tab, tab-cong, tab-getD}
-use Rattle.format.specs.Diskette.{Bytes, Geometry}
-use Rattle.format.specs.Entries.{Rows, used, slotCount, slotsOf}
+use Rattle.format.specs.Diskette.{Bytes, Geometry, slotCount}
+use Rattle.format.specs.Entries.{Rows, used, slotsOf}
 use Rattle.format.specs.Consistent.{listed, slotsInAll}
 use Rattle.consistency.specs.Facts.{Stands}
 use Rattle.consistency.specs.Listed.{stands-at, stands-place, stands-listed}

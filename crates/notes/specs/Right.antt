@@ -10,8 +10,8 @@ use Rattle.lists.specs.Cases.{split, bool-cases, lt-or-le}
 use Rattle.lists.specs.Tests.{_and_, _or_, and-left, and-right, and-both, or-left, or-right, or-cases}
 use Rattle.lists.specs.Below.{all-at, all-intro}
 use Rattle.lists.specs.Tab.{length-tab, getD-tab, tab-cong}
-use Rattle.format.specs.Diskette.{Bytes, Geometry}
-use Rattle.format.specs.Entries.{Rows, used, slotCount}
+use Rattle.format.specs.Diskette.{Bytes, Geometry, slotCount}
+use Rattle.format.specs.Entries.{Rows, used}
 use Rattle.format.specs.Notes.{freeNote, areaNote, recordedNote, pendingFor, isPending, pendingEntry, pendingSlot, noteAt, isListed, heldByUsed, noteRight, mapRight, freshNote, freshMap, settledNote, freedMap}
 use Rattle.notes.specs.Numbers.{pending-is, pending-entry, pending-back, pending-slot-low, settled-not}
 

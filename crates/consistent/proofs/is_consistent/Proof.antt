@@ -5,9 +5,9 @@ use Rattle.consistent.specs.Chain.{lasts-none}
 use Rattle.format.specs.Consistent.{consistent}
 use Rattle.format.specs.Entries.{Rows, entryAt}
 use Rattle.format.specs.Diskette.{eightInch, entriesPerRecord}
-use Rattle.lists.specs.Below.{allBelow, all-none, all-at, all-intro, all-join, all-done}
+use Rattle.lists.specs.Below.{allBelow, all-none, all-at, all-intro, all-join}
 use Rattle.lists.specs.Cases.{clash, not-both, refute}
-use Rattle.lists.specs.Tests.{_and_, and-both}
+use Rattle.lists.specs.Tests.{and-both}
 use borrow.Author.Tests.{not-true, not-false}
 use lib.ListN.{length}
 use Prim.Native.Nat.{ℕ, _+_, _*_, _-_, _≤_}

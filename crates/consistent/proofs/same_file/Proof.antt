@@ -1,6 +1,5 @@
 -- Both rows are used, so that the look-up of one by the other decides.
 use Rattle.consistent.specs.Chain.{file-same}
--- Both rows are used, so that the look-up of one by the other decides.
 use Rattle.format.specs.Diskette.{eightInch}
 use Rattle.format.specs.Entries.{used}
 use mathlib.Core.Path.{_∙_}

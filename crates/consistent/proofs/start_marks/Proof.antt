@@ -1,5 +1,10 @@
 -- The three runs of marks, one after the other.
 use Rattle.consistent.specs.BlockMarks.{startMarks}
+use Rattle.facts.specs.Marks.{markCount}
+use Rattle.format.specs.Diskette.{Bytes, eightInch}
+use Rattle.lists.specs.Splice.{splice, copies}
+use Prim.Native.Nat.{_-_}
+use mathlib.Core.Path.{ap, _∙_}
 use borrow.Author.Needs.{needs}
 use Rattle.consistent.proofs.start_marks.Statement.{statement}
 use Rattle.consistent.proofs.start_marks.Tie as tie
@@ -24,7 +29,10 @@ same-length c = search needs
 
 returns : tie.Need-returns
 unfolding startMarks
-returns c = cc
+returns c =
+    c .before .before .fill3 .ensures
+    ∙ ap (λ (l : Bytes). splice l (eightInch .blocks) (copies (markCount - eightInch .blocks) 1)) (c .before .before .before .before .before .before .fill2 .ensures
+    ∙ ap (λ (l : Bytes). splice l 1 (copies (eightInch .area - 1) 1)) (c .before .before .before .before .before .before .before .before .before .before .fill .ensures))
 
 pub start-marks-spec : {M : Type 1} → statement M
 start-marks-spec =

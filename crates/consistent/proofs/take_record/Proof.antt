@@ -3,7 +3,7 @@ use Rattle.consistent.specs.Pass.{entryFits, Passed}
 use Rattle.rows.specs.Entries.{rowOf, row-in-record}
 use Rattle.disk.specs.Eight.{eight-sound}
 use Rattle.format.specs.Entries.{entryAt}
-use Rattle.format.specs.Diskette.{Bytes, eightInch, entriesPerRecord, recordAt}
+use Rattle.format.specs.Diskette.{Bytes, eightInch, entriesPerRecord}
 use Rattle.lists.specs.Below.{allBelow, all-none, all-more, all-fails, all-done}
 use Rattle.lists.specs.Cases.{clash}
 use borrow.Author.Tests.{not-true, not-false}
@@ -35,14 +35,14 @@ four-rows-requires c κs = search needs
 loop-holds : tie.Need-loop-holds Inv-loop μ-loop
 loop-holds c = (all-none _, rw add-zero (c .before .before .before .before .before .pre .2), omega arith, refl, refl, refl)
 
+row-of-requires : tie.Need-row-of-requires Inv-loop μ-loop
+row-of-requires c κs = search needs
+
 mul-take-entry : tie.Need-mul-take-entry Inv-loop μ-loop
 mul-take-entry c = omega arith
 
 add-take-entry : tie.Need-add-take-entry Inv-loop μ-loop
 add-take-entry c = omega arith
-
-row-of-requires : tie.Need-row-of-requires Inv-loop μ-loop
-row-of-requires c κs = search needs
 
 take-entry-requires : tie.Need-take-entry-requires Inv-loop μ-loop
 take-entry-requires c κs =
@@ -102,9 +102,9 @@ take-record-spec =
     μ-loop
     four-rows-requires
     loop-holds
+    row-of-requires
     mul-take-entry
     add-take-entry
-    row-of-requires
     take-entry-requires
     same-length
     same-length-2

@@ -1,7 +1,6 @@
 -- Halves of a word times numbers below 2 to the 31 fit, and so does their sum.
 use mathlib.Core.Path.{refl}
 use Rattle.heads.specs.Key.{mixed}
-use native.Mathlib.Omega.{arith}
 use borrow.Author.Needs.{needs}
 use Rattle.heads.proofs.mix.Statement.{statement}
 use Rattle.heads.proofs.mix.Tie as tie

@@ -6,7 +6,6 @@ use lib.ListN.{getD}
 use borrow.Author.Tests.{leb-true, le-leb}
 use Rattle.lists.specs.Cases.{refute, bool-ext}
 use Rattle.heads.specs.Head.{right-clear, clear-right, right-count}
-use native.Mathlib.Omega.{arith}
 use borrow.Author.Needs.{needs}
 use Rattle.heads.proofs.row_right.Statement.{statement}
 use Rattle.heads.proofs.row_right.Tie as tie

@@ -3,8 +3,7 @@ use mathlib.Core.Path.{_≡_}
 use Prim.Native.Nat.{_-_, _≤_}
 use native.Mathlib.Omega.{arith}
 use borrow.Author.Needs.{needs}
-use Rattle.format.specs.Diskette.{eightInch}
-use Rattle.format.specs.Entries.{slotCount}
+use Rattle.format.specs.Diskette.{eightInch, slotCount}
 use Rattle.notes.specs.Freeing.{inSlots}
 use Rattle.notes.specs.FreeingLaws.{Freed, slots-none, slots-more, slots-done}
 use Rattle.notes.proofs.free_slots.Statement.{statement}
