@@ -1,13 +1,45 @@
--- One byte of a row's head: whether its lane of a word shows a fault. Each law is one test that the checker computes for all 256
--- bytes.
+-- The bytes of a head, each by itself: the tables of what it may be, and that a fault shows exactly where it is not.
 use mathlib.Core.Path.{_≡_, refl, sym}
 use mathlib.Core.Bool.{Bool, true, false, not, cond}
-use Prim.Native.Nat.{ℕ, _+_, _<_}
-use lib.Dec.{eqb, leb}
-use lib.Bits.{bitAnd, bitOr, bitXor}
+use mathlib.Core.List.{List, [], _∷_}
+use Prim.Native.Nat.{ℕ, _-_, _<_}
+use lib.Dec.{eqb, leb, ltb}
+use lib.ListN.{getD}
+use lib.Bits.{bitAnd, bitOr}
 use Rattle.lists.specs.Tests.{_and_, _or_}
 use Rattle.lists.specs.Below.{allBelow, all-at}
 use Rattle.format.specs.Names.{sevenBits, nameByte}
+
+abbrev pub headBytes : ℕ
+headBytes = 16
+
+-- ---- the tables, one number a byte: the bits that count, the lowest and the highest that they may make, and one between that they
+-- may not. 255 is barred where none is: it is too high anyway, or nothing counts
+unfoldable pub counted : List ℕ
+counted = 255 ∷ 127 ∷ 127 ∷ 127 ∷ 127 ∷ 127 ∷ 127 ∷ 127 ∷ 127 ∷ 127 ∷ 127 ∷ 127 ∷ 255 ∷ 0 ∷ 255 ∷ 255 ∷ []
+
+unfoldable pub lowest : List ℕ
+lowest = 0 ∷ 33 ∷ 32 ∷ 32 ∷ 32 ∷ 32 ∷ 32 ∷ 32 ∷ 32 ∷ 32 ∷ 32 ∷ 32 ∷ 0 ∷ 0 ∷ 0 ∷ 0 ∷ []
+
+unfoldable pub highest : List ℕ
+highest = 15 ∷ 126 ∷ 126 ∷ 126 ∷ 126 ∷ 126 ∷ 126 ∷ 126 ∷ 126 ∷ 126 ∷ 126 ∷ 126 ∷ 31 ∷ 255 ∷ 63 ∷ 128 ∷ []
+
+unfoldable pub barred : List ℕ
+barred = 255 ∷ 63 ∷ 63 ∷ 63 ∷ 63 ∷ 63 ∷ 63 ∷ 63 ∷ 63 ∷ 63 ∷ 63 ∷ 63 ∷ 255 ∷ 255 ∷ 255 ∷ 255 ∷ []
+
+-- what is wrong with a number: how far it is too high, or too low, or that it is barred
+unfoldable pub faultOf : ℕ → ℕ → ℕ → ℕ → ℕ
+faultOf x low high bar = bitOr (bitOr (x - high) (low - x)) (cond (eqb x bar) 1 0)
+
+-- what is wrong with byte i of a head, where it is b
+unfoldable pub byteFault : ℕ → ℕ → ℕ
+byteFault i b = faultOf (bitAnd b (getD counted i 0)) (getD lowest i 0) (getD highest i 0) (getD barred i 0)
+
+-- ---- what byte i may be: a user, a name without a space first, ex, s1, s2, rc
+unfoldable pub byteOk : ℕ → ℕ → Bool
+byteOk i b =
+    cond (eqb i 0) (leb b 15) (cond (ltb i 12) (nameByte false b and not (eqb i 1 and eqb (sevenBits b) 32))
+    (cond (eqb i 12) (leb b 31) (cond (eqb i 14) (leb b 63) (cond (eqb i 15) (leb b 128) true))))
 
 -- tests that agree are equal
 agree : Bool → Bool → Bool
@@ -21,74 +53,14 @@ agree-same true false h = sym h
 agree-same false true h = h
 agree-same false false h = refl
 
--- ---- the kinds of byte: the first of a name, another of a name, and one of no name
-abbrev pub noName : ℕ
-noName = 0
-
-abbrev pub firstByte : ℕ
-firstByte = 1
-
-abbrev pub laterByte : ℕ
-laterByte = 2
-
--- what a kind of byte asks for
-unfoldable pub byteOk : ℕ → ℕ → Bool
-byteOk k b = eqb k noName or (nameByte false b and (eqb k laterByte or not (eqb (sevenBits b) 32)))
-
--- the numbers that a lane of this kind is masked with, and those that are added: a byte of 32 or more in its low seven bits is raised
--- to 128, and one of 33 or more where it is a name's first; a byte that ends in six ones, which is 3FH or 7FH, is lifted to 128
-unfoldable pub sevenOf : ℕ → ℕ
-sevenOf k = cond (eqb k noName) 0 127
-
-unfoldable pub raiseOf : ℕ → ℕ
-raiseOf k = cond (eqb k noName) 128 (cond (eqb k firstByte) 95 96)
-
-unfoldable pub sixOf : ℕ → ℕ
-sixOf k = cond (eqb k noName) 0 63
-
-unfoldable pub liftOf : ℕ → ℕ
-liftOf k = cond (eqb k noName) 0 65
-
--- the fault that a lane shows: 128, or 0
-unfoldable pub faultOf : ℕ → ℕ → ℕ
-faultOf k b = bitAnd (bitOr (bitXor (bitAnd b (sevenOf k) + raiseOf k) 128) (bitAnd b (sixOf k) + liftOf k)) 128
-
 told : ℕ → ℕ → Bool
-told k b = agree (eqb (faultOf k b) 0) (byteOk k b)
+told i b = agree (eqb (byteFault i b) 0) (byteOk i b)
 
-all-told : allBelow (λ (k : ℕ). allBelow (told k) 256) 3 ≡ true
-unfolding allBelow told agree faultOf sevenOf raiseOf sixOf liftOf byteOk nameByte _and_ _or_
+-- one test that the checker computes, for all bytes at all places
+all-told : allBelow (λ (i : ℕ). allBelow (told i) 256) headBytes ≡ true
+unfolding allBelow told agree byteFault faultOf counted lowest highest barred byteOk nameByte _and_ _or_
 all-told = refl
 
-pub fault-tells : (k b : ℕ) → k < 3 → b < 256 → eqb (faultOf k b) 0 ≡ byteOk k b
+pub fault-tells : (i b : ℕ) → i < headBytes → b < 256 → eqb (byteFault i b) 0 ≡ byteOk i b
 unfolding told
-fault-tells k b h l = agree-same _ _ (all-at (told k) 256 (all-at (λ (k : ℕ). allBelow (told k) 256) 3 all-told k h) b l)
-
--- ---- numbers: no bit of the mask is set exactly up to the highest that may stand
-limits : ℕ → ℕ → ℕ → Bool
-limits mask high b = agree (eqb (bitAnd b mask) 0) (leb b high)
-
-users : allBelow (limits 240 15) 256 ≡ true
-unfolding allBelow limits agree _and_
-users = refl
-
-exs : allBelow (limits 224 31) 256 ≡ true
-unfolding allBelow limits agree _and_
-exs = refl
-
-s2s : allBelow (limits 192 63) 256 ≡ true
-unfolding allBelow limits agree _and_
-s2s = refl
-
-limit-at : (mask high : ℕ) → allBelow (limits mask high) 256 ≡ true → (b : ℕ) → b < 256 → eqb (bitAnd b mask) 0 ≡ leb b high
-unfolding limits
-limit-at mask high t b h = agree-same _ _ (all-at (limits mask high) 256 t b h)
-
-pub user-limit : (b : ℕ) → b < 256 → eqb (bitAnd b 240) 0 ≡ leb b 15
-user-limit = limit-at 240 15 users
-
-pub ex-limit : (b : ℕ) → b < 256 → eqb (bitAnd b 224) 0 ≡ leb b 31
-ex-limit = limit-at 224 31 exs
-
-pub s2-limit : (b : ℕ) → b < 256 → eqb (bitAnd b 192) 0 ≡ leb b 63
-s2-limit = limit-at 192 63 s2s
+fault-tells i b h l = agree-same _ _ (all-at (told i) 256 (all-at (λ (k : ℕ). allBelow (told k) 256) headBytes all-told i h) b l)

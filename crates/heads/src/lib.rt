@@ -1,44 +1,141 @@
-// The head of a directory entry, its first sixteen bytes, as two words: byte i of a word is its lane i. What the check of every call
-// asks of each byte is so asked of eight at once.
+// The head of a directory entry, its first sixteen bytes: whether they are in range, and the key that entries of one file share. Every
+// call asks both of every entry, so both are written for many bytes at once.
 ghost use mathlib.Core.Path.{_≡_};
-ghost use Prim.Native.Nat.{_+_, _*_, _≤_, _<_};
-ghost use lib.ListN.{length};
+ghost use mathlib.Core.Bool.{cond};
+ghost use Prim.Native.Nat.{ℕ, _+_, _-_, _≤_, _<_};
+ghost use lib.Dec.{eqb};
+ghost use lib.Bits.{bitAnd};
+ghost use lib.ListN.{length, getD};
+ghost use Rattle.lists.specs.Tab.{tab};
 ghost use Rattle.format.specs.Diskette.{entryBytes};
-ghost use Rattle.heads.specs.Head.{faultsIn, rowRight};
+ghost use Rattle.heads.specs.Bytes.{headBytes, faultOf};
+ghost use Rattle.heads.specs.Head.{rowRight};
 ghost use Rattle.heads.specs.Key.{mixed, keyOf, keyCount};
 
-// The top bit of each lane.
-const TOPS: u64 = 0x8080808080808080;
+const HEAD_BYTES: usize = 16;
 
-// Tells by the top bits of its lanes which bytes of a word no name may hold. `sevens` and `raise` bring the low seven bits of a right
-// byte to 128 or more; `sixes` and `lift` bring the low six of 3FH and 7FH to 128.
-fn faults(w: u64, sevens: u64, raise: u64, sixes: u64, lift: u64) -> u64
-    requires { ⌜ (sevens + raise < 18446744073709551616) × (sixes + lift < 18446744073709551616) ⌝ }
-    ensures { λ r. ⌜ r ≡ faultsIn w sevens raise sixes lift ⌝ }
+// What each byte may be, from the user to rc: the bits that count, the lowest and the highest number that they may make, and one
+// between that they may not. specs/Bytes.antt shows that these are the rules.
+const COUNTED: [u8; HEAD_BYTES] = [
+    255,
+    127,
+    127,
+    127,
+    127,
+    127,
+    127,
+    127,
+    127,
+    127,
+    127,
+    127,
+    255,
+    0,
+    255,
+    255,
+];
+
+const LOWEST: [u8; HEAD_BYTES] = [0, 33, 32, 32, 32, 32, 32, 32, 32, 32, 32, 32, 0, 0, 0, 0];
+
+const HIGHEST: [u8; HEAD_BYTES] = [
+    15,
+    126,
+    126,
+    126,
+    126,
+    126,
+    126,
+    126,
+    126,
+    126,
+    126,
+    126,
+    31,
+    255,
+    63,
+    128,
+];
+
+const BARRED: [u8; HEAD_BYTES] = [
+    255,
+    63,
+    63,
+    63,
+    63,
+    63,
+    63,
+    63,
+    63,
+    63,
+    63,
+    63,
+    255,
+    255,
+    255,
+    255,
+];
+
+// How far x is above y.
+fn above(x: u8, y: u8) -> u8
+    ensures { λ r. ⌜ r ≡ x - y ⌝ }
 {
-    ((w & sevens) + raise ^ TOPS | (w & sixes) + lift) & TOPS
+    if y < x {
+        return x - y;
+    }
+    0
 }
 
-// Whether a row has a user, a name and numbers in range. Lane 0 of the first word is the user's, lane 1 the name's first byte, which
-// may not be a space; lanes 4 and 6 of the second word are ex and s2.
+// 1 where x is y, else 0.
+fn same(x: u8, y: u8) -> u8
+    ensures { λ r. ⌜ r ≡ cond (eqb x y) 1 0 ⌝ }
+{
+    if x == y {
+        return 1;
+    }
+    0
+}
+
+// What is wrong with a number: 0 where nothing is.
+fn fault(x: u8, lowest: u8, highest: u8, barred: u8) -> u8
+    ensures { λ r. ⌜ r ≡ faultOf x lowest highest barred ⌝ }
+{
+    above(x, highest) | above(lowest, x) | same(x, barred)
+}
+
+// What is wrong with each byte of a head. The tables are lent, not named: so all bytes are treated alike, and a compiler takes them
+// together.
+fn find_faults(
+    r: &[u8],
+    counted: &[u8],
+    lowest: &[u8],
+    highest: &[u8],
+    barred: &[u8],
+    out: &mut [u8],
+)
+    requires { ⌜ (headBytes ≤ length (now r)) × (length (now counted) ≡ headBytes) × (length (now lowest) ≡ headBytes)
+        × (length (now highest) ≡ headBytes) × (length (now barred) ≡ headBytes) × (length (now out) ≡ headBytes) ⌝ }
+    ensures { λ _. ⌜ now (out .exit) ≡ tab headBytes (λ (i : ℕ). faultOf (bitAnd (getD (now (r .entry)) i 0) (getD (now (counted .entry)) i 0))
+        (getD (now (lowest .entry)) i 0) (getD (now (highest .entry)) i 0) (getD (now (barred .entry)) i 0)) ⌝ }
+{
+    let mut i = 0;
+    while i < HEAD_BYTES {
+        out[i] = fault(r[i] & counted[i], lowest[i], highest[i], barred[i]);
+        i += 1;
+    }
+}
+
+// Whether a row has a user, a name and numbers in range.
 pub fn row_right(r: &[u8]) -> bool
     requires { ⌜ entryBytes ≤ length (now r) ⌝ }
     ensures { λ b. ⌜ b ≡ rowRight (now (r .entry)) ⌝ }
 {
-    let low = lanes::word(r, 0);
-    let high = lanes::word(r, 8);
-    let first = faults(
-        low,
-        0x7F7F7F7F7F7F7F00,
-        0x6060606060605F80,
-        0x3F3F3F3F3F3F3F00,
-        0x4141414141414100,
-    );
-    let second = faults(high, 0x7F7F7F7F, 0x8080808060606060, 0x3F3F3F3F, 0x41414141);
-    if first | second | low & 0xF0 | high & 0x00C000E000000000 != 0 {
-        return false;
-    }
-    r[15] <= 128
+    let counted = COUNTED;
+    let lowest = LOWEST;
+    let highest = HIGHEST;
+    let barred = BARRED;
+    let mut faults = [0u8; HEAD_BYTES];
+    find_faults(r, &counted, &lowest, &highest, &barred, &mut faults);
+    lanes::word(&faults, 0) | lanes::word(&faults, 8) == 0
 }
 
 // Two halves of a word multiplied apart, so that no product is too long, and added.

@@ -6,7 +6,7 @@ use native.Mathlib.Nat.{add-zero}
 use native.Mathlib.Omega.{arith}
 use lib.ListN.{getD}
 use Rattle.lists.specs.Cases.{split, lt-or-le}
-use lib.Bits.{bitAnd, bitOr, bitXor, and-block, or-block, xor-block}
+use lib.Bits.{bitAnd, and-block}
 use mathlib.Core.List.{List}
 
 -- f 0, f 1, .., f (n - 1)
@@ -29,29 +29,14 @@ lanes-cong (suc n) f g p =
     let first = p 0 (omega arith) in
     rw (rest, first)
 
--- ---- the lanes of a sum, and of what an operation on digits gives
-pub lanes-add : (n : ℕ) (f g : ℕ → ℕ) → lanes n f + lanes n g ≡ lanes n (λ (i : ℕ). f i + g i)
-unfolding lanes
-lanes-add zero f g = refl
-lanes-add (suc n) f g = let rest = lanes-add n (λ (i : ℕ). f (suc i)) (λ (i : ℕ). g (suc i)) in omega arith
-
-module _ (op : ℕ → ℕ → ℕ) (none : op 0 0 ≡ 0) (block : (a b r s : ℕ) → r < 256 → s < 256 → op (a * 256 + r) (b * 256 + s) ≡ op a b * 256 + op r s) where
-  each : (n : ℕ) (f g : ℕ → ℕ) → ((i : ℕ) → i < n → f i < 256) → ((i : ℕ) → i < n → g i < 256) → op (lanes n f) (lanes n g) ≡ lanes n (λ (i : ℕ). op (f i) (g i))
-  unfolding lanes
-  each zero f g p q = none
-  each (suc n) f g p q =
-      block (lanes n (λ (i : ℕ). f (suc i))) (lanes n (λ (i : ℕ). g (suc i))) (f 0) (g 0) (p 0 (omega arith)) (q 0 (omega arith))
-      ∙ ap (λ (x : ℕ). x * 256 + op (f 0) (g 0))
-      (each n (λ (i : ℕ). f (suc i)) (λ (i : ℕ). g (suc i)) (λ i h. p (suc i) (omega arith)) (λ i h. q (suc i) (omega arith)))
-
+-- ---- bits that two numbers share
 pub lanes-and : (n : ℕ) (f g : ℕ → ℕ) → ((i : ℕ) → i < n → f i < 256) → ((i : ℕ) → i < n → g i < 256) → bitAnd (lanes n f) (lanes n g) ≡ lanes n (λ (i : ℕ). bitAnd (f i) (g i))
-lanes-and = each bitAnd refl (and-block 8)
-
-pub lanes-or : (n : ℕ) (f g : ℕ → ℕ) → ((i : ℕ) → i < n → f i < 256) → ((i : ℕ) → i < n → g i < 256) → bitOr (lanes n f) (lanes n g) ≡ lanes n (λ (i : ℕ). bitOr (f i) (g i))
-lanes-or = each bitOr refl (or-block 8)
-
-pub lanes-xor : (n : ℕ) (f g : ℕ → ℕ) → ((i : ℕ) → i < n → f i < 256) → ((i : ℕ) → i < n → g i < 256) → bitXor (lanes n f) (lanes n g) ≡ lanes n (λ (i : ℕ). bitXor (f i) (g i))
-lanes-xor = each bitXor refl (xor-block 8)
+unfolding lanes
+lanes-and zero f g p q = refl
+lanes-and (suc n) f g p q =
+    and-block 8 (lanes n (λ (i : ℕ). f (suc i))) (lanes n (λ (i : ℕ). g (suc i))) (f 0) (g 0) (p 0 (omega arith)) (q 0 (omega arith))
+    ∙ ap (λ (x : ℕ). x * 256 + bitAnd (f 0) (g 0))
+    (lanes-and n (λ (i : ℕ). f (suc i)) (λ (i : ℕ). g (suc i)) (λ i h. p (suc i) (omega arith)) (λ i h. q (suc i) (omega arith)))
 
 -- ---- what the number says of its lanes
 pub lanes-same : (n : ℕ) (f g : ℕ → ℕ) → ((i : ℕ) → i < n → f i < 256) → ((i : ℕ) → i < n → g i < 256) → lanes n f ≡ lanes n g → (i : ℕ) → i < n → f i ≡ g i
@@ -97,6 +82,14 @@ word-bytes l at p q i h =
 pub half-zero : (l : List ℕ) (at : ℕ) → halfAt l at ≡ 0 → (i : ℕ) → i < 4 → getD l (at + i) 0 ≡ 0
 unfolding halfAt
 half-zero l at e i h = lanes-zero 4 (λ (k : ℕ). getD l (at + k) 0) e i h
+
+pub word-zero : (l : List ℕ) (at : ℕ) → wordAt l at ≡ 0 → (i : ℕ) → i < 8 → getD l (at + i) 0 ≡ 0
+unfolding wordAt
+word-zero l at e i h = lanes-zero 8 (λ (k : ℕ). getD l (at + k) 0) e i h
+
+pub zero-word : (l : List ℕ) (at : ℕ) → ((i : ℕ) → i < 8 → getD l (at + i) 0 ≡ 0) → wordAt l at ≡ 0
+unfolding wordAt
+zero-word l at p = zero-lanes 8 (λ (i : ℕ). getD l (at + i) 0) p
 
 pub word-same : (l m : List ℕ) (at to : ℕ) → ((i : ℕ) → i < 8 → getD l (at + i) 0 < 256) → ((i : ℕ) → i < 8 → getD m (to + i) 0 < 256) → wordAt l at ≡ wordAt m to → (i : ℕ) → i < 8 → getD l (at + i) 0 ≡ getD m (to + i) 0
 unfolding wordAt

@@ -1,54 +1,61 @@
--- The words are without a fault exactly where the head is right.
-use mathlib.Core.Path.{sym}
-use Prim.Native.Nat.{ℕ, _<_}
-use native.Mathlib.Nat.{zero-add}
-use lib.ListN.{getD}
-use borrow.Author.Tests.{leb-true, le-leb}
-use Rattle.lists.specs.Cases.{refute, bool-ext}
-use Rattle.heads.specs.Head.{right-clear, clear-right, right-count}
+-- The tables are those of the definitions, and two words of faults are 0 exactly where the head is right.
+use native.Mathlib.Omega.{arith}
+use Rattle.heads.specs.Bytes.{byteFault, counted, lowest, highest, barred}
+use Rattle.heads.specs.Head.{headFault, words-tell}
 use borrow.Author.Needs.{needs}
 use Rattle.heads.proofs.row_right.Statement.{statement}
 use Rattle.heads.proofs.row_right.Tie as tie
 
+slice-aggregate-find-faults : tie.Need-slice-aggregate-find-faults
+slice-aggregate-find-faults c = search needs
+
+slice-aggregate-find-faults-2 : tie.Need-slice-aggregate-find-faults-2
+slice-aggregate-find-faults-2 c = search needs
+
+slice-aggregate-find-faults-3 : tie.Need-slice-aggregate-find-faults-3
+slice-aggregate-find-faults-3 c = search needs
+
+slice-aggregate-find-faults-4 : tie.Need-slice-aggregate-find-faults-4
+slice-aggregate-find-faults-4 c = search needs
+
+slice-aggregate-find-faults-5 : tie.Need-slice-aggregate-find-faults-5
+slice-aggregate-find-faults-5 c = search needs
+
+find-faults-requires : tie.Need-find-faults-requires
+find-faults-requires c κs = search needs
+
+slice-aggregate-word : tie.Need-slice-aggregate-word
+slice-aggregate-word c = search needs
+
 word-requires : tie.Need-word-requires
 word-requires c κs = search needs
+
+slice-aggregate-word-2 : tie.Need-slice-aggregate-word-2
+slice-aggregate-word-2 c = search needs
 
 word-requires-2 : tie.Need-word-requires-2
 word-requires-2 c κs = search needs
 
-faults-requires : tie.Need-faults-requires
-faults-requires c κs = search needs
-
-faults-requires-2 : tie.Need-faults-requires-2
-faults-requires-2 c κs = search needs
-
 returns : tie.Need-returns
+unfolding headFault byteFault counted lowest highest barred
 returns c =
-    let r = c .before .before .before .before .before .before .args .r .now in
-    let w = c .before .before .before .before .word .ensures in let v = c .before .before .before .word2 .ensures in
-    refute _ (λ t. rw (c .before .before .faults .ensures, c .before .faults2 .ensures, w .0, v .0) at (c .if1 .taken)
-    (right-clear r (λ i h. rw zero-add at (w .1 i h)) (v .1) t))
-
-shared-slice-read-result : tie.Need-shared-slice-read-result
-shared-slice-read-result c = search needs
-
-returns-2 : tie.Need-returns-2
-returns-2 c =
-    let r = c .before .before .before .before .before .before .before .args .r .now in
-    let w = c .before .before .before .before .before .word .ensures in let v = c .before .before .before .before .word2 .ensures in
-    let low : (i : ℕ) → i < 8 → getD r i 0 < 256 = λ i h. rw zero-add at (w .1 i h) in
-    bool-ext _ _
-    (λ t. clear-right r low (v .1) (rw (sym (w .0), sym (v .0)) (rw (c .before .before .before .faults .ensures, c .before .before .faults2 .ensures) at (c .before .if1 .left))) (leb-true _ _ t))
-    (λ t. le-leb _ _ (right-count r low (v .1) t))
+    let a = c .before .before .before .before .before .before .before .before .before .before .before .before in
+    let known = c .before .before .before .before .before .before .before .before .before .before .before .shared-slice-known in
+    rw (c .before .before .word .ensures .0, c .word2 .ensures .0)
+    (words-tell (a .args .r .now) (λ i h. omega (arith, known .given i)) _ (c .before .before .before .before .before .find-faults .ensures))
 
 pub row-right-spec : {M : Type 1} → statement M
 row-right-spec =
     tie.close
     (tie.spec
+    slice-aggregate-find-faults
+    slice-aggregate-find-faults-2
+    slice-aggregate-find-faults-3
+    slice-aggregate-find-faults-4
+    slice-aggregate-find-faults-5
+    find-faults-requires
+    slice-aggregate-word
     word-requires
+    slice-aggregate-word-2
     word-requires-2
-    faults-requires
-    faults-requires-2
-    returns
-    shared-slice-read-result
-    returns-2)
+    returns)
