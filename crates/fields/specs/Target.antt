@@ -10,7 +10,7 @@ use lib.Seq.{getD-set-same, getD-set-other}
 use borrow.Author.Tests.{eqb-true, eqb-false, eq-eqb, ne-eqb}
 use Rattle.lists.specs.Cases.{split, bool-cases, eq-or-ne}
 use Rattle.lists.specs.Product.{same-digits}
-use Rattle.format.specs.Diskette.{Bytes, Geometry, Sound, recordAt, withRecord, slotCount, extents}
+use Rattle.format.specs.Diskette.{Bytes, Geometry, Sound, recordAt, withRecord, slotCount}
 use Rattle.format.specs.Entries.{entryAt, withEntry, rcOf, slotOf, extentOf, countIn, slotFor}
 use Rattle.format.specs.Notes.{noteAt, pendingFor, withNote}
 use Rattle.format.specs.Fcb.{crOf, randomOf}
@@ -72,10 +72,7 @@ module _ (n : ℕ) (fcb : Bytes) where
       split (bool-cases (isRandom n)) (λ r. rw (crAfter-random r) (omega (arith, record-below h)))
       (λ s. rw (crAfter-sequential s) (omega (arith, record-below h)))
 
-  -- a random record that is in range is of an extent that is; a sequential one is at most one past its FCB's
-  pub extent-random-below : isRandom n ≡ true → randomOf fcb ≤ 262143 → targetExtent n fcb < extents
-  extent-random-below r h = rw (extent-random r) (omega arith)
-
+  -- a sequential record's extent is at most one past its FCB's
   pub extent-sequential-high : isRandom n ≡ false → targetExtent n fcb ≤ extentOf fcb + 1
   extent-sequential-high s =
       split (eq-or-ne (crOf fcb) 128) (λ e. rw (extent-past s e) (omega arith)) (λ e. rw (extent-within s e) (omega arith))
