@@ -25,7 +25,8 @@ use Rattle.model.specs.Target.{presentEntry}
 use Rattle.model.specs.Calls.{entryNumber, closedAt, closed}
 use Rattle.table.specs.First.{_&_, here}
 use Rattle.table.specs.Own.{call16}
-use Rattle.current.specs.Current.{slotsSame, current-says, current-low}
+use Rattle.facts.specs.Current.{current-says}
+use Rattle.current.specs.Current.{slotsSame, current-low}
 use Rattle.table.specs.OwnStep.{ownStep, refuses-own, carries-own}
 
 -- ---- slots that are the same: nothing is taken, so nothing changes

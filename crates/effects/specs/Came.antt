@@ -16,7 +16,7 @@ use Rattle.names.specs.Laws.{like-at}
 use Rattle.consistency.specs.Facts.{Fine}
 use Rattle.consistency.specs.Reflect.{used-full}
 use Rattle.rows.specs.Entries.{length-entryAt}
-use Rattle.rows.specs.Find.{empty-says}
+use Rattle.facts.specs.Find.{empty-says}
 use Rattle.model.specs.declared.Session.{Session}
 use Rattle.model.specs.Lent.{Lent, rowsOf}
 use Rattle.model.specs.Closing.{closedImage, closedMap}
@@ -26,7 +26,7 @@ use Rattle.fields.specs.Agree.{SameName}
 use Rattle.fields.specs.Fine.{fine-next}
 use Rattle.fields.specs.Making.{length-nextRow, slot-next, user-next, extent-next}
 use Rattle.fields.specs.Entering.{length-entered, slot-entered, first-entered, name-entered, extent-entered}
-use Rattle.fields.specs.Naming.{named-like, file-named, file-user, file-extent}
+use Rattle.facts.specs.Naming.{named-like, file-named, file-user, file-extent}
 use Rattle.fields.specs.Target.{stays-extent, moves-extent}
 use Rattle.table.specs.Facts.{Fits}
 use Rattle.invariant.specs.Good.{Good}
@@ -38,7 +38,8 @@ use Rattle.effects.specs.Where.{Theirs, was-theirs}
 use Rattle.effects.specs.Book.{Book, settledBy, entryBefore, closedBook, movedBook}
 use Rattle.effects.specs.Change.{Change, asItWas, no-change, then-change}
 use Rattle.effects.specs.Closed.{byName, closed-there, closed-change}
-use Rattle.current.specs.Current.{fcb-says, current-says}
+use Rattle.facts.specs.Current.{current-says}
+use Rattle.current.specs.Current.{fcb-says}
 use Rattle.effects.specs.Picked.{made-here, made-change, made-names-stay}
 use Rattle.effects.specs.Entered.{entered-cur}
 

@@ -1,6 +1,6 @@
 -- The answer of a look-up: what it is, what it says, and the turns of the loop that makes it.
 use mathlib.Core.Path.{_≡_, refl, sym, ap, _∙_}
-use mathlib.Core.Bool.{Bool, true, false}
+use mathlib.Core.Bool.{Bool, true, false, not}
 use Prim.Native.Nat.{ℕ, _≤_, _<_}
 use native.Mathlib.Omega.{arith}
 use borrow.Author.Tests.{lt-ltb, le-ltb}
@@ -37,6 +37,13 @@ found-so r f = ap isFound (f .is)
 pub not-found : (r : Found) → isFound r ≡ false → r ≡ Nothing
 not-found (At k) h = clash h
 not-found Nothing h = refl
+
+-- the test of a row that asks for something found
+pub found-row : (r : Found) {e : ℕ} → r ≡ At e → not (isFound r) ≡ false
+found-row r q = rw q
+
+pub missed-row : (r : Found) → r ≡ Nothing → not (isFound r) ≡ true
+missed-row r q = rw q
 
 -- ---- a number among n
 pub found-at : (n k : ℕ) → k < n → foundBelow n k ≡ At k

@@ -22,21 +22,24 @@ use Rattle.consistency.specs.Facts.{Fine}
 use Rattle.consistency.specs.Reflect.{used-full}
 use Rattle.notes.specs.Free.{free-is, free-spare}
 use Rattle.rows.specs.Entries.{length-entryAt, entry-stored}
-use Rattle.rows.specs.Find.{file-says, no-file-says, empty-says}
+use Rattle.facts.specs.Find.{file-says, no-file-says, empty-says}
 use Rattle.fields.specs.Agree.{isFile-cong, used-cong}
 use Rattle.fields.specs.Images.{row-closedImage-other}
 use Rattle.fields.specs.Fine.{fine-next}
 use Rattle.fields.specs.Making.{length-nextRow, user-next, name-next, slot-next, extent-next}
 use Rattle.fields.specs.Entering.{slot-entered}
-use Rattle.fields.specs.Naming.{named-intro, file-intro, file-user, file-like, file-used}
+use Rattle.facts.specs.Naming.{named-intro, file-intro, file-user, file-like}
+use Rattle.fields.specs.Naming.{file-used}
 use Rattle.fields.specs.Target.{map-written-kept, targetSlot-below}
-use Rattle.current.specs.Current.{SlotOk, slot-same, slot-pending, Current, fcb-says, current-says, current-file, current-slot}
+use Rattle.facts.specs.Current.{Current, current-says}
+use Rattle.current.specs.Current.{SlotOk, slot-same, slot-pending, fcb-says, current-file, current-slot}
 use Rattle.table.specs.Facts.{Fits, Reads, Writes}
 use Rattle.table.specs.Plans.{Block, there, free, There, Planned, stay, move, make, planned-read, planned-write}
 use Rattle.invariant.specs.Good.{Good}
 use Rattle.invariant.specs.Close.{pending-spare}
 use Rattle.invariant.specs.Updates.{good-taken, good-record, good-made}
-use Rattle.invariant.specs.CloseGood.{pending-block, current-below, current-used, closed-file, closed-free, good-closed}
+use Rattle.notes.specs.Numbers.{pending-block}
+use Rattle.invariant.specs.CloseGood.{current-below, current-used, closed-file, closed-free, good-closed}
 
 -- block b serves a write for slot j: it is past the directory, and free where the FCB has none in its slot
 pub record BlockFor (G : Geometry) (map fcb : Bytes) (j b : ℕ) : Type 0 where

@@ -23,7 +23,8 @@ use Rattle.fields.specs.Agree.{isFile-cong}
 use Rattle.fields.specs.Fine.{fine-renamed}
 use Rattle.fields.specs.Making.{length-renamedRow, user-renamed, name-renamed, extent-renamed, slot-renamed}
 use Rattle.fields.specs.Changing.{length-changedRows, row-picked, row-unpicked, length-erasedRow, empty-erased}
-use Rattle.fields.specs.Naming.{named-user, named-like, named-used, named-intro}
+use Rattle.facts.specs.Naming.{named-user, named-like, named-intro}
+use Rattle.fields.specs.Naming.{named-used}
 use Rattle.fields.specs.Target.{place-below}
 use Rattle.invariant.specs.Steps.{fresh-inv, take-inv, keep-inv, make-inv}
 use Rattle.invariant.specs.Change.{RenamedTo, erase-inv, rename-inv}
