@@ -20,7 +20,7 @@ use Rattle.model.specs.declared.Plan.the-variants.{Stay, Move, Make}
 use Rattle.model.specs.Lent.{Lent, rowsOf}
 use Rattle.model.specs.Target.{targetExtent, targetRecord, targetSlot, crAfter, presentEntry, stays, targetEntry, blockThere, plan}
 use Rattle.model.specs.Table.{firstRow}
-use Rattle.consistency.specs.Reflect.{consistent-facts}
+use Rattle.consistency.specs.Reflect.{image-facts}
 use Rattle.notes.specs.Numbers.{pending-block}
 use Rattle.notes.specs.Free.{free-is}
 use Rattle.facts.specs.Find.{file-says, empty-says}
@@ -62,10 +62,9 @@ module _ {G : Geometry} (S : Sound G) (n : ℕ) (l : Lent) (s : Session) (map-lo
     (right : consistent G (l .image) ≡ true) (low : s .user ≤ 15) where
   -- the entry of a file that was found: a block in a slot of it
   row-block : (name : Bytes) (q ext t j b : ℕ) → findFile G (rowsOf G l) (s .user) name q ext ≡ At t → j < slotCount → slotOf (rowsOf G l t) j ≡ b → (b ≡ 0 → ⊥) → b < G .blocks
-  unfolding consistent
   row-block name q ext t j b found h is real =
       let first = file-says G (rowsOf G l) (s .user) name q ext t found in
-      let fine = consistent-facts G (rowsOf G l) right .fine t (first .below) (file-used G (s .user) name q ext (rowsOf G l t) (first .holds) low) in
+      let fine = image-facts G (l .image) right .fine t (first .below) (file-used G (s .user) name q ext (rowsOf G l t) (first .holds) low) in
       subst (λ (x : ℕ). x < G .blocks) is (fine .high j h (λ z. real (sym is ∙ z)))
 
   module _ (e : ℕ) (at : presentEntry G (s .user) l ≡ At e) where

@@ -15,7 +15,7 @@ use Rattle.format.specs.Consistent.{consistent}
 use Rattle.format.specs.Notes.{mapRight}
 use Rattle.format.specs.Fcb.{randomOf}
 use Rattle.format.specs.Found.{isFound}
-use Rattle.facts.specs.Found.{not-found}
+use Rattle.facts.specs.Found.{not-found, missed-row}
 use Rattle.format.specs.declared.Found.{Found}
 use Rattle.format.specs.declared.Found.the-variants.{Nothing}
 use Rattle.model.specs.declared.Session.{Session}
@@ -263,8 +263,8 @@ module _ (G : Geometry) (argument : ℕ) (l : Lent) (s : Session) where
   pub over-first : Ready G 17 l s → nameRight true (l .fcb) 1 ≡ true → (exOf (l .fcb) ≤ 31) ⊎ (exOf (l .fcb) ≡ 63)
       → findHit G (rowsOf G l) (s .user) (patternOf (l .fcb)) 0 ≡ Nothing → verdict G 17 argument l s ≡ Refused SearchOver
   over-first r name ex none =
-      refused-own call17 SearchOver r (later (ap not name) (later (pattern-right _ ex) (here (ap (λ (x : Found). not (isFound x)) none) refl)))
+      refused-own call17 SearchOver r (later (ap not name) (later (pattern-right _ ex) (here (missed-row _ none) refl)))
 
   pub over-next : Ready G 18 l s → searchOn s ≡ true → findHit G (rowsOf G l) (s .user) (s .pattern) (s .place) ≡ Nothing
       → verdict G 18 argument l s ≡ Refused SearchOver
-  over-next r on none = refused-own call18 SearchOver r (later (ap not on) (here (ap (λ (x : Found). not (isFound x)) none) refl))
+  over-next r on none = refused-own call18 SearchOver r (later (ap not on) (here (missed-row _ none) refl))
