@@ -61,7 +61,7 @@ module _ {G : Geometry} (S : Sound G) (img map : Bytes) (g : Good G img map) (us
 
   -- ---- the rows and notes afterwards
   there : (k : ℕ) → k < G .entries → (k ≡ e → ⊥) → entryAt G (closedImage G img e fcb) k ≡ entryAt G img k
-  there k l n = row-closedImage-other S img (g .image-long) e current-below fcb k l (λ z. n (sym z))
+  there = row-closedImage-other S img (g .image-long) e current-below fcb
 
   here : entryAt G (closedImage G img e fcb) e ≡ closedRow G (entryAt G img e) fcb
   here = row-closedImage S img (g .image-long) e current-below fcb
