@@ -21,10 +21,6 @@ pub pending-entry : (e j : ℕ) → j < 16 → pendingEntry (pendingFor e j) ≡
 unfolding pendingFor pendingEntry
 pending-entry e j h = omega arith
 
-pub pending-slot : (e j : ℕ) → j < 16 → pendingSlot (pendingFor e j) ≡ j
-unfolding pendingFor pendingSlot
-pending-slot e j h = omega arith
-
 pub pending-once : (e j f k : ℕ) → j < 16 → k < 16 → pendingFor e j ≡ pendingFor f k → (e ≡ f) × (j ≡ k)
 unfolding pendingFor
 pending-once e j f k h l q = (omega arith, omega arith)

@@ -28,7 +28,7 @@ use Rattle.model.specs.Table.{oneOf, isCall, parametersRight, diskRight, Row, v
 use Rattle.table.specs.First.{_&_, Decides, here, later, refused-same, refused-decides, decides-refused}
 use Rattle.table.specs.Own.{when, Call, call13, call15, call16, call17, call18, call19, call20, call21, call22, call23, call32, call33, call34, call35, call36, call46, call98, at-one, call-of, ownRows, rowsFor, verdict-rows, verdict-unlisted}
 use Rattle.table.specs.Facts.{Ready}
-use Rattle.table.specs.Reflect.{pattern-right, fits-of, drive-of, parameters-right, image-of, map-of, disk-right}
+use Rattle.table.specs.Reflect.{pattern-right, parameters-right, disk-right, ready-of}
 
 -- ---- codes of a list of rows
 -- the test passes at every row's code
@@ -140,13 +140,10 @@ module _ (G : Geometry) (argument : ℕ) (l : Lent) (s : Session) where
   pub own-given : (code : Code) {n : ℕ} (c : Call n) → Decides code (ownRows G argument l s c) → gives n code ≡ true
   own-given code {n} c d = decided-passes (gives n) code (ownRows G argument l s c) (all-given c) d
 
-  ready-of : (n : ℕ) → parametersRight G l n s ≡ true → diskRight G l n ≡ true → Ready G n l s
-  ready-of n p d = record { fits = fits-of G n l s p; drive = drive-of G n l s p; image-right = image-of G n l s d; map-right = map-of G n l s d }
-
   refuses-call : (code : Code) {n : ℕ} (c : Call n) → Decides code (rowsFor G argument l s c) → Refuses n code
   refuses-call code c (here t q) = parameter (sym q) c (not-true _ t)
   refuses-call code c (later f (here t q)) = disk (sym q) c (not-true _ t)
-  refuses-call code {n} c (later f (later g d)) = own c (own-given code c d) (ready-of n (not-false _ f) (not-false _ g)) d
+  refuses-call code {n} c (later f (later g d)) = own c (own-given code c d) (ready-of G n l s (not-false _ f) (not-false _ g)) d
 
   pub refuses : (n : ℕ) (code : Code) → verdict G n argument l s ≡ Refused code → Refuses n code
   refuses n code q =
