@@ -8,7 +8,7 @@ use borrow.Author.Tests.{le-leb, lt-leb, ne-eqb}
 use Rattle.lists.specs.Cases.{clash}
 use Rattle.lists.specs.Tests.{_and_, _or_, and-both, and-fails-left, and-fails-right, or-left, or-right, or-then}
 use Rattle.lists.specs.Below.{allBelow, all-at}
-use Rattle.model.specs.Table.{oneOf, usesFcb, isCall, plainCalls}
+use Rattle.model.specs.Table.{oneOf, usesFcb, isCall}
 
 same : Bool → Bool → Bool
 same true b = b
@@ -63,10 +63,6 @@ module _ (n : ℕ) (byte : n < 256) where
 pub call-fcb : (n : ℕ) → usesFcb n ≡ true → isCall n ≡ true
 unfolding isCall
 call-fcb n u = or-left _ _ u
-
-pub call-plain : (n : ℕ) → oneOf n plainCalls ≡ true → isCall n ≡ true
-unfolding isCall
-call-plain n u = or-right _ _ u
 
 -- of the numbers that don't use the FCB the last decides
 pub call-last : (n : ℕ) → usesFcb n ≡ false → (n ≡ 13 → ⊥) → (n ≡ 18 → ⊥) → (n ≡ 32 → ⊥) → (n ≡ 46 → ⊥) → isCall n ≡ eqb n 98

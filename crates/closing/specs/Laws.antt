@@ -1,6 +1,6 @@
 -- What the steps of a close come to, and call 16 by the entry of its FCB.
-use mathlib.Core.Path.{_≡_, refl, sym, ap, _∙_}
-use mathlib.Core.Bool.{true, false, not}
+use mathlib.Core.Path.{_≡_, refl, sym, _∙_}
+use mathlib.Core.Bool.{true, false}
 use Prim.Native.Nat.{ℕ, _<_}
 use lib.Dec.{eqb}
 use lib.ListN.{length, getD, set}
@@ -13,7 +13,7 @@ use Rattle.lists.specs.Fold.{foldBelow, fold-keeps}
 use Rattle.format.specs.Diskette.{Bytes, Geometry, slotCount}
 use Rattle.format.specs.Entries.{entryAt, withEntry, slotsOf}
 use Rattle.format.specs.Fcb.{current}
-use Rattle.format.specs.Found.{isFound}
+use Rattle.facts.specs.Found.{found-row, missed-row}
 use Rattle.format.specs.declared.Found.{Found}
 use Rattle.format.specs.declared.Found.the-variants.{At, Nothing}
 use Rattle.model.specs.declared.Session.{Session}
@@ -25,7 +25,8 @@ use Rattle.model.specs.Target.{presentEntry}
 use Rattle.model.specs.Calls.{entryNumber, closedAt, closed}
 use Rattle.table.specs.First.{_&_, here}
 use Rattle.table.specs.Own.{call16}
-use Rattle.current.specs.Current.{slotsSame, current-says, current-low}
+use Rattle.facts.specs.Current.{current-says}
+use Rattle.current.specs.Current.{slotsSame, current-low}
 use Rattle.table.specs.OwnStep.{ownStep, refuses-own, carries-own}
 
 -- ---- slots that are the same: nothing is taken, so nothing changes
@@ -68,7 +69,7 @@ module _ (G : Geometry) (img map fcb : Bytes) (s : Session) (found : Found) (is 
   pub close-refused : (buffer : Bytes) (r : Answer) → found ≡ Nothing → r ≡ answerOf Failed s → outcome r img map fcb buffer ≡ ownStep G 0 (lend img map fcb buffer) s call16
   unfolding presentEntry
   close-refused buffer r q a =
-      refuses-own G 0 (lend img map fcb buffer) s call16 Failed r (here (ap (λ (f : Found). not (isFound f)) (sym is ∙ q)) refl) a
+      refuses-own G 0 (lend img map fcb buffer) s call16 Failed r (here (missed-row _ (sym is ∙ q)) refl) a
 
   -- it is, and e is its entry
   pub close-low : (e : ℕ) → found ≡ At e → e < G .entries
@@ -81,4 +82,4 @@ module _ (G : Geometry) (img map fcb : Bytes) (s : Session) (found : Found) (is 
   unfolding presentEntry closed closedAt
   close-carried buffer e r i m f q a b c d =
       let p : current G (entryAt G img) map (s .user) fcb ≡ At e = sym is ∙ q in
-      carries-own G 0 (lend img map fcb buffer) s call16 (outcome r i m f buffer) (ap (λ (f : Found). not (isFound f)) p & tt) (rw (p, a, b, c, d))
+      carries-own G 0 (lend img map fcb buffer) s call16 (outcome r i m f buffer) (found-row _ p & tt) (rw (p, a, b, c, d))

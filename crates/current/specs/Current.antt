@@ -6,7 +6,7 @@ use native.Mathlib.Omega.{arith}
 use lib.Dec.{eqb}
 use lib.ListN.{getD}
 use borrow.Author.Tests.{leb-true, le-leb, eqb-true, eq-eqb, ne-eqb}
-use Rattle.lists.specs.Cases.{split, bool-cases, bool-ext, refute, lt-or-le}
+use Rattle.lists.specs.Cases.{split, bool-ext, refute, lt-or-le}
 use Rattle.lists.specs.Tests.{_and_, _or_, and-left, and-right, and-both, and-then, or-then, or-left, or-right, or-cases}
 use Rattle.lists.specs.Below.{allBelow, all-at, all-intro}
 use Rattle.lanes.specs.Lanes.{wordAt, word-same, same-word}
@@ -16,9 +16,10 @@ use Rattle.format.specs.Entries.{Rows, slotsOf, slotOf, extentOf, findFile}
 use Rattle.format.specs.Notes.{pendingFor, noteAt}
 use Rattle.format.specs.Fcb.{crOf, fcbRight, slotFits, slotsFit, current}
 use Rattle.facts.specs.Slots.{getD-slotsOf}
-use Rattle.facts.specs.Found.{FirstAt, at-not-nothing, at-once, found-cases}
+use Rattle.facts.specs.Found.{FirstAt}
+use Rattle.facts.specs.Find.{fileTest, file-says}
+use Rattle.facts.specs.Current.{Current, current-fitting}
 use Rattle.format.specs.declared.Found.the-variants.{At, Nothing}
-use Rattle.rows.specs.Find.{fileTest, file-says}
 use Rattle.consistency.specs.Facts.{Numbers}
 use Rattle.consistency.specs.Reflect.{numbers-elim, numbers-intro}
 
@@ -107,43 +108,11 @@ module _ (es fs : Bytes) where
       (λ t. eq-eqb _ _ (r .0 ∙ same-words t 8 (omega arith) ∙ sym (s .0)))
 
 -- ---- the FCB is current, and e is its entry
-pub record Current (G : Geometry) (d : Rows) (map : Bytes) (user : ℕ) (fcb : Bytes) (e : ℕ) : Type 0 where
-  pub right : fcbRight fcb ≡ true
-  pub found : findFile G d user fcb 1 (extentOf fcb) ≡ At e
-  pub fits : slotsFit map e (slotsOf (d e)) (slotsOf fcb) ≡ true
-
 module _ (G : Geometry) (d : Rows) (map : Bytes) (user : ℕ) (fcb : Bytes) where
-  -- the ways to be current or not, in the order in which they are tested
-  pub current-wrong : fcbRight fcb ≡ false → current G d map user fcb ≡ Nothing
-  unfolding current
-  current-wrong f = rw f
-
-  pub current-missing : fcbRight fcb ≡ true → findFile G d user fcb 1 (extentOf fcb) ≡ Nothing → current G d map user fcb ≡ Nothing
-  unfolding current
-  current-missing t q = rw (t, q)
-
-  pub current-fitting : (e : ℕ) → fcbRight fcb ≡ true → findFile G d user fcb 1 (extentOf fcb) ≡ At e
-      → current G d map user fcb ≡ cond (slotsFit map e (slotsOf (d e)) (slotsOf fcb)) (At e) Nothing
-  unfolding current
-  current-fitting e t q = rw (t, q)
-
-  -- the same, from the slots taken out and the test of them
+  -- from the slots taken out and the test of them
   pub current-by : (e : ℕ) (es fs : Bytes) (f : Bool) → fcbRight fcb ≡ true → findFile G d user fcb 1 (extentOf fcb) ≡ At e
       → es ≡ slotsOf (d e) → fs ≡ slotsOf fcb → f ≡ slotsFit map e es fs → cond f (At e) Nothing ≡ current G d map user fcb
-  current-by e es fs f t q he hf h = rw (h, he, hf) (sym (current-fitting e t q))
-
-  pub current-is : (e : ℕ) → Current G d map user fcb e → current G d map user fcb ≡ At e
-  current-is e c = current-fitting e (c .right) (c .found) ∙ rw (c .fits)
-
-  pub current-says : (e : ℕ) → current G d map user fcb ≡ At e → Current G d map user fcb e
-  current-says e q =
-      split (bool-cases (fcbRight fcb))
-      (λ t. found-cases (findFile G d user fcb 1 (extentOf fcb))
-      (λ k w. split (bool-cases (slotsFit map k (slotsOf (d k)) (slotsOf fcb)))
-      (λ f. let z : k ≡ e = at-once k e (sym (current-fitting k t w ∙ rw f) ∙ q) in rw (← z) record { right = t; found = w; fits = f })
-      (λ f. absurd (at-not-nothing e (sym q ∙ current-fitting k t w ∙ rw f))))
-      (λ w. absurd (at-not-nothing e (sym q ∙ current-missing t w))))
-      (λ f. absurd (at-not-nothing e (sym q ∙ current-wrong f)))
+  current-by e es fs f t q he hf h = rw (h, he, hf) (sym (current-fitting G d map user fcb e t q))
 
   -- the entry of a current FCB is the first of its file
   pub current-file : (e : ℕ) → Current G d map user fcb e → FirstAt (fileTest G d user fcb 1 (extentOf fcb)) 0 (G .entries) e
@@ -154,7 +123,3 @@ module _ (G : Geometry) (d : Rows) (map : Bytes) (user : ℕ) (fcb : Bytes) wher
 
   pub current-slot : (e : ℕ) → Current G d map user fcb e → (j : ℕ) → j < slotCount → SlotOk map e (d e) fcb j
   current-slot e c = slots-say map e (d e) fcb (c .fits)
-
-  -- where none is the FCB's, it is not current
-  pub current-none : ((e : ℕ) → Current G d map user fcb e → ⊥) → current G d map user fcb ≡ Nothing
-  current-none f = found-cases (current G d map user fcb) (λ e q. absurd (f e (current-says e q))) (λ q. q)

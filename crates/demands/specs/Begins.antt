@@ -10,7 +10,7 @@ use Rattle.lists.specs.Cases.{split, bool-cases, not-both}
 use Rattle.lists.specs.Tests.{_or_, and-left, and-right}
 use Rattle.format.specs.Diskette.{Bytes, Geometry, Sound, imageBytes, recordBytes}
 use Rattle.format.specs.Names.{nameRight}
-use Rattle.format.specs.Entries.{entryAt, exOf, extentOf, readOnly, empty, used, isFile, findEmpty}
+use Rattle.format.specs.Entries.{entryAt, exOf, extentOf, readOnly, empty, isFile, findEmpty}
 use Rattle.format.specs.Notes.{freeNote, noteAt, freshNote, freshMap, isListed, findFree}
 use Rattle.format.specs.Fcb.{fcbBytes, crOf, fcbRight}
 use Rattle.facts.specs.Found.{FoundAt, found-cases, at-not-nothing}
@@ -22,7 +22,7 @@ use Rattle.consistency.specs.Reflect.{used-full}
 use Rattle.notes.specs.Free.{none-free}
 use Rattle.notes.specs.Right.{fresh-at}
 use Rattle.rows.specs.Entries.{entry-stored}
-use Rattle.rows.specs.Find.{empty-says, none-empty-says, no-file-is}
+use Rattle.facts.specs.Find.{empty-says, none-empty-says, no-file-is}
 use Rattle.model.specs.declared.Asked.{Asked}
 use Rattle.model.specs.declared.Session.{Session}
 use Rattle.model.specs.Lent.{Lent, rowsOf, Outcome}

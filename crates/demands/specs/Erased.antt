@@ -1,19 +1,17 @@
 -- The demands speak of something: an erased disk is accepted by the log-in.
 use mathlib.Core.Path.{_≡_, refl, ap, sym, _∙_}
 use mathlib.Core.Bool.{true}
-use Prim.Native.Nat.{ℕ, _+_, _≤_, _<_}
-use native.Mathlib.Omega.{arith}
-use lib.ListN.{length, replicate, getD-replicate, length-replicate}
+use Prim.Native.Nat.{ℕ, _<_}
+use lib.ListN.{length, replicate, length-replicate}
 use borrow.Author.Tests.{eq-eqb}
-use Rattle.lists.specs.Cases.{clash, not-both}
+use Rattle.lists.specs.Cases.{clash}
 use Rattle.lists.specs.Tests.{_or_}
-use Rattle.lists.specs.Splice.{getD-part}
-use Rattle.format.specs.Diskette.{Bytes, Geometry, Sound, imageBytes, recordBytes, entryBytes}
-use Rattle.format.specs.Entries.{entryAt, entryPlace, empty, used}
+use Rattle.format.specs.Diskette.{Bytes, Geometry, Sound, imageBytes, recordBytes}
+use Rattle.format.specs.Entries.{entryAt, empty}
 use Rattle.format.specs.Consistent.{consistent}
 use Rattle.format.specs.Fcb.{fcbBytes}
-use Rattle.consistency.specs.Reflect.{facts-consistent, used-full}
-use Rattle.rows.specs.Entries.{entry-fits}
+use Rattle.consistency.specs.Reflect.{all-empty, facts-image}
+use Rattle.rows.specs.Entries.{entry-of-same}
 use Rattle.model.specs.Table.{usesFcb, oneOf, verdict}
 use Rattle.table.specs.Own.{call13}
 use Rattle.table.specs.Facts.{Ready}
@@ -32,25 +30,11 @@ module _ {G : Geometry} (S : Sound G) (size : ℕ) (is : size ≡ imageBytes G) 
   length-erased = length-replicate {A = ℕ} size 229 ∙ is
 
   pub erased-empty : (e : ℕ) → e < G .entries → empty (entryAt G erased e) ≡ true
-  unfolding entryAt erased empty
-  erased-empty e h =
-      let room : entryPlace G e + entryBytes ≤ imageBytes G = entry-fits S e h in
-      eq-eqb _ _
-      (getD-part erased (entryPlace G e) entryBytes (omega (arith, length-erased)) 0 (omega arith) ∙ getD-replicate {A = ℕ} size (entryPlace G e + 0) 229 0 (omega arith))
-
-  unused : {A : Type 0} (e : ℕ) → e < G .entries → used (entryAt G erased e) ≡ true → A
-  unused e h u = not-both (empty (entryAt G erased e)) (erased-empty e h) (used-full (entryAt G erased e) u)
+  unfolding erased empty
+  erased-empty e h = eq-eqb _ _ (entry-of-same S size 229 is e h)
 
   pub erased-consistent : consistent G erased ≡ true
-  unfolding consistent
-  erased-consistent =
-      facts-consistent G (entryAt G erased) record {
-        fine = λ e h u. unused e h u;
-        other = λ e h u. erased-empty e h;
-        once-entry = λ b e j f k a c. unused e (a .entry) (a .uses);
-        once-slot = λ b e j f k a c. unused e (a .entry) (a .uses);
-        apart = λ e f h l u w k. unused e h u;
-      }
+  erased-consistent = facts-image G erased (all-empty G (entryAt G erased) erased-empty)
 
   -- with any map, FCB, buffer and session that fit
   pub erased-accepted : (d : Disk) (q : Request) → d .image ≡ erased → length (d .map) ≡ G .blocks → InRange G (d .session)

@@ -21,7 +21,7 @@ use Rattle.model.specs.Target.{targetExtent, targetRecord}
 use Rattle.model.specs.Table.{oneOf, usesFcb}
 use Rattle.model.specs.Step.{step}
 use Rattle.fields.specs.Agree.{SameName, named-cong}
-use Rattle.fields.specs.Naming.{named-user, named-like}
+use Rattle.facts.specs.Naming.{named-user, named-like}
 use Rattle.table.specs.Own.{Call, call13, call15, call16, call17, call18, call19, call20, call21, call22, call23, call32, call33, call34, call35, call36, call46, call98, at-one}
 use Rattle.table.specs.First.{_&_}
 use Rattle.table.specs.Facts.{Own, Ready}

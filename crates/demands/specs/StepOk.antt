@@ -17,7 +17,7 @@ use Rattle.format.specs.Fcb.{fcbBytes}
 use Rattle.format.specs.declared.Found.the-variants.{At}
 use Rattle.names.specs.Laws.{like-intro}
 use Rattle.notes.specs.Right.{fresh-at, freed-at}
-use Rattle.rows.specs.Find.{empty-says}
+use Rattle.facts.specs.Find.{empty-says}
 use Rattle.model.specs.declared.Asked.{Asked}
 use Rattle.model.specs.declared.Session.{Session}
 use Rattle.model.specs.Lent.{Lent, rowsOf, Outcome}
@@ -28,7 +28,8 @@ use Rattle.model.specs.Table.{oneOf, usesFcb}
 use Rattle.model.specs.Calls.{loggedIn, freed, userSet, openedAt, opened, closedAt, closed, foundAt, searched, deletes, deleted, createdAt, created, renamed, sized, positioned, space, read, written}
 use Rattle.model.specs.Step.{effect, step}
 use Rattle.fields.specs.Making.{length-madeRow, user-made, name-made}
-use Rattle.fields.specs.Naming.{named-used, named-intro}
+use Rattle.facts.specs.Naming.{named-intro}
+use Rattle.fields.specs.Naming.{named-used}
 use Rattle.table.specs.Own.{Call, call13, call15, call16, call17, call18, call19, call20, call21, call22, call23, call32, call33, call34, call35, call36, call46, call98, at-one}
 use Rattle.table.specs.First.{_&_}
 use Rattle.table.specs.Facts.{Fits, Closes, Makes, Renames, Own, Ready}

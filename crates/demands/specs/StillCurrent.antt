@@ -12,7 +12,7 @@ use Rattle.format.specs.Fcb.{crOf, current}
 use Rattle.facts.specs.Found.{FoundAt}
 use Rattle.format.specs.declared.Found.the-variants.{At}
 use Rattle.rows.specs.Entries.{entry-stored}
-use Rattle.rows.specs.Find.{file-says, empty-says}
+use Rattle.facts.specs.Find.{file-says, empty-says}
 use Rattle.model.specs.declared.Session.{Session}
 use Rattle.model.specs.Lent.{Lent, rowsOf, Outcome}
 use Rattle.model.specs.Entering.{madeRow}
@@ -21,7 +21,8 @@ use Rattle.model.specs.Table.{oneOf, askedEntry}
 use Rattle.model.specs.Calls.{openedAt, opened, closedAt, closed, createdAt, created}
 use Rattle.fields.specs.Fine.{fine-made}
 use Rattle.fields.specs.Making.{length-madeRow, user-made}
-use Rattle.fields.specs.Naming.{file-user, file-used}
+use Rattle.facts.specs.Naming.{file-user}
+use Rattle.fields.specs.Naming.{file-used}
 use Rattle.table.specs.First.{_&_}
 use Rattle.table.specs.Own.{Call, call15, call16, call20, call21, call22, call33, call34, at-one}
 use Rattle.table.specs.Facts.{Fits, Opens, Closes, Makes, Own}

@@ -5,7 +5,6 @@ use mathlib.Core.Bool.{true, false}
 use Prim.Native.Nat.{ℕ, _≤_, _<_}
 use native.Mathlib.Omega.{arith}
 use lib.ListN.{length, getD}
-use Rattle.lists.specs.Cases.{not-both}
 use Rattle.format.specs.Diskette.{Bytes, Geometry, Sound, entryBytes, slotCount, extents}
 use Rattle.format.specs.Entries.{entryAt, withEntry, slotOf, userOf, extentOf, used, empty, named, isFile, findEmpty}
 use Rattle.format.specs.Notes.{freeNote, noteAt}
@@ -14,9 +13,9 @@ use Rattle.format.specs.Fcb.{fcbBytes}
 use Rattle.format.specs.declared.Found.the-variants.{At, Nothing}
 use Rattle.names.specs.Laws.{like-at}
 use Rattle.consistency.specs.Facts.{Fine}
-use Rattle.consistency.specs.Reflect.{used-full}
+use Rattle.consistency.specs.Reflect.{empty-elsewhere}
 use Rattle.rows.specs.Entries.{length-entryAt}
-use Rattle.rows.specs.Find.{empty-says}
+use Rattle.facts.specs.Find.{empty-says}
 use Rattle.model.specs.declared.Session.{Session}
 use Rattle.model.specs.Lent.{Lent, rowsOf}
 use Rattle.model.specs.Closing.{closedImage, closedMap}
@@ -26,7 +25,7 @@ use Rattle.fields.specs.Agree.{SameName}
 use Rattle.fields.specs.Fine.{fine-next}
 use Rattle.fields.specs.Making.{length-nextRow, slot-next, user-next, extent-next}
 use Rattle.fields.specs.Entering.{length-entered, slot-entered, first-entered, name-entered, extent-entered}
-use Rattle.fields.specs.Naming.{named-like, file-named, file-user, file-extent}
+use Rattle.facts.specs.Naming.{named-like, file-named, file-user, file-extent}
 use Rattle.fields.specs.Target.{stays-extent, moves-extent}
 use Rattle.table.specs.Facts.{Fits}
 use Rattle.invariant.specs.Good.{Good}
@@ -37,8 +36,10 @@ use Rattle.effects.specs.Cur.{Cur, current-cur, cur-uses, cur-mine}
 use Rattle.effects.specs.Where.{Theirs, was-theirs}
 use Rattle.effects.specs.Book.{Book, settledBy, entryBefore, closedBook, movedBook}
 use Rattle.effects.specs.Change.{Change, asItWas, no-change, then-change}
-use Rattle.effects.specs.Closed.{byName, closed-there, closed-change}
-use Rattle.current.specs.Current.{fcb-says, current-says}
+use Rattle.fields.specs.Images.{row-closedImage-other}
+use Rattle.effects.specs.Closed.{byName, closed-change}
+use Rattle.facts.specs.Current.{current-says}
+use Rattle.current.specs.Current.{fcb-says}
 use Rattle.effects.specs.Picked.{made-here, made-change, made-names-stay}
 use Rattle.effects.specs.Entered.{entered-cur}
 
@@ -136,7 +137,7 @@ module _ {G : Geometry} (S : Sound G) (n : ℕ) (l : Lent) (s : Session) (g : Go
         ∙ ap (λ (x : ℕ). extentOf (rowsOf G l x)) q ∙ file-extent G (s .user) (l .fcb) 1 (extentOf (l .fcb)) (rowsOf G l e) (present-cur .file))
 
     target-stays : entryAt G (closedImage G (l .image) e (l .fcb)) t ≡ rowsOf G l t
-    target-stays = closed-there S (l .image) (l .map) g (s .user) (f .user-low) (l .fcb) e present-cur t below other
+    target-stays = row-closedImage-other S (l .image) (g .image-long) e (present-cur .low) (l .fcb) t below other
 
     move-slot : slotOf (rowsOf G l t) (targetSlot G n (l .fcb)) ≡ blockThere G n (s .user) l
     move-slot = sym (move-block G n (s .user) l t go target)
@@ -176,9 +177,9 @@ module _ {G : Geometry} (S : Sound G) (n : ℕ) (l : Lent) (s : Session) (g : Go
     room-below = empty-says G (rowsOf G l) t room .below
 
     elsewhere : t ≡ e → ⊥
-    elsewhere q =
-        not-both (empty (rowsOf G l t)) (empty-says G (rowsOf G l) t room .holds)
-        (ap (λ (x : ℕ). empty (rowsOf G l x)) q ∙ used-full (rowsOf G l e) (cur-uses G (viewOf G (l .image) (l .map)) (s .user) (f .user-low) (l .fcb) e present-cur))
+    elsewhere =
+        empty-elsewhere (rowsOf G l) t e (empty-says G (rowsOf G l) t room .holds)
+        (cur-uses G (viewOf G (l .image) (l .map)) (s .user) (f .user-low) (l .fcb) e present-cur)
 
     long : length (rowsOf G l e) ≡ entryBytes
     long = length-entryAt S (l .image) (g .image-long) e (present-cur .low)
@@ -216,7 +217,7 @@ module _ {G : Geometry} (S : Sound G) (n : ℕ) (l : Lent) (s : Session) (g : Go
     void : empty (entryAt G mid t) ≡ true
     unfolding mid
     void =
-        ap empty (closed-there S (l .image) (l .map) g (s .user) (f .user-low) (l .fcb) e present-cur t room-below elsewhere)
+        ap empty (row-closedImage-other S (l .image) (g .image-long) e (present-cur .low) (l .fcb) t room-below elsewhere)
         ∙ empty-says G (rowsOf G l) t room .holds
 
     new : Bytes

@@ -16,7 +16,6 @@ use Rattle.fields.specs.Images.{row-closedImage-other, record-closedImage}
 use Rattle.invariant.specs.Good.{Good}
 use Rattle.invariant.specs.CloseGood.{good-closed}
 use Rattle.effects.specs.View.{viewOf, Names}
-use Rattle.effects.specs.Effect.{RecsStay}
 use Rattle.effects.specs.Steps.{NamesUsed, one-effect, keeps-by, held-named}
 use Rattle.fields.specs.Naming.{named-used}
 use Rattle.effects.specs.Cur.{Cur, cur-facts, cur-named}
@@ -41,12 +40,6 @@ module _ {G : Geometry} (S : Sound G) (img map : Bytes) (g : Good G img map) (us
   whole : length (closedRow G (entryAt G img e) fcb) ≡ entryBytes
   whole = length-closedRow G (entryAt G img e) fcb long
 
-  pub closed-there : (k : ℕ) → k < G .entries → (k ≡ e → ⊥) → entryAt G (closedImage G img e fcb) k ≡ entryAt G img k
-  closed-there k l n = row-closedImage-other S img (g .image-long) e (c .low) fcb k l (λ z. n (sym z))
-
-  closed-recs : RecsStay G (viewOf G img map) (viewOf G (closedImage G img e fcb) (closedMap (entryAt G img e) fcb map))
-  closed-recs d p b = record-closedImage S img (g .image-long) e (c .low) fcb d p b
-
   -- a block that the close takes was pending for its entry
   taken-noted : (b : ℕ) (t : Takes (entryAt G img e) fcb b) → noteAt map b ≡ pendingFor e (t .slot)
   taken-noted b t =
@@ -65,7 +58,8 @@ module _ {G : Geometry} (S : Sound G) (img map : Bytes) (g : Good G img map) (us
       let t = viewOf G (closedImage G img e fcb) (closedMap (entryAt G img e) fcb map) in
       let nm = cur-named G s user hu fcb e c in
       record {
-        effect = one-effect G s t (byName user fcb) (g .inv) closed-recs e closed-there (by-name-used G img map user fcb hu) nm;
+        effect = one-effect G s t (byName user fcb) (g .inv) (record-closedImage S img (g .image-long) e (c .low) fcb) e
+            (row-closedImage-other S img (g .image-long) e (c .low) fcb) (by-name-used G img map user fcb hu) nm;
         keeps = keeps-by G s t (byName user fcb)
             (λ b l. split (closed-notes b l) (λ q. inl q) (λ t. inr (held-named s (byName user fcb) b e (t .slot) (t .below) nm (taken-noted b t))));
         frame = λ i. split (entry-or-same S img (g .image-long) e (c .low) (closedRow G (entryAt G img e) fcb) whole i) (λ q. inl q) (λ p. inr (in-entry e p nm));

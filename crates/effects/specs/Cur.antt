@@ -15,12 +15,14 @@ use Rattle.format.specs.declared.Found.the-variants.{At}
 use Rattle.consistency.specs.Facts.{Consistent}
 use Rattle.invariant.specs.Close.{Held}
 use Rattle.rows.specs.Fields.{slot-for-below}
-use Rattle.current.specs.Current.{Current, current-is, current-says, current-file, current-slot, SlotOk, slot-same, slot-pending, slots-are}
-use Rattle.invariant.specs.CloseGood.{pending-block}
+use Rattle.facts.specs.Current.{Current, current-is, current-says}
+use Rattle.current.specs.Current.{current-file, current-slot, SlotOk, slot-same, slot-pending, slots-are}
+use Rattle.notes.specs.Numbers.{pending-block}
 use Rattle.model.specs.Target.{placeIn}
 use Rattle.effects.specs.View.{View, viewOf, Names, Mine, listed, pending}
 use Rattle.effects.specs.Effect.{Foreign, Effect, Keeps}
-use Rattle.fields.specs.Naming.{file-named, file-used, file-found}
+use Rattle.facts.specs.Naming.{file-named}
+use Rattle.fields.specs.Naming.{file-used, file-found}
 
 -- f is current for the user, and e is its entry
 pub record Cur (G : Geometry) (s : View) (user : ℕ) (f : Bytes) (e : ℕ) : Type 0 where

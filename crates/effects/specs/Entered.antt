@@ -18,7 +18,7 @@ use Rattle.model.specs.Closing.{closedRow, closedImage, closedMap, closedFcb}
 use Rattle.model.specs.Entering.{copied, entered}
 use Rattle.model.specs.Target.{writtenFcb}
 use Rattle.fields.specs.Agree.{Agree, SameName, isFile-asked, isFile-cong}
-use Rattle.fields.specs.Naming.{named-intro, file-intro}
+use Rattle.facts.specs.Naming.{named-intro, file-intro}
 use Rattle.fields.specs.Closing.{slot-closed-old, slot-closed-new, file-closed, name-closedFcb, slot-closedFcb, extent-closedFcb, fcbRight-closedFcb}
 use Rattle.fields.specs.Entering.{name-entered, slot-entered, extent-entered, fcbRight-entered, name-copied, slot-copied, extent-copied, row-copied, rest-copied}
 use Rattle.fields.specs.Target.{name-read, slot-read, extent-read, head-read, cr-read, name-written, head-written, rc-written, cr-written, count-written-high}

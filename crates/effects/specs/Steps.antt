@@ -8,7 +8,7 @@ use Rattle.lists.specs.Cases.{split, bool-cases, eq-or-ne, not-both}
 use Rattle.format.specs.Diskette.{Geometry, diskRecord, slotCount}
 use Rattle.format.specs.Entries.{empty, used}
 use Rattle.format.specs.Notes.{freeNote, pendingFor}
-use Rattle.consistency.specs.Reflect.{used-full}
+use Rattle.consistency.specs.Reflect.{used-full, empty-elsewhere}
 use Rattle.notes.specs.Numbers.{pending-once, pending-not-free}
 use Rattle.disk.specs.Places.{blockRecords, block-once}
 use Rattle.rows.specs.Entries.{areaRecords}
@@ -39,8 +39,7 @@ module _ (G : Geometry) (s t : View) (N : Names) (v : Right G s) (recs : RecsSta
     module _ (void : empty (s .rows e) ≡ true) (nm : N (t .rows e) ≡ true) where
       pub made-effect : Effect G s t N
       made-effect = record {
-        row = λ k f. there k (f .low)
-            (λ q. not-both (empty (s .rows k)) (ap (λ (x : ℕ). empty (s .rows x)) q ∙ void) (used-full (s .rows k) (f .uses)));
+        row = λ k f. there k (f .low) (λ q. empty-elsewhere (s .rows) e k void (f .uses) (sym q));
         new = λ k l z. split (eq-or-ne k e) (λ q. inr (ap (λ (x : ℕ). N (t .rows x)) q ∙ nm)) (λ q. inl (there k l q));
         dat = λ b k f l m g. recs-on G s v b k f l m t recs;
       }

@@ -3,24 +3,23 @@
 use mathlib.Core.Path.{_≡_, refl, sym, subst, _∙_}
 use mathlib.Core.Bool.{true, false}
 use mathlib.Core.List.{[], _∷_}
-use Prim.Native.Nat.{ℕ, _+_, _-_, _*_, _≤_, _<_}
+use Prim.Native.Nat.{ℕ, _-_, _*_, _≤_, _<_}
 use native.Mathlib.Omega.{arith}
-use lib.ListN.{length, getD, replicate, getD-replicate, length-replicate}
+use lib.ListN.{length, getD, replicate, length-replicate}
 use borrow.Author.Tests.{lt-leb, eq-eqb, lt-ltb, le-ltb}
 use Rattle.lists.specs.Cases.{split, bool-cases, lt-or-le, not-both, clash}
 use Rattle.lists.specs.Tests.{_or_}
-use Rattle.lists.specs.Splice.{part, splice, getD-part, part-splice-same}
+use Rattle.lists.specs.Splice.{part, splice, part-splice-same}
 use Rattle.lists.specs.Count.{count-from}
-use Rattle.format.specs.Diskette.{Bytes, Geometry, Sound, imageBytes, recordBytes, eightInch, entryBytes}
-use Rattle.format.specs.Entries.{Rows, entryPlace, entryAt, userOf, empty, used}
+use Rattle.format.specs.Diskette.{Bytes, Geometry, Sound, imageBytes, recordBytes, eightInch}
+use Rattle.format.specs.Entries.{Rows, entryAt, userOf, empty, used}
 use Rattle.format.specs.Consistent.{consistent}
 use Rattle.format.specs.Notes.{isListed, freshNote, freshMap, isFree, freeCount}
 use Rattle.format.specs.Fcb.{fcbBytes}
 use Rattle.disk.specs.Eight.{eight-sound}
-use Rattle.rows.specs.Entries.{entry-fits}
-use Rattle.consistency.specs.Facts.{Consistent}
+use Rattle.rows.specs.Entries.{entry-of-same}
 use Rattle.consistency.specs.Listed.{listed-somewhere}
-use Rattle.consistency.specs.Reflect.{facts-consistent}
+use Rattle.consistency.specs.Reflect.{all-empty, facts-image}
 use Rattle.notes.specs.Right.{length-fresh, fresh-at, fresh-right}
 use Rattle.model.specs.declared.Asked.{Asked}
 use Rattle.model.specs.declared.Session.{Session}
@@ -40,12 +39,7 @@ pub record Erased (G : Geometry) (img : Bytes) : Type 0 where
 
 -- there are such disks: every byte E5H
 pub all-erased : {G : Geometry} (S : Sound G) (size : ℕ) → size ≡ imageBytes G → Erased G (replicate size 229)
-unfolding entryAt
-all-erased {G} S size is = record {
-  long = length-replicate size 229 ∙ is;
-  void = λ e h. getD-part (replicate size 229) (entryPlace G e) entryBytes (omega (arith, length-replicate {A = ℕ} size 229, entry-fits S e h)) 0 (omega arith)
-      ∙ getD-replicate size (entryPlace G e + 0) 229 0 (omega (arith, entry-fits S e h));
-}
+all-erased S size is = record { long = length-replicate size 229 ∙ is; void = entry-of-same S size 229 is }
 
 module _ (G : Geometry) (img : Bytes) (erased : Erased G img) where
   pub erased-empty : (e : ℕ) → e < G .entries → empty (entryAt G img e) ≡ true
@@ -56,18 +50,8 @@ module _ (G : Geometry) (img : Bytes) (erased : Erased G img) where
   unfolding used
   erased-unused e h = lt-leb (userOf (entryAt G img e)) 15 (omega (arith, erased .void e h))
 
-  erased-facts : Consistent G (entryAt G img)
-  erased-facts = record {
-    fine = λ e h u. not-both _ u (erased-unused e h);
-    other = λ e h u. erased-empty e h;
-    once-entry = λ b e j f k s t. not-both _ (s .uses) (erased-unused e (s .entry));
-    once-slot = λ b e j f k s t. not-both _ (s .uses) (erased-unused e (s .entry));
-    apart = λ e f h l u v s. not-both _ u (erased-unused e h);
-  }
-
   pub erased-consistent : consistent G img ≡ true
-  unfolding consistent
-  erased-consistent = facts-consistent G (entryAt G img) erased-facts
+  erased-consistent = facts-image G img (all-empty G (entryAt G img) erased-empty)
 
   erased-unlisted : (b : ℕ) → (b ≡ 0 → ⊥) → isListed G (entryAt G img) b ≡ false
   erased-unlisted b real =

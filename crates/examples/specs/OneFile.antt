@@ -21,7 +21,7 @@ use Rattle.disk.specs.Eight.{eight-sound}
 use Rattle.rows.specs.Entries.{length-withEntry, entry-stored, entry-left}
 use Rattle.consistency.specs.Facts.{Fine, Stands, Consistent}
 use Rattle.consistency.specs.Listed.{somewhere-listed, listed-somewhere}
-use Rattle.consistency.specs.Reflect.{facts-consistent}
+use Rattle.consistency.specs.Reflect.{facts-image}
 use Rattle.model.specs.declared.Session.{Session}
 use Rattle.model.specs.Lent.{Lent, lend, rowsOf, ended}
 use Rattle.model.specs.Entering.{threeBytes}
@@ -151,8 +151,8 @@ module _ (img : Bytes) (erased : Erased eightInch img) (r : ℕ) (low : r ≤ 12
   }
 
   pub one-consistent : consistent eightInch (oneFile img r) ≡ true
-  unfolding consistent rows
-  one-consistent = facts-consistent eightInch rows one-facts
+  unfolding rows
+  one-consistent = facts-image eightInch (oneFile img r) one-facts
 
   two-listed : isListed eightInch rows 2 ≡ true
   two-listed =

@@ -1,7 +1,7 @@
 -- Example f: the random record of 33 and 34.
 use mathlib.Core.Path.{_≡_, refl, sym, subst, _∙_}
 use mathlib.Core.Bool.{true}
-use Prim.Native.Nat.{ℕ, _+_, _*_, _%_}
+use Prim.Native.Nat.{ℕ, _+_, _*_}
 use native.Mathlib.Omega.{arith}
 use lib.Dec.{eqb}
 use lib.ListN.{getD}
@@ -21,7 +21,7 @@ use Rattle.model.specs.Step.{refused, step}
 use Rattle.table.specs.First.{here}
 use Rattle.table.specs.Own.{call33, call34}
 use Rattle.table.specs.Facts.{Ready}
-use Rattle.table.specs.Accept.{random-extent}
+use Rattle.fields.specs.Target.{extent-random, record-random}
 use Rattle.table.specs.Refuse.{random-over}
 use Rattle.table.specs.Total.{ask, step-refused}
 
@@ -60,15 +60,11 @@ pub record Last (G : Geometry) (n argument : ℕ) (l : Lent) (s : Session) : Typ
   pub is-record : targetRecord n (l .fcb) ≡ 127
   pub not-six : verdict G n argument l s ≡ Refused BadRecord → ⊥
 
-random-record : (n : ℕ) (fcb : Bytes) → isRandom n ≡ true → targetRecord n fcb ≡ randomOf fcb % 128
-unfolding targetRecord
-random-record n fcb h = rw h
-
 pub random-last : (G : Geometry) (n argument : ℕ) (l : Lent) (s : Session) → isRandom n ≡ true → RandomIs (l .fcb) 255 255 3 → Last G n argument l s
 random-last G n argument l s which r =
     let is : randomOf (l .fcb) ≡ 262143 = random-is (l .fcb) 255 255 3 r in
     record {
-      extent = random-extent n (l .fcb) which ∙ rw is;
-      is-record = random-record n (l .fcb) which ∙ rw is;
+      extent = extent-random n (l .fcb) which ∙ rw is;
+      is-record = record-random n (l .fcb) which ∙ rw is;
       not-six = λ q. omega (arith, random-over G argument l s n q);
     }

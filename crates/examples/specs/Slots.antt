@@ -15,7 +15,7 @@ use Rattle.names.specs.Laws.{like-intro, right-cong}
 use Rattle.rows.specs.Entries.{length-entryAt, entry-stored, entry-left}
 use Rattle.consistency.specs.Facts.{Fine, Stands, SameFile, Consistent}
 use Rattle.consistency.specs.Listed.{somewhere-listed}
-use Rattle.consistency.specs.Reflect.{consistent-facts, facts-consistent, numbers-elim, numbers-intro}
+use Rattle.consistency.specs.Reflect.{image-facts, facts-image, numbers-elim, numbers-intro}
 use Rattle.fields.specs.Agree.{Agree, name-cong, numbers-cong, used-cong, empty-cong, same-file, same-name}
 
 -- the rows of two directories differ in slot j of entry e alone, which is v in the second
@@ -128,17 +128,15 @@ module _ {G : Geometry} (S : Sound G) (img : Bytes) (long : length img ≡ image
 
   -- a block past the directory that no entry lists may be put into a slot
   pub slot-allowed : consistent G img ≡ true → isListed G (entryAt G img) v ≡ false → G .area ≤ v → v < G .blocks → consistent G (withSlot G img e j v) ≡ true
-  unfolding consistent
   slot-allowed right unlisted low high =
-      facts-consistent G (entryAt G (withSlot G img e j v))
-      (put-facts G (entryAt G img) (entryAt G (withSlot G img e j v)) e j v put-image (consistent-facts G (entryAt G img) right) below unlisted low high)
+      facts-image G (withSlot G img e j v)
+      (put-facts G (entryAt G img) (entryAt G (withSlot G img e j v)) e j v put-image (image-facts G img right) below unlisted low high)
 
   -- a number of the directory's blocks, or past the last block, may not
   pub slot-refused : used (entryAt G img e) ≡ true → (v ≡ 0 → ⊥) → (v < G .area) ⊎ (G .blocks ≤ v) → consistent G (withSlot G img e j v) ≡ false
-  unfolding consistent
   slot-refused uses real out =
       sym (refute _ (λ right.
       let t : Rows = entryAt G (withSlot G img e j v) in
-      let f = consistent-facts G t right .fine e below (still-used G (entryAt G img) t e j v put-image e below ∙ uses) in
+      let f = image-facts G (withSlot G img e j v) right .fine e below (still-used G (entryAt G img) t e j v put-image e below ∙ uses) in
       let is : slotOf (t e) j ≡ v = put-image .here in
       split out (λ w. omega (arith, f .low j inside (λ z. real (sym is ∙ z)))) (λ w. omega (arith, f .high j inside (λ z. real (sym is ∙ z))))))

@@ -1,12 +1,12 @@
 -- The answer of a look-up: what it is, what it says, and the turns of the loop that makes it.
 use mathlib.Core.Path.{_≡_, refl, sym, ap, _∙_}
-use mathlib.Core.Bool.{Bool, true, false}
+use mathlib.Core.Bool.{Bool, true, false, not}
 use Prim.Native.Nat.{ℕ, _≤_, _<_}
 use native.Mathlib.Omega.{arith}
 use borrow.Author.Tests.{lt-ltb, le-ltb}
 use Rattle.lists.specs.Cases.{split, clash, lt-or-le}
 use Rattle.lists.specs.Below.{firstIn, first-hit, first-end, first-low, first-holds, first-before, first-is, first-none}
-use Rattle.format.specs.Found.{foundBelow, numberOf, isFound}
+use Rattle.format.specs.Found.{foundBelow, isFound}
 use Rattle.format.specs.declared.Found.{Found}
 use Rattle.format.specs.declared.Found.the-variants.{At, Nothing}
 
@@ -38,6 +38,13 @@ pub not-found : (r : Found) → isFound r ≡ false → r ≡ Nothing
 not-found (At k) h = clash h
 not-found Nothing h = refl
 
+-- the test of a row that asks for something found
+pub found-row : (r : Found) {e : ℕ} → r ≡ At e → not (isFound r) ≡ false
+found-row r q = rw q
+
+pub missed-row : (r : Found) → r ≡ Nothing → not (isFound r) ≡ true
+missed-row r q = rw q
+
 -- ---- a number among n
 pub found-at : (n k : ℕ) → k < n → foundBelow n k ≡ At k
 unfolding foundBelow
@@ -55,11 +62,6 @@ found-says n k e q =
 
 pub nothing-says : (n k : ℕ) → foundBelow n k ≡ Nothing → n ≤ k
 nothing-says n k q = split (lt-or-le k n) (λ w. absurd (at-not-nothing k (sym (found-at n k w) ∙ q))) (λ w. w)
-
--- the number of an answer is the number that was looked at
-pub number-found : (n k : ℕ) → k ≤ n → numberOf n (foundBelow n k) ≡ k
-number-found n k h =
-    split (lt-or-le k n) (λ w. rw (found-at n k w)) (λ w. let q : n ≡ k = omega arith in rw (found-nothing n k w) q)
 
 -- ---- the first number from i on, below n, that passes a test
 pub record FirstAt (p : ℕ → Bool) (i n e : ℕ) : Type 0 where

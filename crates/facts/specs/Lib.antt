@@ -1,3 +1,6 @@
 pub mod Found
 pub mod Slots
 pub mod Marks
+pub mod Find
+pub mod Naming
+pub mod Current

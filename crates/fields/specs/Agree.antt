@@ -1,22 +1,15 @@
 -- Rows and FCBs that agree in some of their bytes agree in the fields that lie there, and in the tests that look there.
-use mathlib.Core.Path.{_≡_, refl, ap, sym, _∙_}
+use mathlib.Core.Path.{_≡_, ap, sym}
 use mathlib.Core.Bool.{Bool, false}
-use Prim.Native.Nat.{ℕ, _+_, _-_, _≤_, _<_}
+use Prim.Native.Nat.{ℕ, _+_, _≤_, _<_}
 use native.Mathlib.Omega.{arith}
-use lib.ListN.{length, getD}
-use lib.Seq.{ext-getD}
-use Rattle.lists.specs.Cases.{split, lt-or-le}
+use lib.ListN.{getD}
 use Rattle.lists.specs.Tests.{_and_}
-use Rattle.lists.specs.Below.{first-cong}
 use Rattle.format.specs.Diskette.{Bytes, Geometry, slotCount}
 use Rattle.format.specs.Names.{nameBytes, sevenBits}
-use Rattle.format.specs.Entries.{Rows, userOf, slotOf, slotsOf, empty, used, readOnly, extentOf, covers, named, isFile, findFile}
-use Rattle.format.specs.Found.{foundBelow}
-use Rattle.format.specs.Consistent.{numbersRight, sameFile}
-use Rattle.facts.specs.Slots.{length-slotsOf, getD-slotsOf}
-use Rattle.format.specs.Fcb.{randomOf, fcbRight, fitting, current}
-use Rattle.format.specs.declared.Found.{Found}
-use Rattle.format.specs.declared.Found.the-variants.{At, Nothing}
+use Rattle.format.specs.Entries.{userOf, slotOf, empty, used, readOnly, extentOf, covers, named, isFile}
+use Rattle.format.specs.Consistent.{numbersRight}
+use Rattle.format.specs.Fcb.{randomOf, fcbRight}
 use Rattle.consistency.specs.Facts.{SameFile}
 use Rattle.names.specs.Laws.{nameBits, like-at, like-intro, like-cong-left, like-cong-right, right-cong}
 
@@ -33,20 +26,6 @@ module _ (r t : Bytes) where
   pub slot-cong : Agree r t 16 32 → (j : ℕ) → j < slotCount → slotOf r j ≡ slotOf t j
   unfolding slotOf
   slot-cong h j l = h (16 + j) (omega arith) (omega arith)
-
-  pub slots-cong : 32 ≤ length r → 32 ≤ length t → Agree r t 16 32 → slotsOf r ≡ slotsOf t
-  slots-cong hr ht h =
-      let l : length (slotsOf r) ≡ slotCount = length-slotsOf r hr in
-      ext-getD 0 (slotsOf r) (slotsOf t) (l ∙ sym (length-slotsOf t ht))
-      (λ j b. let c : j < slotCount = omega arith in getD-slotsOf r j c ∙ slot-cong h j c ∙ sym (getD-slotsOf t j c))
-
-  -- a row is its bytes below the slots, and its slots
-  pub row-ext : length r ≡ 32 → length t ≡ 32 → Agree r t 0 16 → ((j : ℕ) → j < slotCount → slotOf r j ≡ slotOf t j) → r ≡ t
-  unfolding slotOf
-  row-ext hr ht h f =
-      ext-getD 0 r t (hr ∙ sym ht)
-      (λ i b. split (lt-or-le i 16) (λ l. h i (omega arith) l)
-      (λ l. let q : 16 + (i - 16) ≡ i = omega arith in rw q at (f (i - 16) (omega arith))))
 
   pub extent-cong : Agree r t 12 15 → extentOf r ≡ extentOf t
   unfolding extentOf
@@ -106,21 +85,6 @@ module _ (s : Bytes) (q : ℕ) (r : Bytes) (p : ℕ) (same : SameName s q r p) w
   unfolding isFile
   isFile-asked G user ext row = rw (named-asked false user row)
 
-  pub findFile-asked : (G : Geometry) (d : Rows) (user ext : ℕ) → findFile G d user s q ext ≡ findFile G d user r p ext
-  unfolding findFile
-  findFile-asked G d user ext =
-      ap (foundBelow (G .entries)) (first-cong (λ (e : ℕ). isFile G user s q ext (d e)) (λ (e : ℕ). isFile G user r p ext (d e)) 0 (G .entries) (λ e a b. isFile-asked G user ext (d e)))
-
--- two entries are of one file, by either side
-module _ (G : Geometry) (r t s : Bytes) (same : SameFile r t) where
-  pub sameFile-left : sameFile G r s ≡ sameFile G t s
-  unfolding sameFile
-  sameFile-left = rw (used-cong r t (same .user), isFile-cong G (userOf s) s 1 (extentOf s) r t same)
-
-  pub sameFile-right : sameFile G s r ≡ sameFile G s t
-  unfolding sameFile
-  sameFile-right = rw (used-cong r t (same .user), same .user, same .extent, isFile-asked r 1 t 1 (same-name r t same) G (userOf t) (extentOf t) s)
-
 -- ---- FCBs
 module _ (f g : Bytes) where
   pub random-cong : Agree f g 33 36 → randomOf f ≡ randomOf g
@@ -132,19 +96,3 @@ module _ (f g : Bytes) where
   unfolding fcbRight
   fcbRight-cong n h =
       rw (right-cong false f 1 g 1 n, numbers-cong f g (λ i a b. h i (omega arith) (omega arith)), h 32 (omega arith) (omega arith))
-
-fitting-cong : (d : Rows) (map f g : Bytes) (x : Found) → slotsOf f ≡ slotsOf g → fitting d map f x ≡ fitting d map g x
-fitting-cong d map f g (At e) h = rw h
-fitting-cong d map f g Nothing h = refl
-
--- whether an FCB is current, and for which entry
-pub current-cong : (f g : Bytes) → 32 ≤ length f → 32 ≤ length g → SameName f 1 g 1 → Agree f g 12 33
-    → (G : Geometry) (d : Rows) (map : Bytes) (user : ℕ) → current G d map user f ≡ current G d map user g
-unfolding current
-current-cong f g hf hg n h G d map user =
-    rw (
-      fcbRight-cong f g n h,
-      extent-cong f g (λ i a b. h i (omega arith) (omega arith)),
-      findFile-asked f 1 g 1 n G d user (extentOf g),
-      fitting-cong d map f g (findFile G d user g 1 (extentOf g)) (slots-cong f g hf hg (λ i a b. h i (omega arith) (omega arith))),
-    )

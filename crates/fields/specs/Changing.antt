@@ -11,7 +11,7 @@ use Rattle.lists.specs.Cases.{split, bool-cases, lt-or-le}
 use Rattle.lists.specs.Splice.{splice-set}
 use Rattle.lists.specs.Fold.{foldBelow, fold-builds}
 use Rattle.format.specs.Diskette.{Bytes, Geometry, Sound, imageBytes, recordAt, entryBytes}
-use Rattle.format.specs.Entries.{entryPlace, entryAt, withEntry, userOf, empty, used}
+use Rattle.format.specs.Entries.{entryPlace, entryAt, withEntry, userOf, empty}
 use Rattle.disk.specs.Places.{blockRecords}
 use Rattle.rows.specs.Entries.{areaRecords, entry-fits, length-entryAt, length-withEntry, entry-stored, entry-left, entry-byte-left, record-kept}
 use Rattle.model.specs.Calls.{changedRow, changedRows, erasedRow}
@@ -139,7 +139,3 @@ module _ (row : Bytes) where
     pub empty-erased : empty (erasedRow row) ≡ true
     unfolding empty
     empty-erased = eq-eqb _ _ user-erased
-
-    pub used-erased : used (erasedRow row) ≡ false
-    unfolding used
-    used-erased = rw user-erased

@@ -8,22 +8,22 @@ use lib.Dec.{eqb}
 use lib.ListN.{length, getD, set, length-set}
 use lib.Seq.{getD-set-same, getD-set-other, ext-getD}
 use borrow.Author.Tests.{eqb-true, eqb-false, eq-eqb, ne-eqb, ltb-true, ltb-false, not-true}
-use Rattle.lists.specs.Cases.{split, bool-cases, eq-or-ne, lt-or-le, not-both}
-use Rattle.lists.specs.Tests.{_and_, _or_, and-left, and-right, and-both, and-then, and-fails-left, and-fails-right, or-neither, or-cases, cond-or}
+use Rattle.lists.specs.Cases.{split, bool-cases, eq-or-ne, not-both}
+use Rattle.lists.specs.Tests.{_and_, _or_, and-left, and-right, and-both, and-then, and-fails-left, and-fails-right, or-neither, cond-or}
 use Rattle.lists.specs.Below.{anyBelow, any-at, any-some, any-never}
 use Rattle.lists.specs.Splice.{length-splice, getD-splice-in, getD-splice-out}
 use Rattle.lists.specs.Tab.{length-tab, getD-tab}
 use Rattle.lists.specs.Fold.{foldBelow, fold-keeps}
 use Rattle.format.specs.Diskette.{Bytes, Geometry, slotCount}
 use Rattle.format.specs.Names.{sevenBits, nameRight}
-use Rattle.format.specs.Entries.{Rows, rcOf, slotOf, slotsOf, empty, used, readOnly, extentOf, countIn}
+use Rattle.format.specs.Entries.{rcOf, slotOf, slotsOf, readOnly, extentOf, countIn}
 use Rattle.facts.specs.Slots.{length-slotsOf, getD-slotsOf}
 use Rattle.format.specs.Notes.{noteAt, withNote, recordedNote}
-use Rattle.format.specs.Fcb.{randomOf, fcbRight, current}
+use Rattle.format.specs.Fcb.{fcbRight}
 use Rattle.model.specs.Closing.{takesSlot, mergedSlot, mergedSlots, countsMore, closedCount, closedRow, closeChanges, closedNote, closedMap, closedFcb}
 use Rattle.consistency.specs.Facts.{Numbers, SameFile}
 use Rattle.names.specs.Laws.{right-cong}
-use Rattle.fields.specs.Agree.{Agree, SameName, same-file, same-name, row-ext, slot-cong, used-cong, empty-cong, readOnly-cong, extent-cong, random-cong, fcbRight-cong, current-cong}
+use Rattle.fields.specs.Agree.{Agree, SameName, same-file, same-name, slot-cong, readOnly-cong, extent-cong, fcbRight-cong}
 
 -- ---- the slots taken
 pub length-mergedSlots : (es fs : Bytes) → length (mergedSlots es fs) ≡ slotCount
@@ -63,16 +63,6 @@ module _ (row fcb : Bytes) (j : ℕ) (below : j < slotCount) where
 
 -- ---- the count
 module _ (G : Geometry) (row fcb : Bytes) where
-  pub count-closed-row : rcOf row ≤ closedCount G row fcb
-  unfolding closedCount countsMore countIn
-  count-closed-row =
-      split (bool-cases (countsMore G row fcb)) (λ t. rw t (omega (arith, ltb-true (rcOf row) (rcOf fcb) t))) (λ f. rw f (omega arith))
-
-  pub count-closed-fcb : rcOf fcb ≤ closedCount G row fcb
-  unfolding closedCount countsMore countIn
-  count-closed-fcb =
-      split (bool-cases (countsMore G row fcb)) (λ t. rw t (omega arith)) (λ f. rw f (omega (arith, ltb-false (rcOf row) (rcOf fcb) f)))
-
   -- the larger of the two
   pub count-closed : closedCount G row fcb ≡ max (rcOf row) (rcOf fcb)
   unfolding closedCount countsMore countIn
@@ -124,12 +114,6 @@ module _ (G : Geometry) (row fcb : Bytes) (hr : length row ≡ 32) where
   pub slot-closed-new : (j : ℕ) → j < slotCount → slotOf row j ≡ 0 → slotOf (closedRow G row fcb) j ≡ slotOf fcb j
   slot-closed-new j h z = slot-closed j h ∙ merged-new row fcb j h z
 
-  -- with an FCB whose slots fit, the entry's slots become the FCB's
-  pub slot-closed-fits : (j : ℕ) → j < slotCount → (slotOf fcb j ≡ slotOf row j) ⊎ (slotOf row j ≡ 0) → slotOf (closedRow G row fcb) j ≡ slotOf fcb j
-  slot-closed-fits j h (inr z) = slot-closed-new j h z
-  slot-closed-fits j h (inl q) =
-      split (eq-or-ne (slotOf row j) 0) (λ z. slot-closed-new j h z) (λ n. slot-closed-old j h n ∙ sym q)
-
   pub slots-closed : slotsOf (closedRow G row fcb) ≡ mergedSlots (slotsOf row) (slotsOf fcb)
   slots-closed =
       let l : length (slotsOf (closedRow G row fcb)) ≡ slotCount = length-slotsOf (closedRow G row fcb) (omega (arith, length-closedRow)) in
@@ -150,12 +134,6 @@ module _ (G : Geometry) (row fcb : Bytes) (hr : length row ≡ 32) where
   pub file-closed : SameFile (closedRow G row fcb) row
   file-closed = same-file (closedRow G row fcb) row head-closed
 
-  pub used-closed : used (closedRow G row fcb) ≡ used row
-  used-closed = used-cong (closedRow G row fcb) row (file-closed .user)
-
-  pub empty-closed : empty (closedRow G row fcb) ≡ empty row
-  empty-closed = empty-cong (closedRow G row fcb) row (file-closed .user)
-
   pub readOnly-closed : readOnly (closedRow G row fcb) ≡ readOnly row
   readOnly-closed = readOnly-cong (closedRow G row fcb) row (head-closed 9 (omega arith) (omega arith))
 
@@ -169,43 +147,11 @@ module _ (G : Geometry) (row fcb : Bytes) (hr : length row ≡ 32) where
     rc = rw rc-closed (count-closed-high G row fcb 128 (n .rc) (m .rc));
   }
 
-  -- the records that it counts
-  pub countIn-closed : (ext : ℕ) → countIn G (closedRow G row fcb) ext ≡ closedCount G row fcb
-  unfolding countIn
-  countIn-closed ext = rc-closed
-
 -- ---- a close that changes nothing
 module _ (G : Geometry) (row fcb : Bytes) (same : closeChanges G row fcb ≡ false) where
   pub takes-none : (j : ℕ) → j < slotCount → takesSlot (slotsOf row) (slotsOf fcb) j ≡ false
   unfolding closeChanges
   takes-none j h = any-never (takesSlot (slotsOf row) (slotsOf fcb)) slotCount ((or-neither _ _ same) .0) j h
-
-  pub row-unchanged : length row ≡ 32 → closedRow G row fcb ≡ row
-  unfolding closeChanges closedCount mergedSlot
-  row-unchanged hr =
-      let n : countsMore G row fcb ≡ false = (or-neither _ _ same) .1 in
-      let c : closedCount G row fcb ≡ rcOf row = rw n in
-      row-ext (closedRow G row fcb) row (length-closedRow G row fcb hr) hr
-      (λ i a h. split (lt-or-le i 15) (λ l. head-closed G row fcb hr i a l)
-      (λ l. let q : i ≡ 15 = omega arith in rw q (rc-closed G row fcb hr ∙ c)))
-      (λ j h. slot-closed G row fcb hr j h ∙ rw (takes-none j h) (getD-slotsOf row j h))
-
-  pub map-unchanged : (map : Bytes) → closedMap row fcb map ≡ map
-  unfolding closedMap closedNote
-  map-unchanged map =
-      fold-keeps (λ (m : Bytes). m ≡ map) (closedNote (slotsOf row) (slotsOf fcb)) map slotCount refl (λ m j h e. rw (takes-none j h) e)
-
--- and one that does change its entry
-pub row-changed : (G : Geometry) (row fcb : Bytes) → length row ≡ 32 → closeChanges G row fcb ≡ true → closedRow G row fcb ≡ row → ⊥
-unfolding closeChanges countsMore countIn
-row-changed G row fcb hr t e =
-    split (or-cases (anyBelow (takesSlot (slotsOf row) (slotsOf fcb)) slotCount) (countsMore G row fcb) t)
-    (λ a. let s = any-some (takesSlot (slotsOf row) (slotsOf fcb)) slotCount a in
-    let z : slotOf row (s .place) ≡ 0 = takes-row row fcb (s .place) (s .below) (s .holds) in
-    takes-fcb row fcb (s .place) (s .below) (s .holds)
-    (sym (slot-closed-new G row fcb hr (s .place) (s .below) z) ∙ ap (λ (r : Bytes). slotOf r (s .place)) e ∙ z))
-    (λ a. let c : rcOf (closedRow G row fcb) ≡ rcOf row = ap (λ (r : Bytes). getD r 15 0) e in
-    omega (arith, ltb-true (rcOf row) (rcOf fcb) a, rc-closed G row fcb hr, count-closed-fcb G row fcb))
 
 -- ---- the notes
 -- a slot takes block b
@@ -296,10 +242,6 @@ module _ (row fcb map : Bytes) (b : ℕ) where
 
 -- ---- the FCB: f5' and f6' are cleared, and nothing else
 module _ (fcb : Bytes) where
-  pub length-closedFcb : length (closedFcb fcb) ≡ length fcb
-  unfolding closedFcb
-  length-closedFcb = length-set (set fcb 5 (sevenBits (getD fcb 5 0))) 6 _ ∙ length-set fcb 5 _
-
   pub byte-closedFcb : (i : ℕ) → (i ≡ 5 → ⊥) → (i ≡ 6 → ⊥) → getD (closedFcb fcb) i 0 ≡ getD fcb i 0
   unfolding closedFcb
   byte-closedFcb i a b = getD-set-other (set fcb 5 (sevenBits (getD fcb 5 0))) 6 i _ 0 b ∙ getD-set-other fcb 5 i _ 0 a
@@ -328,12 +270,5 @@ module _ (fcb : Bytes) where
     pub extent-closedFcb : extentOf (closedFcb fcb) ≡ extentOf fcb
     extent-closedFcb = extent-cong (closedFcb fcb) fcb (λ i a b. rest-closedFcb 32 i (omega arith) (omega arith))
 
-    pub random-closedFcb : randomOf (closedFcb fcb) ≡ randomOf fcb
-    random-closedFcb = random-cong (closedFcb fcb) fcb (λ i a b. rest-closedFcb 36 i (omega arith) b)
-
     pub fcbRight-closedFcb : fcbRight (closedFcb fcb) ≡ fcbRight fcb
     fcbRight-closedFcb = fcbRight-cong (closedFcb fcb) fcb name-closedFcb (λ i a b. rest-closedFcb 36 i (omega arith) (omega arith))
-
-    pub current-closedFcb : (G : Geometry) (d : Rows) (map : Bytes) (user : ℕ) → current G d map user (closedFcb fcb) ≡ current G d map user fcb
-    current-closedFcb =
-        current-cong (closedFcb fcb) fcb (omega (arith, length-closedFcb)) hf name-closedFcb (λ i a b. rest-closedFcb 36 i (omega arith) (omega arith))

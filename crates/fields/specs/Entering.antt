@@ -13,12 +13,12 @@ use Rattle.lists.specs.Splice.{part, length-part, getD-part, length-splice, get
 use Rattle.lists.specs.Tab.{length-tab, getD-tab}
 use Rattle.format.specs.Diskette.{Bytes, entryBytes, slotCount}
 use Rattle.format.specs.Names.{sevenBits, nameRight}
-use Rattle.format.specs.Entries.{exOf, s2Of, rcOf, slotOf, slotsOf, extentOf}
-use Rattle.format.specs.Fcb.{crOf, randomOf, fcbRight}
+use Rattle.format.specs.Entries.{slotOf, extentOf}
+use Rattle.format.specs.Fcb.{crOf, fcbRight}
 use Rattle.format.specs.Consistent.{numbersRight}
 use Rattle.names.specs.Laws.{right-cong}
 use Rattle.model.specs.Entering.{copied, interfaceByte, interfaceCleared, entered}
-use Rattle.fields.specs.Agree.{Agree, SameName, slot-cong, slots-cong, extent-cong, name-cong, numbers-cong, random-cong}
+use Rattle.fields.specs.Agree.{Agree, SameName, slot-cong, extent-cong, name-cong, numbers-cong}
 
 -- ---- an FCB whose bytes 1 to 31 become the row's: byte 0 and those from 32 on stay
 module _ (fcb row : Bytes) (hf : 32 ≤ length fcb) (hr : 32 ≤ length row) where
@@ -54,9 +54,6 @@ module _ (fcb row : Bytes) (hf : 32 ≤ length fcb) (hr : 32 ≤ length row) whe
 
   pub extent-copied : extentOf (copied fcb row) ≡ extentOf row
   extent-copied = extent-cong (copied fcb row) row (λ i a b. row-copied i (omega arith) (omega arith))
-
-  pub random-copied : randomOf (copied fcb row) ≡ randomOf fcb
-  random-copied = random-cong (copied fcb row) fcb (λ i a b. rest-copied 36 i (omega arith) b)
 
 -- ---- the row with the high bits of bytes 5 to 8 cleared
 pub interface-in : (row : Bytes) (i : ℕ) → 5 ≤ i → i ≤ 8 → interfaceByte row i ≡ sevenBits (getD row i 0)
@@ -111,26 +108,11 @@ module _ (fcb row : Bytes) (hf : 32 ≤ length fcb) where
   pub slot-entered : (j : ℕ) → j < slotCount → slotOf (entered fcb row) j ≡ slotOf row j
   slot-entered = slot-cong (entered fcb row) row (λ i a b. row-entered i (omega arith) b)
 
-  pub slots-entered : 32 ≤ length row → slotsOf (entered fcb row) ≡ slotsOf row
-  slots-entered hr = slots-cong (entered fcb row) row (omega (arith, length-entered)) hr (λ i a b. row-entered i (omega arith) b)
-
-  pub ex-entered : exOf (entered fcb row) ≡ exOf row
-  ex-entered = row-entered 12 (omega arith) (omega arith)
-
-  pub s2-entered : s2Of (entered fcb row) ≡ s2Of row
-  s2-entered = row-entered 14 (omega arith) (omega arith)
-
-  pub rc-entered : rcOf (entered fcb row) ≡ rcOf row
-  rc-entered = row-entered 15 (omega arith) (omega arith)
-
   pub extent-entered : extentOf (entered fcb row) ≡ extentOf row
   extent-entered = extent-cong (entered fcb row) row (λ i a b. row-entered i (omega arith) (omega arith))
 
   pub cr-entered : crOf (entered fcb row) ≡ crOf fcb
   cr-entered = rest-entered 36 32 (omega arith) (omega arith)
-
-  pub random-entered : randomOf (entered fcb row) ≡ randomOf fcb
-  random-entered = random-cong (entered fcb row) fcb (λ i a b. rest-entered 36 i (omega arith) b)
 
   -- it is right where the row and cr are
   pub fcbRight-entered : nameRight false row 1 ≡ true → numbersRight row ≡ true → crOf fcb ≤ 128 → fcbRight (entered fcb row) ≡ true

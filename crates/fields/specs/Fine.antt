@@ -4,29 +4,15 @@ use mathlib.Core.Bool.{true, false}
 use Prim.Native.Nat.{ℕ, _≤_, _<_}
 use native.Mathlib.Omega.{arith}
 use lib.ListN.{length}
-use Rattle.lists.specs.Cases.{split}
-use Rattle.format.specs.Diskette.{Bytes, Geometry, slotCount, extents}
+use Rattle.format.specs.Diskette.{Bytes, Geometry, extents}
 use Rattle.format.specs.Names.{nameRight}
-use Rattle.format.specs.Entries.{exOf, slotOf}
-use Rattle.consistency.specs.Facts.{Numbers, Fine}
+use Rattle.format.specs.Entries.{exOf}
+use Rattle.consistency.specs.Facts.{Fine}
 use Rattle.names.specs.Laws.{right-cong}
-use Rattle.model.specs.Closing.{closedRow}
 use Rattle.model.specs.Entering.{madeRow, nextRow, renamedRow}
-use Rattle.fields.specs.Closing.{file-closed, right-closed, numbers-closed, slot-closed-cases}
 use Rattle.fields.specs.Making.{user-made, name-made, ex-made, s2-made, rc-made, slot-made, user-next, name-next, ex-next, s2-next, rc-next, slot-next, user-renamed, name-renamed, rest-renamed, slot-renamed}
 
 module _ (G : Geometry) (row fcb : Bytes) (hr : length row ≡ 32) (fine : Fine G row) where
-  -- a close, with an FCB whose blocks that it brings are in range
-  module _ (numbers : Numbers fcb) (blocks : (j : ℕ) → j < slotCount → slotOf row j ≡ 0 → (slotOf fcb j ≡ 0 → ⊥) → (G .area ≤ slotOf fcb j) × (slotOf fcb j < G .blocks)) where
-    pub fine-closed : Fine G (closedRow G row fcb)
-    fine-closed = record {
-      user = rw (file-closed G row fcb hr .user) (fine .user);
-      name = right-closed G row fcb hr false ∙ fine .name;
-      numbers = numbers-closed G row fcb hr (fine .numbers) numbers;
-      low = λ j h n. split (slot-closed-cases G row fcb hr j h) (λ q. rw q (fine .low j h (λ z. n (q ∙ z)))) (λ c. rw (c .2) (blocks j h (c .0) (c .1) .0));
-      high = λ j h n. split (slot-closed-cases G row fcb hr j h) (λ q. rw q (fine .high j h (λ z. n (q ∙ z)))) (λ c. rw (c .2) (blocks j h (c .0) (c .1) .1));
-    }
-
   -- a new name
   pub fine-renamed : nameRight false fcb 17 ≡ true → Fine G (renamedRow fcb row)
   fine-renamed n = record {

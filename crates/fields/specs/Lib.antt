@@ -6,7 +6,6 @@ pub mod Making
 pub mod Fine
 pub mod Numbers
 pub mod Target
-pub mod Search
 pub mod Size
 pub mod Changing
 pub mod Naming

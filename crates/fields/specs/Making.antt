@@ -1,21 +1,20 @@
 -- The rows that are made: a new file's, a new extent's, and a renamed one, byte by byte and field by field.
 use mathlib.Core.Path.{_≡_, refl, ap, _∙_}
 use mathlib.Core.Logic.{inl, inr}
-use mathlib.Core.Bool.{true, false}
+use mathlib.Core.Bool.{false}
 use mathlib.Core.List.{_∷_, _++_}
 use Prim.Native.Nat.{ℕ, suc, _+_, _-_, _/_, _%_, _≤_, _<_}
 use native.Mathlib.Omega.{arith}
 use lib.ListN.{length, getD, take, replicate, length-append, List·getD-append}
 use lib.Seq.{length-take-le, getD-take}
-use borrow.Author.Tests.{leb-true, le-leb, lt-leb}
-use Rattle.lists.specs.Cases.{bool-ext}
+use borrow.Author.Tests.{lt-leb}
 use Rattle.lists.specs.Splice.{length-splice, getD-splice-in, getD-splice-out, getD-append-past}
 use Rattle.lists.specs.Tab.{tab, length-tab, getD-tab, getD-zeros}
 use Rattle.format.specs.Diskette.{Bytes, slotCount}
 use Rattle.format.specs.Names.{sevenBits, nameBytes}
-use Rattle.format.specs.Entries.{userOf, exOf, s2Of, rcOf, slotOf, used, empty, readOnly, extentOf}
+use Rattle.format.specs.Entries.{userOf, exOf, s2Of, rcOf, slotOf, readOnly, extentOf}
 use Rattle.model.specs.Entering.{madeRow, nextRow, renamedByte, renamedRow}
-use Rattle.fields.specs.Agree.{Agree, SameName, name-cong, slot-cong, extent-cong, readOnly-cong, used-cong, empty-cong}
+use Rattle.fields.specs.Agree.{Agree, SameName, name-cong, slot-cong, extent-cong}
 
 -- ---- 22: user, name without attributes, ex, zeros
 module _ (user : ℕ) (fcb : Bytes) where
@@ -77,10 +76,6 @@ module _ (user : ℕ) (fcb : Bytes) where
   unfolding readOnly
   readOnly-made = rw (byte-made 8 (omega arith)) (lt-leb 128 (sevenBits (getD fcb 9 0)) (omega arith))
 
-  pub used-made : user ≤ 15 → used (madeRow user fcb) ≡ true
-  unfolding used
-  used-made h = rw user-made (le-leb _ _ h)
-
 -- ---- a move that makes an entry: the row's user, name and attributes, the extent's ex and s2, zeros
 module _ (row : Bytes) (ext : ℕ) (hr : length row ≡ 32) where
   head-long : length (take 12 row) ≡ 12
@@ -106,9 +101,6 @@ module _ (row : Bytes) (ext : ℕ) (hr : length row ≡ 32) where
 
   pub name-next : SameName (nextRow row ext) 1 row 1
   name-next = name-cong (nextRow row ext) row (λ i a b. head-next i (omega arith) b)
-
-  pub readOnly-next : readOnly (nextRow row ext) ≡ readOnly row
-  readOnly-next = readOnly-cong (nextRow row ext) row (head-next 9 (omega arith) (omega arith))
 
   pub ex-next : exOf (nextRow row ext) ≡ ext % 32
   unfolding numbers
@@ -146,14 +138,6 @@ module _ (fcb row : Bytes) where
   unfolding renamedByte
   bits-renamed i = omega arith
 
-  pub attribute-renamed : (i : ℕ) → renamedByte fcb row i / 128 ≡ getD row (1 + i) 0 / 128
-  unfolding renamedByte
-  attribute-renamed i = omega arith
-
-  pub byte-renamed-high : (i : ℕ) → getD row (1 + i) 0 < 256 → renamedByte fcb row i < 256
-  unfolding renamedByte
-  byte-renamed-high i h = omega arith
-
   module _ (hr : length row ≡ 32) where
     bytes-long : length (tab nameBytes (renamedByte fcb row)) ≡ 11
     bytes-long = length-tab nameBytes (renamedByte fcb row)
@@ -181,26 +165,8 @@ module _ (fcb row : Bytes) where
     pub name-renamed : SameName (renamedRow fcb row) 1 fcb 17
     name-renamed i h = ap sevenBits (byte-renamed i h) ∙ bits-renamed i
 
-    pub readOnly-renamed : readOnly (renamedRow fcb row) ≡ readOnly row
-    unfolding readOnly
-    readOnly-renamed =
-        let a : renamedByte fcb row 8 / 128 ≡ getD row 9 0 / 128 = attribute-renamed 8 in
-        rw (byte-renamed 8 (omega arith))
-        (bool-ext _ _
-        (λ t. let h : 128 ≤ renamedByte fcb row 8 = leb-true _ _ t in le-leb 128 (getD row 9 0) (omega arith))
-        (λ t. let h : 128 ≤ getD row 9 0 = leb-true _ _ t in le-leb 128 (renamedByte fcb row 8) (omega arith)))
-
     pub slot-renamed : (j : ℕ) → j < slotCount → slotOf (renamedRow fcb row) j ≡ slotOf row j
     slot-renamed = slot-cong (renamedRow fcb row) row (λ i a b. rest-renamed 32 i (omega arith) b)
 
     pub extent-renamed : extentOf (renamedRow fcb row) ≡ extentOf row
     extent-renamed = extent-cong (renamedRow fcb row) row (rest-renamed 15)
-
-    pub rc-renamed : rcOf (renamedRow fcb row) ≡ rcOf row
-    rc-renamed = rest-renamed 16 15 (omega arith) (omega arith)
-
-    pub used-renamed : used (renamedRow fcb row) ≡ used row
-    used-renamed = used-cong (renamedRow fcb row) row user-renamed
-
-    pub empty-renamed : empty (renamedRow fcb row) ≡ empty row
-    empty-renamed = empty-cong (renamedRow fcb row) row user-renamed

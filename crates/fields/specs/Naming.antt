@@ -1,59 +1,23 @@
--- The rows that a name gives: the parts of `named` and `isFile`, and rows of other files.
+-- The rows that a name gives are used, and rows of one name and extent are one entry.
 use mathlib.Core.Path.{_≡_, sym, _∙_}
 use mathlib.Core.Bool.{Bool, true, false}
 use Prim.Native.Nat.{ℕ, _≤_, _<_}
 use native.Mathlib.Omega.{arith}
-use borrow.Author.Tests.{eqb-true, eq-eqb}
 use Rattle.lists.specs.Cases.{split, bool-cases}
-use Rattle.lists.specs.Tests.{_and_, and-left, and-right, and-both}
 use Rattle.format.specs.Diskette.{Bytes, Geometry}
-use Rattle.format.specs.Names.{nameLike}
-use Rattle.format.specs.Entries.{Rows, userOf, used, extentOf, covers, named, isFile, findFile}
+use Rattle.format.specs.Entries.{Rows, used, named, isFile, findFile}
 use Rattle.format.specs.declared.Found.the-variants.{At}
+use Rattle.facts.specs.Find.{file-is}
+use Rattle.facts.specs.Naming.{named-user, file-named, file-user, file-like, file-extent}
 use Rattle.names.specs.Laws.{like-sym, like-trans}
 use Rattle.consistency.specs.Facts.{SameFile, Consistent}
 use Rattle.consistency.specs.Reflect.{low-used}
-use Rattle.rows.specs.Find.{file-is}
 
--- ---- a row of a name
-module _ (wild : Bool) (user : ℕ) (s : Bytes) (q : ℕ) (r : Bytes) (h : named wild user s q r ≡ true) where
-  pub named-user : userOf r ≡ user
-  unfolding named
-  named-user = eqb-true _ _ (and-left _ _ h)
+pub named-used : (wild : Bool) (user : ℕ) (s : Bytes) (q : ℕ) (r : Bytes) → named wild user s q r ≡ true → user ≤ 15 → used r ≡ true
+named-used wild user s q r h hu = low-used r (omega (arith, named-user wild user s q r h))
 
-  pub named-like : nameLike wild s q r 1 ≡ true
-  unfolding named
-  named-like = and-right _ _ h
-
-  pub named-used : user ≤ 15 → used r ≡ true
-  named-used hu = low-used r (omega (arith, named-user))
-
-pub named-intro : (wild : Bool) (user : ℕ) (s : Bytes) (q : ℕ) (r : Bytes) → userOf r ≡ user → nameLike wild s q r 1 ≡ true → named wild user s q r ≡ true
-unfolding named
-named-intro wild user s q r a b = and-both _ _ (eq-eqb _ _ a) b
-
--- ---- a row of a name and an extent
-module _ (G : Geometry) (user : ℕ) (s : Bytes) (q ext : ℕ) (r : Bytes) (h : isFile G user s q ext r ≡ true) where
-  pub file-named : named false user s q r ≡ true
-  unfolding isFile
-  file-named = and-left _ _ h
-
-  pub file-extent : extentOf r ≡ ext
-  unfolding isFile covers
-  file-extent = eqb-true _ _ (and-right _ _ h)
-
-  pub file-user : userOf r ≡ user
-  file-user = named-user false user s q r file-named
-
-  pub file-like : nameLike false s q r 1 ≡ true
-  file-like = named-like false user s q r file-named
-
-  pub file-used : user ≤ 15 → used r ≡ true
-  file-used hu = named-used false user s q r file-named hu
-
-pub file-intro : (G : Geometry) (user : ℕ) (s : Bytes) (q ext : ℕ) (r : Bytes) → named false user s q r ≡ true → extentOf r ≡ ext → isFile G user s q ext r ≡ true
-unfolding isFile covers
-file-intro G user s q ext r a b = and-both _ _ a (eq-eqb _ _ b)
+pub file-used : (G : Geometry) (user : ℕ) (s : Bytes) (q ext : ℕ) (r : Bytes) → isFile G user s q ext r ≡ true → user ≤ 15 → used r ≡ true
+file-used G user s q ext r h hu = named-used false user s q r (file-named G user s q ext r h) hu
 
 -- two rows of one name and extent
 pub file-same : (G : Geometry) (user : ℕ) (s : Bytes) (q ext : ℕ) (r t : Bytes) → isFile G user s q ext r ≡ true → isFile G user s q ext t ≡ true → SameFile r t

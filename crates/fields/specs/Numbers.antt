@@ -1,6 +1,6 @@
 -- A number in three bytes, in an FCB's r0 to r2 and elsewhere.
 use mathlib.Core.Path.{_≡_}
-use mathlib.Core.Logic.{inl, inr}
+use mathlib.Core.Logic.{inl}
 use Prim.Native.Nat.{ℕ, _+_, _*_, _/_, _%_, _≤_, _<_}
 use native.Mathlib.Omega.{arith}
 use lib.ListN.{length, getD}
@@ -33,9 +33,6 @@ module _ (l : Bytes) (at n : ℕ) (fits : at + 3 ≤ length l) where
 
   pub below-three : Agree (splice l at (threeBytes n)) l 0 at
   below-three i a b = getD-splice-out l at (threeBytes n) fits i (inl b)
-
-  pub past-three : (m : ℕ) → Agree (splice l at (threeBytes n)) l (at + 3) m
-  past-three m i a b = getD-splice-out l at (threeBytes n) fits i (inr a)
 
 -- 35 and 36: r0 to r2
 pub random-three : (fcb : Bytes) (n : ℕ) → length fcb ≡ 36 → n < 16777216 → randomOf (splice fcb 33 (threeBytes n)) ≡ n

@@ -9,18 +9,16 @@ use lib.ListN.{length, getD, set, length-set}
 use lib.Seq.{getD-set-same, getD-set-other}
 use borrow.Author.Tests.{eqb-true, eqb-false, eq-eqb, ne-eqb}
 use Rattle.lists.specs.Cases.{split, bool-cases, eq-or-ne}
-use Rattle.lists.specs.Product.{same-digits}
-use Rattle.format.specs.Diskette.{Bytes, Geometry, Sound, recordAt, withRecord, slotCount, extents}
-use Rattle.format.specs.Entries.{entryAt, withEntry, rcOf, slotOf, extentOf, countIn, slotFor}
+use Rattle.format.specs.Diskette.{Bytes, Geometry, Sound, slotCount}
+use Rattle.format.specs.Entries.{rcOf, slotOf, extentOf, countIn}
 use Rattle.format.specs.Notes.{noteAt, pendingFor, withNote}
 use Rattle.format.specs.Fcb.{crOf, randomOf}
-use Rattle.disk.specs.Places.{blockRecords, block-record, block-once}
+use Rattle.disk.specs.Places.{blockRecords, block-record}
 use Rattle.rows.specs.Fields.{slot-for-below}
-use Rattle.rows.specs.Entries.{areaRecords, block-past}
 use Rattle.model.specs.Lent.{Lent, rowsOf}
 use Rattle.model.specs.Closing.{closedImage, closedMap}
 use Rattle.model.specs.Entering.{entered}
-use Rattle.model.specs.Target.{isRandom, targetExtent, targetRecord, crAfter, stays, targetSlot, placeIn, moved, made, nextMade, haveRead, writtenCount, writtenFcb, writtenMap, haveWritten}
+use Rattle.model.specs.Target.{isRandom, targetExtent, targetRecord, crAfter, stays, targetSlot, placeIn, moved, writtenCount, writtenFcb, writtenMap}
 use Rattle.fields.specs.Agree.{Agree, SameName, name-cong, slot-cong, extent-cong, random-cong}
 
 -- ---- the target
@@ -72,14 +70,6 @@ module _ (n : ℕ) (fcb : Bytes) where
       split (bool-cases (isRandom n)) (λ r. rw (crAfter-random r) (omega (arith, record-below h)))
       (λ s. rw (crAfter-sequential s) (omega (arith, record-below h)))
 
-  -- a random record that is in range is of an extent that is; a sequential one is at most one past its FCB's
-  pub extent-random-below : isRandom n ≡ true → randomOf fcb ≤ 262143 → targetExtent n fcb < extents
-  extent-random-below r h = rw (extent-random r) (omega arith)
-
-  pub extent-sequential-high : isRandom n ≡ false → targetExtent n fcb ≤ extentOf fcb + 1
-  extent-sequential-high s =
-      split (eq-or-ne (crOf fcb) 128) (λ e. rw (extent-past s e) (omega arith)) (λ e. rw (extent-within s e) (omega arith))
-
   pub stays-extent : stays n fcb ≡ true → targetExtent n fcb ≡ extentOf fcb
   unfolding stays
   stays-extent t = eqb-true _ _ t
@@ -98,21 +88,6 @@ module _ {G : Geometry} (S : Sound G) where
   unfolding placeIn
   place-below b r h = block-record G b (r % G .perBlock) h (mod-lt r (S .some-record))
 
-  pub place-past : (b r : ℕ) → G .area ≤ b → areaRecords G ≤ placeIn G b r
-  unfolding placeIn
-  place-past b r h = block-past G b (r % G .perBlock) h
-
-  -- records of two blocks, and two records of one slot, are two places
-  pub place-block : (b r c q : ℕ) → placeIn G b r ≡ placeIn G c q → b ≡ c
-  unfolding placeIn
-  place-block b r c q e = (block-once G b (r % G .perBlock) c (q % G .perBlock) (mod-lt r (S .some-record)) (mod-lt q (S .some-record)) e) .0
-
-  pub place-record : (ext b r c q : ℕ) → placeIn G b r ≡ placeIn G c q → slotFor G ext r ≡ slotFor G ext q → r ≡ q
-  unfolding placeIn slotFor
-  place-record ext b r c q e s =
-      same-digits (G .perBlock) r q s
-      ((block-once G b (r % G .perBlock) c (q % G .perBlock) (mod-lt r (S .some-record)) (mod-lt q (S .some-record)) e) .1)
-
 -- ---- moving
 module _ (G : Geometry) (n : ℕ) (l : Lent) (e t : ℕ) where
   pub image-moved : moved G n l e t .image ≡ closedImage G (l .image) e (l .fcb)
@@ -127,44 +102,7 @@ module _ (G : Geometry) (n : ℕ) (l : Lent) (e t : ℕ) where
   unfolding moved
   fcb-moved = refl
 
-  pub buffer-moved : moved G n l e t .buffer ≡ l .buffer
-  unfolding moved
-  buffer-moved = refl
-
-  pub image-made : made G n l e t .image ≡ withEntry G (closedImage G (l .image) e (l .fcb)) t (nextMade G n l e)
-  unfolding made
-  image-made = refl
-
-  pub map-made : made G n l e t .map ≡ closedMap (rowsOf G l e) (l .fcb) (l .map)
-  unfolding made
-  map-made = refl
-
-  pub fcb-made : made G n l e t .fcb ≡ entered (l .fcb) (nextMade G n l e)
-  unfolding made
-  fcb-made = refl
-
-  pub buffer-made : made G n l e t .buffer ≡ l .buffer
-  unfolding made
-  buffer-made = refl
-
 -- ---- reading: the buffer gets the record, the FCB its cr
-module _ (G : Geometry) (b r cr : ℕ) (l : Lent) where
-  pub image-read : haveRead G b r cr l .image ≡ l .image
-  unfolding haveRead
-  image-read = refl
-
-  pub map-read : haveRead G b r cr l .map ≡ l .map
-  unfolding haveRead
-  map-read = refl
-
-  pub fcb-read : haveRead G b r cr l .fcb ≡ set (l .fcb) 32 cr
-  unfolding haveRead
-  fcb-read = refl
-
-  pub buffer-read : haveRead G b r cr l .buffer ≡ recordAt G (l .image) (placeIn G b r)
-  unfolding haveRead
-  buffer-read = refl
-
 module _ (fcb : Bytes) (cr : ℕ) where
   pub byte-read : (i : ℕ) → (i ≡ 32 → ⊥) → getD (set fcb 32 cr) i 0 ≡ getD fcb i 0
   byte-read i h = getD-set-other fcb 32 i cr 0 h
@@ -188,23 +126,6 @@ module _ (fcb : Bytes) (cr : ℕ) where
   random-read = random-cong (set fcb 32 cr) fcb (λ i a b. byte-read i (λ q. omega arith))
 
 -- ---- writing: the record, the note, and the FCB's slot, rc and cr
-module _ (G : Geometry) (t j b r cr : ℕ) (l : Lent) where
-  pub image-written : haveWritten G t j b r cr l .image ≡ withRecord G (l .image) (placeIn G b r) (l .buffer)
-  unfolding haveWritten
-  image-written = refl
-
-  pub map-written : haveWritten G t j b r cr l .map ≡ writtenMap (l .map) (l .fcb) t j b
-  unfolding haveWritten
-  map-written = refl
-
-  pub fcb-written : haveWritten G t j b r cr l .fcb ≡ writtenFcb G (l .fcb) (entryAt G (l .image) t) j b r cr
-  unfolding haveWritten
-  fcb-written = refl
-
-  pub buffer-written : haveWritten G t j b r cr l .buffer ≡ l .buffer
-  unfolding haveWritten
-  buffer-written = refl
-
 module _ (G : Geometry) (fcb row : Bytes) (r : ℕ) where
   pub count-written-target : r < writtenCount G fcb row r
   unfolding writtenCount
@@ -260,11 +181,6 @@ module _ (G : Geometry) (fcb row : Bytes) (j b r cr : ℕ) where
         getD-set-other (set (set fcb (16 + j) b) 15 (writtenCount G fcb row r)) 32 (16 + j) cr 0 (λ z. omega arith)
         ∙ getD-set-other (set fcb (16 + j) b) 15 (16 + j) (writtenCount G fcb row r) 0 (λ z. omega arith) ∙ getD-set-same fcb (16 + j) b 0 (omega arith)
 
-    -- a write to a block that the FCB has leaves its slots as they were
-    pub slot-written-kept : b ≡ slotOf fcb j → (k : ℕ) → k < slotCount → slotOf (writtenFcb G fcb row j b r cr) k ≡ slotOf fcb k
-    slot-written-kept e k h =
-        split (eq-or-ne k j) (λ q. rw q (slot-written ∙ e)) (λ n. slot-written-other k h n)
-
     pub rc-written : rcOf (writtenFcb G fcb row j b r cr) ≡ writtenCount G fcb row r
     unfolding writtenFcb
     rc-written =
@@ -278,11 +194,6 @@ module _ (G : Geometry) (fcb row : Bytes) (j b r cr : ℕ) where
         (omega (arith, length-set (set fcb (16 + j) b) 15 (writtenCount G fcb row r), length-set fcb (16 + j) b))
 
 module _ (map fcb : Bytes) (t j b : ℕ) where
-  pub length-writtenMap : length (writtenMap map fcb t j b) ≡ length map
-  unfolding writtenMap withNote
-  length-writtenMap =
-      split (bool-cases (eqb (slotOf fcb j) 0)) (λ e. rw e (length-set map b (pendingFor t j))) (λ e. rw e)
-
   -- a slot that has a block: no note changes
   pub map-written-kept : (slotOf fcb j ≡ 0 → ⊥) → writtenMap map fcb t j b ≡ map
   unfolding writtenMap

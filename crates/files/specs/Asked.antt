@@ -14,7 +14,7 @@ use Rattle.model.specs.declared.Code.the-variants.{BadName}
 use Rattle.format.specs.declared.Found.the-variants.{At}
 use Rattle.model.specs.Lent.{Lent, rowsOf}
 use Rattle.model.specs.Table.{Row, askedEntry}
-use Rattle.rows.specs.Find.{file-says}
+use Rattle.facts.specs.Find.{file-says}
 use Rattle.table.specs.First.{Decides, here, later}
 use Rattle.table.specs.Own.{when}
 use Rattle.table.specs.Reflect.{second-fails}

@@ -7,7 +7,7 @@ use Rattle.format.specs.Diskette.{Bytes, Geometry}
 use Rattle.format.specs.Names.{nameRight}
 use Rattle.format.specs.Entries.{withEntry, named, findNamed, findEmpty}
 use Rattle.format.specs.Found.{isFound}
-use Rattle.format.specs.declared.Found.{Found}
+use Rattle.facts.specs.Found.{found-row, missed-row}
 use Rattle.format.specs.declared.Found.the-variants.{At, Nothing}
 use Rattle.model.specs.declared.Session.{Session}
 use Rattle.model.specs.declared.Answer.{Answer}
@@ -20,13 +20,6 @@ use Rattle.table.specs.First.{_&_, here, later}
 use Rattle.table.specs.Own.{call15, call22, call35}
 use Rattle.table.specs.OwnStep.{ownStep, refuses-own, carries-own}
 use Rattle.files.specs.Asked.{asksRight, asked-wrong, asked-right}
-
--- the test of a row that asks for an entry, by what was looked up
-found-row : (f : Found) (e : ℕ) → f ≡ At e → not (isFound f) ≡ false
-found-row f e q = rw q
-
-missed-row : (f : Found) → f ≡ Nothing → not (isFound f) ≡ true
-missed-row f q = rw q
 
 module _ (G : Geometry) (l : Lent) (s : Session) (r : Answer) where
   -- ---- 15
@@ -43,7 +36,7 @@ module _ (G : Geometry) (l : Lent) (s : Session) (r : Answer) where
       → outcome r (l .image) (l .map) fcb (l .buffer) ≡ ownStep G 0 l s call15
   unfolding opened openedAt
   open-done e fcb h q a f =
-      let p = asked-right _ h in carries-own G 0 l s call15 _ (p .name & p .ex & found-row _ e q & tt) (rw (q, a, f))
+      let p = asked-right _ h in carries-own G 0 l s call15 _ (p .name & p .ex & found-row _ q & tt) (rw (q, a, f))
 
   -- ---- 22
   pub make-wrong : asksRight (l .fcb) ≡ false → r ≡ answerOf BadName s → outcome r (l .image) (l .map) (l .fcb) (l .buffer) ≡ ownStep G 0 l s call22
@@ -66,7 +59,7 @@ module _ (G : Geometry) (l : Lent) (s : Session) (r : Answer) where
   unfolding created createdAt
   make-done e img fcb h q z a i f =
       let p = asked-right _ h in
-      carries-own G 0 l s call22 _ (p .name & p .ex & ap isFound q & found-row _ e z & tt) (rw (z, a, i, f))
+      carries-own G 0 l s call22 _ (p .name & p .ex & ap isFound q & found-row _ z & tt) (rw (z, a, i, f))
 
   -- ---- 35
   pub size-wrong : nameRight false (l .fcb) 1 ≡ false → r ≡ answerOf BadName s → outcome r (l .image) (l .map) (l .fcb) (l .buffer) ≡ ownStep G 0 l s call35
@@ -81,4 +74,4 @@ module _ (G : Geometry) (l : Lent) (s : Session) (r : Answer) where
       → r ≡ answerOf (Accepted 0) (ended s) → fcb ≡ splice (l .fcb) 33 (threeBytes (fileSize G (rowsOf G l) (named false (s .user) (l .fcb) 1)))
       → outcome r (l .image) (l .map) fcb (l .buffer) ≡ ownStep G 0 l s call35
   unfolding anyNamed sized
-  size-done e fcb h q a f = carries-own G 0 l s call35 _ (ap not h & found-row _ e q & tt) (rw (a, f))
+  size-done e fcb h q a f = carries-own G 0 l s call35 _ (ap not h & found-row _ q & tt) (rw (a, f))

@@ -12,14 +12,13 @@ use Rattle.model.specs.Lent.{Lent, Outcome, rowsOf}
 use Rattle.model.specs.Entering.{madeRow}
 use Rattle.model.specs.Table.{askedEntry}
 use Rattle.model.specs.Calls.{loggedIn, freed, userSet, openedAt, opened, closedAt, closed, foundAt, searched, deletes, deleted, createdAt, created, renamed, sized, positioned, space}
-use Rattle.rows.specs.Find.{no-file-says, empty-says}
+use Rattle.facts.specs.Find.{no-file-says, empty-says}
 use Rattle.fields.specs.Fine.{fine-made}
 use Rattle.fields.specs.Making.{length-madeRow, user-made, name-made, slot-made, extent-made}
-use Rattle.fields.specs.Naming.{named-intro, file-intro}
+use Rattle.facts.specs.Naming.{named-intro, file-intro}
 use Rattle.names.specs.Laws.{like-intro}
 use Rattle.table.specs.Own.{Call, call13, call15, call16, call17, call18, call19, call20, call21, call22, call23, call32, call33, call34, call35, call36, call46, call98}
 use Rattle.table.specs.Facts.{Fits, Closes, Makes, Renames, Own}
-use Rattle.table.specs.Accept.{accepted}
 use Rattle.table.specs.Carried.{carriedBy}
 use Rattle.invariant.specs.Good.{Good, good-consistent}
 use Rattle.invariant.specs.Updates.{good-fresh, good-freed, good-made, good-erased, good-renamed}

@@ -3,27 +3,23 @@ use mathlib.Core.Path.{_≡_, refl, ap, sym, _∙_, subst}
 use mathlib.Core.Logic.{inl, inr}
 use mathlib.Core.Bool.{true, false}
 use Prim.Native.Nat.{ℕ, _≤_, _<_}
-use lib.ListN.{length, List·getD-eq-default}
-use Rattle.lists.specs.Cases.{split, eq-or-ne, lt-or-le}
+use lib.ListN.{length}
+use Rattle.lists.specs.Cases.{split, eq-or-ne}
 use Rattle.format.specs.Diskette.{Bytes, Geometry, Sound, slotCount}
 use Rattle.format.specs.Entries.{entryAt, slotOf, extentOf, used}
 use Rattle.format.specs.Notes.{noteAt, freeNote, pendingFor}
 use Rattle.model.specs.Closing.{closedRow, closedImage, closedMap}
 use Rattle.consistency.specs.Facts.{SameFile}
-use Rattle.notes.specs.Numbers.{pending-not-free}
+use Rattle.notes.specs.Numbers.{pending-not-free, pending-block}
 use Rattle.rows.specs.Entries.{length-entryAt}
 use Rattle.fields.specs.Images.{length-closedImage, row-closedImage, row-closedImage-other}
 use Rattle.fields.specs.Naming.{file-used}
 use Rattle.fields.specs.Closing.{right-closed, numbers-closed, slot-closed-new, slot-closed-cases, file-closed, length-closedMap, note-closed-taken, note-closed-left}
-use Rattle.current.specs.Current.{SlotOk, slot-same, slot-pending, Current, fcb-says, current-low, current-file, current-slot}
+use Rattle.facts.specs.Current.{Current}
+use Rattle.current.specs.Current.{SlotOk, slot-same, slot-pending, fcb-says, current-low, current-file, current-slot}
 use Rattle.invariant.specs.Carry.{same-refl}
 use Rattle.invariant.specs.Close.{Held, ClosedTo, close-inv}
 use Rattle.invariant.specs.Good.{Good}
-
--- only blocks have pending notes
-pub pending-block : (map : Bytes) (b e j : ℕ) → noteAt map b ≡ pendingFor e j → b < length map
-pending-block map b e j q =
-    split (lt-or-le b (length map)) (λ h. h) (λ h. absurd (pending-not-free e j (sym q ∙ List·getD-eq-default map 0 h)))
 
 module _ {G : Geometry} (S : Sound G) (img map : Bytes) (g : Good G img map) (user : ℕ) (low : user ≤ 15) (fcb : Bytes) (e : ℕ)
     (c : Current G (entryAt G img) map user fcb e) where
@@ -65,7 +61,7 @@ module _ {G : Geometry} (S : Sound G) (img map : Bytes) (g : Good G img map) (us
 
   -- ---- the rows and notes afterwards
   there : (k : ℕ) → k < G .entries → (k ≡ e → ⊥) → entryAt G (closedImage G img e fcb) k ≡ entryAt G img k
-  there k l n = row-closedImage-other S img (g .image-long) e current-below fcb k l (λ z. n (sym z))
+  there = row-closedImage-other S img (g .image-long) e current-below fcb
 
   here : entryAt G (closedImage G img e fcb) e ≡ closedRow G (entryAt G img e) fcb
   here = row-closedImage S img (g .image-long) e current-below fcb

@@ -8,8 +8,7 @@ use Rattle.format.specs.Diskette.{Bytes, Geometry, imageBytes}
 use Rattle.format.specs.Entries.{entryAt}
 use Rattle.format.specs.Consistent.{consistent}
 use Rattle.format.specs.Notes.{noteAt, mapRight}
-use Rattle.consistency.specs.Facts.{Consistent}
-use Rattle.consistency.specs.Reflect.{consistent-facts, facts-consistent}
+use Rattle.consistency.specs.Reflect.{image-facts, facts-image}
 use Rattle.notes.specs.Right.{map-ok, ok-map}
 use Rattle.invariant.specs.Inv.{Inv}
 
@@ -19,17 +18,12 @@ pub record Good (G : Geometry) (img map : Bytes) : Type 0 where
   pub inv : Inv G (entryAt G img) (λ (b : ℕ). noteAt map b)
 
 -- ---- the tests and the facts imply each other
-pub directory-of : (G : Geometry) (img : Bytes) → consistent G img ≡ true → Consistent G (entryAt G img)
-unfolding consistent
-directory-of G img t = consistent-facts G (entryAt G img) t
-
 module _ (G : Geometry) (img map : Bytes) where
   pub good-of : length img ≡ imageBytes G → length map ≡ G .blocks → consistent G img ≡ true → mapRight G (entryAt G img) map ≡ true → Good G img map
-  good-of long many t r = record { image-long = long; map-long = many; inv = record { dir = directory-of G img t; map = map-ok G (entryAt G img) map r } }
+  good-of long many t r = record { image-long = long; map-long = many; inv = record { dir = image-facts G img t; map = map-ok G (entryAt G img) map r } }
 
   pub good-consistent : Good G img map → consistent G img ≡ true
-  unfolding consistent
-  good-consistent g = facts-consistent G (entryAt G img) (g .inv .dir)
+  good-consistent g = facts-image G img (g .inv .dir)
 
   pub good-right : Good G img map → mapRight G (entryAt G img) map ≡ true
   good-right g = ok-map G (entryAt G img) map (g .inv .map)

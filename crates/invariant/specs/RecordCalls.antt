@@ -4,7 +4,7 @@ use mathlib.Core.Bool.{true, false}
 use Prim.Native.Nat.{ℕ, _≤_, _<_}
 use native.Mathlib.Omega.{arith}
 use lib.ListN.{length}
-use Rattle.lists.specs.Cases.{split, eq-or-ne, not-both}
+use Rattle.lists.specs.Cases.{split, eq-or-ne}
 use borrow.Author.Tests.{eq-eqb}
 use Rattle.format.specs.Diskette.{Bytes, Geometry, Sound, recordBytes, slotCount, extents}
 use Rattle.format.specs.Entries.{entryAt, slotOf, extentOf, used, empty, isFile, findEmpty}
@@ -19,24 +19,27 @@ use Rattle.model.specs.declared.Plan.{Plan}
 use Rattle.model.specs.Calls.{readAt, reading, read, writtenAt, writing, written}
 use Rattle.names.specs.Laws.{like-trans, like-intro}
 use Rattle.consistency.specs.Facts.{Fine}
-use Rattle.consistency.specs.Reflect.{used-full}
+use Rattle.consistency.specs.Reflect.{empty-elsewhere}
 use Rattle.notes.specs.Free.{free-is, free-spare}
 use Rattle.rows.specs.Entries.{length-entryAt, entry-stored}
-use Rattle.rows.specs.Find.{file-says, no-file-says, empty-says}
+use Rattle.facts.specs.Find.{file-says, no-file-says, empty-says}
 use Rattle.fields.specs.Agree.{isFile-cong, used-cong}
 use Rattle.fields.specs.Images.{row-closedImage-other}
 use Rattle.fields.specs.Fine.{fine-next}
 use Rattle.fields.specs.Making.{length-nextRow, user-next, name-next, slot-next, extent-next}
 use Rattle.fields.specs.Entering.{slot-entered}
-use Rattle.fields.specs.Naming.{named-intro, file-intro, file-user, file-like, file-used}
+use Rattle.facts.specs.Naming.{named-intro, file-intro, file-user, file-like}
+use Rattle.fields.specs.Naming.{file-used}
 use Rattle.fields.specs.Target.{map-written-kept, targetSlot-below}
-use Rattle.current.specs.Current.{SlotOk, slot-same, slot-pending, Current, fcb-says, current-says, current-file, current-slot}
+use Rattle.facts.specs.Current.{Current, current-says}
+use Rattle.current.specs.Current.{SlotOk, slot-same, slot-pending, fcb-says, current-file, current-slot}
 use Rattle.table.specs.Facts.{Fits, Reads, Writes}
 use Rattle.table.specs.Plans.{Block, there, free, There, Planned, stay, move, make, planned-read, planned-write}
 use Rattle.invariant.specs.Good.{Good}
 use Rattle.invariant.specs.Close.{pending-spare}
 use Rattle.invariant.specs.Updates.{good-taken, good-record, good-made}
-use Rattle.invariant.specs.CloseGood.{pending-block, current-below, current-used, closed-file, closed-free, good-closed}
+use Rattle.notes.specs.Numbers.{pending-block}
+use Rattle.invariant.specs.CloseGood.{current-below, current-used, closed-file, closed-free, good-closed}
 
 -- block b serves a write for slot j: it is past the directory, and free where the FCB has none in its slot
 pub record BlockFor (G : Geometry) (map fcb : Bytes) (j b : ℕ) : Type 0 where
@@ -178,9 +181,7 @@ module _ {G : Geometry} (S : Sound G) (n : ℕ) (l : Lent) (s : Session) (g : Go
 
     -- an empty entry is another than the present one
     elsewhere : t ≡ e → ⊥
-    elsewhere q =
-        not-both (empty (rowsOf G l t)) (empty-says G (rowsOf G l) t room .holds)
-        (used-full (rowsOf G l t) (subst (λ (x : ℕ). used (rowsOf G l x) ≡ true) (sym q) present-used))
+    elsewhere = empty-elsewhere (rowsOf G l) t e (empty-says G (rowsOf G l) t room .holds) present-used
 
     long : length (rowsOf G l e) ≡ 32
     long = length-entryAt S (l .image) (g .image-long) e present-below
@@ -202,7 +203,7 @@ module _ {G : Geometry} (S : Sound G) (n : ℕ) (l : Lent) (s : Session) (g : Go
         let ext : ℕ = targetExtent n (l .fcb) in
         let row : Bytes = nextRow (rowsOf G l e) ext in
         good-made S (closedImage G (l .image) e (l .fcb)) (closedMap (rowsOf G l e) (l .fcb) (l .map)) good-present t room-below
-        (ap empty (row-closedImage-other S (l .image) (g .image-long) e present-below (l .fcb) t room-below (λ q. elsewhere (sym q))) ∙ empty-says G (rowsOf G l) t room .holds) row (length-nextRow (rowsOf G l e) ext long)
+        (ap empty (row-closedImage-other S (l .image) (g .image-long) e present-below (l .fcb) t room-below elsewhere) ∙ empty-says G (rowsOf G l) t room .holds) row (length-nextRow (rowsOf G l e) ext long)
         (fine-next G (rowsOf G l e) ext long (g .inv .dir .fine e present-below present-used) low) (λ j h. slot-next (rowsOf G l e) ext long j)
         (s .user) (l .fcb) 1 ext next-file
         (λ k h. isFile-cong G (s .user) (l .fcb) 1 ext (entryAt G (closedImage G (l .image) e (l .fcb)) k) (rowsOf G l k)

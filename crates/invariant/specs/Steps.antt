@@ -8,11 +8,11 @@ use borrow.Author.Tests.{eqb-true, eqb-false}
 use Rattle.lists.specs.Cases.{split, eq-or-ne, not-both, clash}
 use Rattle.format.specs.Diskette.{Geometry, Sound, slotCount}
 use Rattle.format.specs.Entries.{Rows, slotOf, used, empty}
-use Rattle.format.specs.Notes.{freeNote, pendingFor, freshNote, settledNote}
+use Rattle.format.specs.Notes.{freeNote, pendingFor, freshNote}
 use Rattle.consistency.specs.Facts.{Fine, Stands, SameFile, Consistent}
-use Rattle.consistency.specs.Reflect.{used-full, low-used}
+use Rattle.consistency.specs.Reflect.{low-used, empty-elsewhere}
 use Rattle.notes.specs.Free.{free-spare}
-use Rattle.notes.specs.Right.{NoteOk, ok-pending, fresh-ok, ok-settles}
+use Rattle.notes.specs.Right.{NoteOk, ok-pending, fresh-ok}
 use Rattle.invariant.specs.Inv.{Inv}
 use Rattle.invariant.specs.Carry.{stands-row, change-dir, note-on}
 
@@ -21,10 +21,6 @@ module _ (G : Geometry) (d : Rows) where
   -- log-in: the fresh map is right for any consistent directory
   pub fresh-inv : (m : ℕ → ℕ) → Consistent G d → ((b : ℕ) → b < G .blocks → m b ≡ freshNote G d b) → Inv G d m
   fresh-inv m c note = record { dir = c; map = λ b h. subst (NoteOk G d b) (sym (note b h)) (fresh-ok G d b) }
-
-  -- freeing: what was pending is free
-  pub freed-inv : (m m′ : ℕ → ℕ) → Inv G d m → ((b : ℕ) → b < G .blocks → m′ b ≡ settledNote (m b)) → Inv G d m′
-  freed-inv m m′ v note = fresh-inv m′ (v .dir) (λ b h. note b h ∙ ok-settles G d b (m b) (v .map b h))
 
   -- a free block is taken for slot j of the used entry t
   pub take-inv : (m m′ : ℕ → ℕ) → Inv G d m → (b t j : ℕ) → b < G .blocks → m b ≡ freeNote → t < G .entries → j < slotCount → used (d t) ≡ true
@@ -62,7 +58,7 @@ module _ {G : Geometry} (S : Sound G) (d d′ : Rows) (m : ℕ → ℕ) (v : Inv
     (new : (k : ℕ) → k < G .entries → used (d k) ≡ true → SameFile (d′ t) (d k) → ⊥) where
   -- an entry in use is another
   elsewhere : (k : ℕ) → used (d k) ≡ true → k ≡ t → ⊥
-  elsewhere k u q = not-both (empty (d t)) was (used-full (d t) (subst (λ (x : ℕ). used (d x) ≡ true) q u))
+  elsewhere k u q = empty-elsewhere d t k was u (sym q)
 
   made-back : (b e j : ℕ) → Stands G d′ b e j → Stands G d b e j
   made-back b e j s =

@@ -23,11 +23,13 @@ use Rattle.fields.specs.Agree.{isFile-cong}
 use Rattle.fields.specs.Fine.{fine-renamed}
 use Rattle.fields.specs.Making.{length-renamedRow, user-renamed, name-renamed, extent-renamed, slot-renamed}
 use Rattle.fields.specs.Changing.{length-changedRows, row-picked, row-unpicked, length-erasedRow, empty-erased}
-use Rattle.fields.specs.Naming.{named-user, named-like, named-used, named-intro}
+use Rattle.facts.specs.Naming.{named-user, named-like, named-intro}
+use Rattle.consistency.specs.Reflect.{image-facts}
+use Rattle.fields.specs.Naming.{named-used}
 use Rattle.fields.specs.Target.{place-below}
 use Rattle.invariant.specs.Steps.{fresh-inv, take-inv, keep-inv, make-inv}
 use Rattle.invariant.specs.Change.{RenamedTo, erase-inv, rename-inv}
-use Rattle.invariant.specs.Good.{Good, directory-of, good-consistent, good-right}
+use Rattle.invariant.specs.Good.{Good, good-consistent, good-right}
 
 -- ---- the map alone
 module _ (G : Geometry) (img : Bytes) where
@@ -36,7 +38,7 @@ module _ (G : Geometry) (img : Bytes) where
   good-fresh long t = record {
     image-long = long;
     map-long = length-fresh G (entryAt G img);
-    inv = fresh-inv G (entryAt G img) (λ b. noteAt (freshMap G (entryAt G img)) b) (directory-of G img t) (λ b h. fresh-at G (entryAt G img) b h);
+    inv = fresh-inv G (entryAt G img) (λ b. noteAt (freshMap G (entryAt G img)) b) (image-facts G img t) (λ b h. fresh-at G (entryAt G img) b h);
   }
 
   module _ (map : Bytes) (g : Good G img map) where

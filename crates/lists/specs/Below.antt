@@ -201,10 +201,6 @@ unfolding firstOf
 of-cong p q i zero f = refl
 of-cong p q i (suc n) f = rw (f i (omega arith) (omega arith), of-cong p q (suc i) n (λ k a b. f k (omega arith) (omega arith)))
 
-pub first-cong : (p q : ℕ → Bool) (i n : ℕ) → ((k : ℕ) → i ≤ k → k < n → p k ≡ q k) → firstIn p i n ≡ firstIn q i n
-unfolding firstIn
-first-cong p q i n f = of-cong p q i (n - i) (λ k a b. f k a (omega arith))
-
 -- numbers at which p fails may be skipped
 pub first-skip : (p : ℕ → Bool) (i k n : ℕ) → i ≤ k → k ≤ n → ((j : ℕ) → i ≤ j → j < k → p j ≡ false) → firstIn p k n ≡ firstIn p i n
 first-skip p i k n a b f =

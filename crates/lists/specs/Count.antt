@@ -16,14 +16,6 @@ pub count-none : (p : ℕ → Bool) → countBelow p 0 ≡ 0
 unfolding countBelow
 count-none p = refl
 
-pub count-hit : (p : ℕ → Bool) (i : ℕ) → p i ≡ true → countBelow p (i + 1) ≡ countBelow p i + 1
-unfolding countBelow
-count-hit p i e = rw (add-one, e)
-
-pub count-miss : (p : ℕ → Bool) (i : ℕ) → p i ≡ false → countBelow p (i + 1) ≡ countBelow p i
-unfolding countBelow
-count-miss p i e = rw (add-one, e) (omega arith)
-
 pub count-high : (p : ℕ → Bool) (n : ℕ) → countBelow p n ≤ n
 unfolding countBelow
 count-high p zero = omega arith

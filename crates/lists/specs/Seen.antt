@@ -17,14 +17,6 @@ abbrev pub bit : Bool → ℕ
 bit true = 1
 bit false = 0
 
-pub bit-zero : (b : Bool) → bit b ≡ 0 → b ≡ false
-bit-zero true h = absurd (omega arith)
-bit-zero false h = refl
-
-pub bit-one : (b : Bool) → (bit b ≡ 0 → ⊥) → b ≡ true
-bit-one true h = refl
-bit-one false h = absurd (h refl)
-
 pub bit-set : (b : Bool) → not (eqb (bit b) 0) ≡ b
 bit-set true = refl
 bit-set false = refl

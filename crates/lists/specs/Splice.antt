@@ -101,19 +101,6 @@ module _ (xs : List ℕ) (at : ℕ) (ys : List ℕ) (fits : at + length ys ≤ l
       getD-part (splice xs at ys) b n room′ i h′ ∙ getD-splice-out (b + i) (split apart (λ w. inl (omega arith)) (λ w. inr (omega arith)))
       ∙ sym (getD-part xs b n room i h′))
 
--- a part put back where it was
-pub splice-same : (xs : List ℕ) (at n : ℕ) → at + n ≤ length xs → splice xs at (part xs at n) ≡ xs
-splice-same xs at n fits =
-    let m : length (part xs at n) ≡ n = length-part xs at n fits in
-    let room : at + length (part xs at n) ≤ length xs = omega arith in
-    let l : length (splice xs at (part xs at n)) ≡ length xs = length-splice xs at (part xs at n) room in
-    ext-getD 0 (splice xs at (part xs at n)) xs l
-    (λ k h. split (lt-or-le k at) (λ b. getD-splice-out xs at (part xs at n) room k (inl b))
-    (λ b. split (lt-or-le k (at + n))
-    (λ c. let q : at + (k - at) ≡ k = omega arith in
-    getD-splice-at xs at (part xs at n) room k b (omega arith) ∙ getD-part xs at n fits (k - at) (omega arith) ∙ ap (λ (i : ℕ). getD xs i 0) q)
-    (λ c. getD-splice-out xs at (part xs at n) room k (inr (omega arith)))))
-
 -- a part put back with one element changed
 pub splice-set : (xs : List ℕ) (at n i v : ℕ) → at + n ≤ length xs → i < n → splice xs at (set (part xs at n) i v) ≡ set xs (at + i) v
 splice-set xs at n i v fits below =

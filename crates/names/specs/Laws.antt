@@ -1,13 +1,13 @@
 -- Laws of names: the plain statements behind the tests, and how equality of seven-bit names carries over.
 use mathlib.Core.Path.{_≡_, refl, sym, ap, _∙_}
 use mathlib.Core.Bool.{Bool, true, false, not}
-use Prim.Native.Nat.{ℕ, _+_, _≤_, _<_}
+use Prim.Native.Nat.{ℕ, _+_, _<_}
 use native.Mathlib.Nat.{add-zero}
 use native.Mathlib.Omega.{arith}
 use lib.Dec.{eqb}
 use lib.ListN.{getD}
-use borrow.Author.Tests.{eqb-true, eqb-false, eq-eqb, ne-eqb, leb-true, not-true}
-use Rattle.lists.specs.Tests.{_and_, _or_, and-left, and-right, and-both, or-left, or-right, or-first}
+use borrow.Author.Tests.{eqb-true, eqb-false, eq-eqb, ne-eqb, not-true}
+use Rattle.lists.specs.Tests.{_and_, _or_, and-left, and-right, and-both, or-right, or-first}
 use Rattle.lists.specs.Below.{all-at, all-intro, all-cong}
 use Rattle.format.specs.Diskette.{Bytes}
 use Rattle.format.specs.Names.{nameBytes, sevenBits, nameByte, nameRight, byteLike, nameLike}
@@ -77,26 +77,8 @@ pub right-intro : (wild : Bool) (r : Bytes) (at : ℕ) → Named wild r at → n
 unfolding nameRight
 right-intro wild r at n = and-both _ _ (all-intro _ nameBytes (n .bytes)) (ap not (ne-eqb _ _ (n .first)))
 
--- 20H to 7EH, and in a name not 3FH
-pub byte-low : (wild : Bool) (b : ℕ) → nameByte wild b ≡ true → 32 ≤ sevenBits b
-unfolding nameByte
-byte-low wild b h = leb-true _ _ (and-left _ _ h)
-
-pub byte-high : (wild : Bool) (b : ℕ) → nameByte wild b ≡ true → sevenBits b ≤ 126
-unfolding nameByte
-byte-high wild b h = leb-true _ _ (and-left _ _ (and-right _ _ h))
-
-pub byte-plain : (b : ℕ) → nameByte false b ≡ true → sevenBits b ≡ 63 → ⊥
-unfolding nameByte _or_
-byte-plain b h = eqb-false _ _ (not-true _ (and-right _ _ (and-right _ _ h)))
-
 -- ---- patterns
 -- a pattern whose bytes are all 3FH asks for any name
 pub like-any : (s : Bytes) (q : ℕ) (r : Bytes) (p : ℕ) → ((i : ℕ) → i < nameBytes → nameBits s q i ≡ 63) → nameLike true s q r p ≡ true
 unfolding nameLike byteLike _and_
 like-any s q r p f = all-intro _ nameBytes (λ i l. or-right _ _ (eq-eqb _ _ (f i l)))
-
--- what equals a name is also found by it as a pattern
-pub like-wild : (s : Bytes) (q : ℕ) (r : Bytes) (p : ℕ) → nameLike false s q r p ≡ true → nameLike true s q r p ≡ true
-unfolding nameLike byteLike
-like-wild s q r p h = all-intro _ nameBytes (λ i l. or-left _ _ (eq-eqb _ _ (like-at s q r p h i l)))

@@ -1,15 +1,14 @@
 -- What the look-up of a free block says.
 use mathlib.Core.Path.{_≡_}
-use mathlib.Core.Bool.{true}
 use Prim.Native.Nat.{ℕ, _<_}
 use native.Mathlib.Omega.{arith}
-use borrow.Author.Tests.{eq-eqb, ne-eqb, eqb-true, eqb-false}
+use borrow.Author.Tests.{eqb-true, eqb-false}
 use Rattle.format.specs.Diskette.{Bytes, Geometry}
 use Rattle.format.specs.Entries.{Rows}
-use Rattle.facts.specs.Found.{first-says, first-is-at, none-says, none-is}
-use Rattle.format.specs.Notes.{freeNote, noteAt, mapRight, isFree, findFree}
+use Rattle.facts.specs.Found.{first-says, none-says}
+use Rattle.format.specs.Notes.{freeNote, noteAt, isFree, findFree}
 use Rattle.format.specs.declared.Found.the-variants.{At, Nothing}
-use Rattle.notes.specs.Right.{NoteOk, ok-area, ok-recorded, ok-free, ok-pending, Spare, map-ok}
+use Rattle.notes.specs.Right.{NoteOk, ok-area, ok-recorded, ok-free, ok-pending, Spare}
 
 -- b is the lowest free block
 pub record FirstFree (G : Geometry) (map : Bytes) (b : ℕ) : Type 0 where
@@ -24,19 +23,9 @@ module _ (G : Geometry) (map : Bytes) where
       let f = first-says (isFree map) 0 (G .blocks) b q in
       record { below = f .below; free = eqb-true _ _ (f .holds); lowest = λ c h. eqb-false _ _ (f .before c (omega arith) h) }
 
-  pub is-free : (b : ℕ) → FirstFree G map b → findFree G map ≡ At b
-  unfolding findFree isFree
-  is-free b f =
-      first-is-at (isFree map) 0 (G .blocks) b
-      record { low = omega arith; below = f .below; holds = eq-eqb _ _ (f .free); before = λ c l h. ne-eqb _ _ (f .lowest c h) }
-
   pub none-free : findFree G map ≡ Nothing → (b : ℕ) → b < G .blocks → noteAt map b ≡ freeNote → ⊥
   unfolding findFree isFree
   none-free q b h = eqb-false _ _ (none-says (isFree map) 0 (G .blocks) q b (omega arith) h)
-
-  pub free-none : ((b : ℕ) → b < G .blocks → noteAt map b ≡ freeNote → ⊥) → findFree G map ≡ Nothing
-  unfolding findFree isFree
-  free-none f = none-is (isFree map) 0 (G .blocks) (λ b l h. ne-eqb _ _ (f b h))
 
 -- a free note of a right map is that of a spare block
 pub free-spare : (G : Geometry) (d : Rows) (b n : ℕ) → NoteOk G d b n → n ≡ freeNote → Spare G d b
@@ -44,7 +33,3 @@ free-spare G d b n (ok-area q h) z = absurd (omega arith)
 free-spare G d b n (ok-recorded q h y) z = absurd (omega arith)
 free-spare G d b n (ok-free q s) z = s
 free-spare G d b n (ok-pending e j q h l t s) z = s
-
-pub found-spare : (G : Geometry) (d : Rows) (map : Bytes) (b : ℕ) → mapRight G d map ≡ true → findFree G map ≡ At b → Spare G d b
-found-spare G d map b t q =
-    let f = free-is G map b q in free-spare G d b (noteAt map b) (map-ok G d map t b (f .below)) (f .free)

@@ -1,10 +1,13 @@
 -- The numbers of notes: a pending note tells its entry and slot, and is no other kind of note.
-use mathlib.Core.Path.{_≡_}
+use mathlib.Core.Path.{_≡_, sym, _∙_}
 use mathlib.Core.Bool.{true, false}
 use Prim.Native.Nat.{ℕ, _≤_, _<_}
 use native.Mathlib.Omega.{arith}
+use lib.ListN.{length, List·getD-eq-default}
 use borrow.Author.Tests.{le-leb, lt-leb, leb-true}
-use Rattle.format.specs.Notes.{freeNote, areaNote, recordedNote, pendingFor, isPending, pendingEntry, pendingSlot}
+use Rattle.lists.specs.Cases.{split, lt-or-le}
+use Rattle.format.specs.Diskette.{Bytes}
+use Rattle.format.specs.Notes.{freeNote, areaNote, recordedNote, pendingFor, isPending, pendingEntry, pendingSlot, noteAt}
 
 pub pending-low : (e j : ℕ) → 16 ≤ pendingFor e j
 unfolding pendingFor
@@ -17,10 +20,6 @@ pending-is e j = le-leb 16 (pendingFor e j) (pending-low e j)
 pub pending-entry : (e j : ℕ) → j < 16 → pendingEntry (pendingFor e j) ≡ e
 unfolding pendingFor pendingEntry
 pending-entry e j h = omega arith
-
-pub pending-slot : (e j : ℕ) → j < 16 → pendingSlot (pendingFor e j) ≡ j
-unfolding pendingFor pendingSlot
-pending-slot e j h = omega arith
 
 pub pending-once : (e j f k : ℕ) → j < 16 → k < 16 → pendingFor e j ≡ pendingFor f k → (e ≡ f) × (j ≡ k)
 unfolding pendingFor
@@ -48,3 +47,8 @@ pending-not-area e j q = omega (arith, pending-low e j)
 
 pub pending-not-recorded : (e j : ℕ) → pendingFor e j ≡ recordedNote → ⊥
 pending-not-recorded e j q = omega (arith, pending-low e j)
+
+-- only blocks have pending notes
+pub pending-block : (map : Bytes) (b e j : ℕ) → noteAt map b ≡ pendingFor e j → b < length map
+pending-block map b e j q =
+    split (lt-or-le b (length map)) (λ h. h) (λ h. absurd (pending-not-free e j (sym q ∙ List·getD-eq-default map 0 h)))

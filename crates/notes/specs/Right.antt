@@ -108,10 +108,6 @@ module _ (G : Geometry) (d : Rows) where
   freed-fresh map t =
       tab-cong (G .blocks) (λ (b : ℕ). settledNote (noteAt map b)) (freshNote G d) (λ b h. ok-settles b (noteAt map b) (map-ok map t b h))
 
-pub length-freed : (G : Geometry) (map : Bytes) → length (freedMap G map) ≡ G .blocks
-unfolding freedMap
-length-freed G map = length-tab (G .blocks) (λ (b : ℕ). settledNote (noteAt map b))
-
 pub freed-at : (G : Geometry) (map : Bytes) (b : ℕ) → b < G .blocks → noteAt (freedMap G map) b ≡ settledNote (noteAt map b)
 unfolding freedMap
 freed-at G map b h = getD-tab (G .blocks) (λ (b : ℕ). settledNote (noteAt map b)) b h

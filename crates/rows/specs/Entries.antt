@@ -4,11 +4,11 @@ use mathlib.Core.Logic.{_⊎_, inl, inr}
 use Prim.Native.Nat.{ℕ, _+_, _*_, _/_, _%_, _≤_, _<_}
 use native.Mathlib.Nat.{mul-le-mul-left}
 use native.Mathlib.Omega.{arith}
-use lib.ListN.{length, getD}
+use lib.ListN.{length, getD, replicate, getD-replicate, length-replicate}
 use Rattle.lists.specs.Cases.{split, lt-or-le, eq-or-ne}
-use Rattle.lists.specs.Splice.{part, splice, length-part, length-splice, part-part, part-splice-same, part-splice-other, getD-splice-out}
+use Rattle.lists.specs.Splice.{part, splice, length-part, length-splice, getD-part, part-part, part-splice-same, part-splice-other, getD-splice-out}
 use Rattle.format.specs.Diskette.{Bytes, Geometry, Sound, recordBytes, imageBytes, diskRecord, offsetOf, recordAt, withRecord, entryBytes, entriesPerRecord}
-use Rattle.format.specs.Entries.{entryPlace, entryAt, withEntry}
+use Rattle.format.specs.Entries.{entryPlace, entryAt, withEntry, userOf}
 use Rattle.disk.specs.Places.{blockRecords, offset-fits, offset-past, offset-apart}
 
 -- the records of the directory
@@ -34,6 +34,13 @@ module _ {G : Geometry} (S : Sound G) where
   pub entry-fits : (e : ℕ) → e < G .entries → entryPlace G e + entryBytes ≤ imageBytes G
   unfolding entryPlace
   entry-fits e h = omega (arith, offset-fits S (e / entriesPerRecord) (omega (arith, entry-record e h, area-within)))
+
+  -- where every byte of the image is the same, each entry begins with it
+  pub entry-of-same : (size x : ℕ) → size ≡ imageBytes G → (e : ℕ) → e < G .entries → userOf (entryAt G (replicate size x) e) ≡ x
+  unfolding entryAt
+  entry-of-same size x is e h =
+      getD-part (replicate size x) (entryPlace G e) entryBytes (omega (arith, length-replicate {A = ℕ} size x, entry-fits e h)) 0 (omega arith)
+      ∙ getD-replicate size (entryPlace G e + 0) x 0 (omega (arith, entry-fits e h))
 
   -- no entry lies in the system tracks
   pub entry-past : (e : ℕ) → G .reserved * G .sectors * recordBytes ≤ entryPlace G e

@@ -3,13 +3,13 @@ use mathlib.Core.Path.{_≡_, refl, sym, ap, subst, _∙_}
 use mathlib.Core.Bool.{true}
 use Prim.Native.Nat.{ℕ, _≤_, _<_}
 use native.Mathlib.Omega.{arith}
-use lib.ListN.{length, List·getD-eq-default}
+use lib.ListN.{length}
 use borrow.Author.Tests.{leb-false, eq-eqb, not-false}
-use Rattle.lists.specs.Cases.{split, bool-cases, lt-or-le}
+use Rattle.lists.specs.Cases.{split, bool-cases}
 use Rattle.format.specs.Diskette.{Bytes, Geometry, Sound, slotCount, extents}
-use Rattle.format.specs.Entries.{slotOf, userOf, findFile}
+use Rattle.format.specs.Entries.{slotOf, findFile}
 use Rattle.format.specs.Consistent.{consistent}
-use Rattle.format.specs.Notes.{noteAt, pendingFor}
+use Rattle.format.specs.Notes.{noteAt}
 use Rattle.facts.specs.Found.{FoundAt, found-cases}
 use Rattle.format.specs.declared.Found.the-variants.{At}
 use Rattle.model.specs.declared.Verdict.{Verdict}
@@ -20,14 +20,16 @@ use Rattle.model.specs.declared.Plan.the-variants.{Stay, Move, Make}
 use Rattle.model.specs.Lent.{Lent, rowsOf}
 use Rattle.model.specs.Target.{targetExtent, targetRecord, targetSlot, crAfter, presentEntry, stays, targetEntry, blockThere, plan}
 use Rattle.model.specs.Table.{firstRow}
-use Rattle.consistency.specs.Reflect.{low-used, consistent-facts}
-use Rattle.notes.specs.Numbers.{pending-not-free}
+use Rattle.consistency.specs.Reflect.{image-facts}
+use Rattle.notes.specs.Numbers.{pending-block}
 use Rattle.notes.specs.Free.{free-is}
-use Rattle.rows.specs.Find.{empty-says}
-use Rattle.current.specs.Current.{Current, SlotOk, slot-same, slot-pending, fcb-says, current-says, current-slot, current-low}
+use Rattle.facts.specs.Find.{file-says, empty-says}
+use Rattle.facts.specs.Current.{Current, current-says}
+use Rattle.current.specs.Current.{SlotOk, slot-same, slot-pending, fcb-says, current-slot, current-low}
+use Rattle.fields.specs.Naming.{file-used}
 use Rattle.fields.specs.Target.{record-below, crAfter-high, targetSlot-below}
 use Rattle.table.specs.First.{passed-none}
-use Rattle.table.specs.Present.{file-below, file-user, file-extent-below}
+use Rattle.table.specs.Present.{file-extent-below}
 use Rattle.table.specs.Facts.{Reads, Writes}
 use Rattle.table.specs.Reflect.{found, second-fails, either-found}
 use Rattle.table.specs.Plans.{Block, there, free, There, Planned, stay, move, make, planned-read, planned-write}
@@ -47,12 +49,6 @@ pub record Sure (G : Geometry) (n : ℕ) (fcb : Bytes) (p : Plan) : Type 0 where
   pub at : targetRecord n fcb < 128
   pub after : crAfter n fcb ≤ 128
 
--- ---- blocks in slots
--- only blocks have pending notes
-pending-block : (map : Bytes) (b e j : ℕ) → noteAt map b ≡ pendingFor e j → b < length map
-pending-block map b e j q =
-    split (lt-or-le b (length map)) (λ h. h) (λ h. absurd (pending-not-free e j (sym q ∙ List·getD-eq-default map 0 h)))
-
 -- ---- a ruling to follow a plan
 follow-passed : (v : Verdict) (q p : Plan) → rulingOf v q ≡ Follow p → v ≡ Passed
 follow-passed Passed q p h = refl
@@ -66,10 +62,9 @@ module _ {G : Geometry} (S : Sound G) (n : ℕ) (l : Lent) (s : Session) (map-lo
     (right : consistent G (l .image) ≡ true) (low : s .user ≤ 15) where
   -- the entry of a file that was found: a block in a slot of it
   row-block : (name : Bytes) (q ext t j b : ℕ) → findFile G (rowsOf G l) (s .user) name q ext ≡ At t → j < slotCount → slotOf (rowsOf G l t) j ≡ b → (b ≡ 0 → ⊥) → b < G .blocks
-  unfolding consistent
   row-block name q ext t j b found h is real =
-      let mine : userOf (rowsOf G l t) ≡ s .user = file-user G (rowsOf G l) (s .user) name q ext t found in
-      let fine = consistent-facts G (rowsOf G l) right .fine t (file-below G (rowsOf G l) (s .user) name q ext t found) (low-used (rowsOf G l t) (omega arith)) in
+      let first = file-says G (rowsOf G l) (s .user) name q ext t found in
+      let fine = image-facts G (l .image) right .fine t (first .below) (file-used G (s .user) name q ext (rowsOf G l t) (first .holds) low) in
       subst (λ (x : ℕ). x < G .blocks) is (fine .high j h (λ z. real (sym is ∙ z)))
 
   module _ (e : ℕ) (at : presentEntry G (s .user) l ≡ At e) where
@@ -122,7 +117,7 @@ module _ {G : Geometry} (S : Sound G) (n : ℕ) (l : Lent) (s : Session) (map-lo
   unfolding targetEntry
   plan-within B k p (stay e b at y target x) = (e-below e at, k e at b x)
   plan-within B k p (move e t b at y target x) =
-      (e-below e at, file-below G (rowsOf G l) (s .user) (l .fcb) 1 (targetExtent n (l .fcb)) t target, k e at b x)
+      (e-below e at, file-says G (rowsOf G l) (s .user) (l .fcb) 1 (targetExtent n (l .fcb)) t target .below, k e at b x)
   plan-within B k p (make e t b at y target room x) = (e-below e at, empty-says G (rowsOf G l) t room .below, k e at b x)
 
   -- ---- the two rulings

@@ -8,11 +8,12 @@ use borrow.Author.Tests.{eq-eqb, ne-eqb, lt-ltb, le-ltb, not-true}
 use Rattle.lists.specs.Cases.{split, bool-cases}
 use Rattle.lists.specs.Tests.{_and_, and-right, and-fails-left, and-fails-right, and-both, or-left, or-then}
 use Rattle.format.specs.Diskette.{Bytes, Geometry, extents}
-use Rattle.format.specs.Entries.{Rows, extentOf, readOnly, findEmpty}
+use Rattle.format.specs.Entries.{Rows, extentOf, readOnly, findFile, findEmpty}
 use Rattle.format.specs.Notes.{findFree}
 use Rattle.format.specs.Fcb.{current}
-use Rattle.format.specs.Found.{isFound}
-use Rattle.facts.specs.Found.{at-once, at-not-nothing, found-cases}
+use Rattle.facts.specs.Found.{at-once, at-not-nothing, found-cases, found-row, missed-row}
+use Rattle.facts.specs.Find.{file-says}
+use Rattle.facts.specs.Naming.{file-extent}
 use Rattle.format.specs.declared.Found.{Found}
 use Rattle.format.specs.declared.Found.the-variants.{At, Nothing}
 use Rattle.model.specs.declared.Code.{Code}
@@ -22,10 +23,11 @@ use Rattle.model.specs.declared.Plan.the-variants.{Make}
 use Rattle.model.specs.Lent.{Lent, rowsOf}
 use Rattle.model.specs.Target.{targetExtent, targetRecord, targetSlot, presentEntry, stays, targetEntry, blockThere, countThere, recordThere, targetBlock, readOnlyThere, planFrom, plan}
 use Rattle.model.specs.Table.{Row, firstRow}
-use Rattle.current.specs.Current.{fcb-says, current-says}
+use Rattle.facts.specs.Current.{current-says}
+use Rattle.current.specs.Current.{fcb-says}
 use Rattle.fields.specs.Target.{record-below, moves-extent}
 use Rattle.table.specs.First.{_&_, NoneHolds, Decides, here, later, none-passed, decides-refused}
-use Rattle.table.specs.Present.{current-elim, file-extent, target-present}
+use Rattle.table.specs.Present.{target-present}
 use Rattle.rulings.specs.declared.Ruling.{Ruling}
 use Rattle.rulings.specs.declared.Ruling.the-variants.{Refuse, Follow}
 use Rattle.targets.specs.declared.Target.{Target}
@@ -39,13 +41,6 @@ refuses c rows p d = rw (decides-refused c rows d)
 follows : (rows : List Row) (p q : Plan) → NoneHolds rows → p ≡ q → rulingOf (firstRow rows) p ≡ Follow q
 follows rows p q none h = rw (none-passed rows none, h)
 
--- the tests of look-ups
-hit : (r : Found) {e : ℕ} → r ≡ At e → not (isFound r) ≡ false
-hit r q = ap (λ (r : Found). not (isFound r)) q
-
-miss : (r : Found) → r ≡ Nothing → not (isFound r) ≡ true
-miss r q = ap (λ (r : Found). not (isFound r)) q
-
 module _ (G : Geometry) (n user : ℕ) (l : Lent) (e : ℕ) (at : presentEntry G user l ≡ At e) where
   -- ---- the FCB's entry e and the target's t are one exactly where there is no move
   pub stays-by : (t : ℕ) → targetEntry G n user l ≡ At t → stays n (l .fcb) ≡ eqb t e
@@ -54,8 +49,11 @@ module _ (G : Geometry) (n user : ℕ) (l : Lent) (e : ℕ) (at : presentEntry G
       split (bool-cases (stays n (l .fcb)))
       (λ y. y ∙ sym (eq-eqb t e (at-once t e (sym q ∙ target-present G n user l e at y))))
       (λ f. f ∙ sym (ne-eqb t e (λ z. moves-extent n (l .fcb) f
-      (sym (file-extent G (rowsOf G l) user (l .fcb) 1 (targetExtent n (l .fcb)) t q) ∙ ap (λ (k : ℕ). extentOf (rowsOf G l k)) z
-      ∙ file-extent G (rowsOf G l) user (l .fcb) 1 (extentOf (l .fcb)) e (current-elim G (rowsOf G l) (l .map) user (l .fcb) e at .entry)))))
+      (sym (found-extent (targetExtent n (l .fcb)) t q) ∙ ap (λ (k : ℕ). extentOf (rowsOf G l k)) z
+      ∙ found-extent (extentOf (l .fcb)) e (current-says G (rowsOf G l) (l .map) user (l .fcb) e at .found)))))
+    where
+      found-extent : (ext k : ℕ) → findFile G (rowsOf G l) user (l .fcb) 1 ext ≡ At k → extentOf (rowsOf G l k) ≡ ext
+      found-extent ext k h = file-extent G user (l .fcb) 1 ext (rowsOf G l k) (file-says G (rowsOf G l) user (l .fcb) 1 ext k h .holds)
 
   -- without an entry the target is in another extent
   moves : targetEntry G n user l ≡ Nothing → stays n (l .fcb) ≡ false
@@ -102,14 +100,14 @@ module _ (G : Geometry) (n user : ℕ) (l : Lent) where
   module _ (in-range : overLast n (targetExtent n (l .fcb)) ≡ false) where
     pub read-stale : presentEntry G user l ≡ Nothing → readRuling G n user l ≡ Refuse NotCurrent
     unfolding readRuling readRows
-    read-stale q = refuses NotCurrent _ _ (later in-range (here (miss _ q) refl))
+    read-stale q = refuses NotCurrent _ _ (later in-range (here (missed-row _ q) refl))
 
     module _ (e : ℕ) (at : presentEntry G user l ≡ At e) where
       pub read-missing : targetEntry G n user l ≡ Nothing → readRuling G n user l ≡ Refuse (missingCode n NoExtent)
       unfolding readRuling readRows
       read-missing q =
           refuses (missingCode n NoExtent) _ _
-          (later in-range (later (hit _ at) (here (miss _ q) refl)))
+          (later in-range (later (found-row _ at) (here (missed-row _ q) refl)))
 
       pub read-found : (t : ℕ) → targetEntry G n user l ≡ At t
           → readRuling G n user l ≡ readTo G (rowsOf G l) (l .fcb) e t (targetExtent n (l .fcb)) (targetSlot G n (l .fcb)) (targetRecord n (l .fcb))
@@ -118,9 +116,9 @@ module _ (G : Geometry) (n user : ℕ) (l : Lent) where
           let chosen : Bool → Ruling = λ (x : Bool). cond x (Follow (goTo e t (blockThere G n user l))) (Refuse NoRecord) in
           rw (← block-by G n user l e at t q, ← count-by G n user l e at t q)
           (split (bool-cases (recordThere G n user l))
-          (λ y. follows _ _ _ (in-range & hit _ at & hit _ q & ap not y & tt)
+          (λ y. follows _ _ _ (in-range & found-row _ at & found-row _ q & ap not y & tt)
           (plan-by G n user l e at t q (blockThere G n user l) (block-there G n user l (not-true _ (and-right _ _ y)))) ∙ sym (ap chosen y))
-          (λ f. refuses NoRecord _ _ (later in-range (later (hit _ at) (later (hit _ q) (here (ap not f) refl)))) ∙ sym (ap chosen f)))
+          (λ f. refuses NoRecord _ _ (later in-range (later (found-row _ at) (later (found-row _ q) (here (ap not f) refl)))) ∙ sym (ap chosen f)))
 
 -- ---- 21 and 34
 module _ (G : Geometry) (n user : ℕ) (l : Lent) where
@@ -131,7 +129,7 @@ module _ (G : Geometry) (n user : ℕ) (l : Lent) where
   module _ (in-range : overLast n (targetExtent n (l .fcb)) ≡ false) where
     pub write-stale : presentEntry G user l ≡ Nothing → writeRuling G n user l ≡ Refuse NotCurrent
     unfolding writeRuling writeRows
-    write-stale q = refuses NotCurrent _ _ (later in-range (here (miss _ q) refl))
+    write-stale q = refuses NotCurrent _ _ (later in-range (here (missed-row _ q) refl))
 
     module _ (e : ℕ) (at : presentEntry G user l ≡ At e) where
       guarded-is : readOnlyThere G n user l ≡ guarded (rowsOf G l) e (targetEntry G n user l)
@@ -141,14 +139,14 @@ module _ (G : Geometry) (n user : ℕ) (l : Lent) where
       pub write-guarded : guarded (rowsOf G l) e (targetEntry G n user l) ≡ true → writeRuling G n user l ≡ Refuse ReadOnly
       unfolding writeRuling writeRows
       write-guarded h =
-          refuses ReadOnly _ _ (later in-range (later (hit _ at) (here (guarded-is ∙ h) refl)))
+          refuses ReadOnly _ _ (later in-range (later (found-row _ at) (here (guarded-is ∙ h) refl)))
 
       module _ (writable : guarded (rowsOf G l) e (targetEntry G n user l) ≡ false) where
         pub write-past : leb extents (targetExtent n (l .fcb)) ≡ true → writeRuling G n user l ≡ Refuse NoRecord
         unfolding writeRuling writeRows
         write-past h =
             refuses NoRecord _ _
-            (later in-range (later (hit _ at) (later (guarded-is ∙ writable) (here h refl))))
+            (later in-range (later (found-row _ at) (later (guarded-is ∙ writable) (here h refl))))
 
         module _ (below : leb extents (targetExtent n (l .fcb)) ≡ false) where
           -- the rows that are left are those of the entry and of the block
@@ -162,14 +160,14 @@ module _ (G : Geometry) (n user : ℕ) (l : Lent) where
               (λ z. let want : blockFor G (l .map) (blockThere G n user l) ≡ findFree G (l .map) = rw z in
               found-cases (findFree G (l .map))
               (λ b f. follows _ _ _
-              (in-range & hit _ at & (guarded-is ∙ writable) & below & and-fails-left _ _ (hit _ q) & and-fails-right _ _ (hit _ f) & tt)
+              (in-range & found-row _ at & (guarded-is ∙ writable) & below & and-fails-left _ _ (found-row _ q) & and-fails-right _ _ (found-row _ f) & tt)
               (plan-by G n user l e at t q b (block-free G n user l b z f)) ∙ sym (ap block (want ∙ f)))
               (λ f. refuses DiskFull _ _
-              (later in-range (later (hit _ at) (later (guarded-is ∙ writable) (later below (later (and-fails-left _ _ (hit _ q))
-              (here (and-both _ _ z (miss _ f)) refl)))))) ∙ sym (ap block (want ∙ f))))
+              (later in-range (later (found-row _ at) (later (guarded-is ∙ writable) (later below (later (and-fails-left _ _ (found-row _ q))
+              (here (and-both _ _ z (missed-row _ f)) refl)))))) ∙ sym (ap block (want ∙ f))))
               (λ z. let kept : blockFor G (l .map) (blockThere G n user l) ≡ At (blockThere G n user l) = rw z in
               follows _ _ _
-              (in-range & hit _ at & (guarded-is ∙ writable) & below & and-fails-left _ _ (hit _ q) & and-fails-left _ _ z & tt)
+              (in-range & found-row _ at & (guarded-is ∙ writable) & below & and-fails-left _ _ (found-row _ q) & and-fails-left _ _ z & tt)
               (plan-by G n user l e at t q (blockThere G n user l) (block-there G n user l z)) ∙ sym (ap block kept)))
 
           write-made : targetEntry G n user l ≡ Nothing → writeRuling G n user l ≡ writeNew G (rowsOf G l) (l .map) (missingCode n NoEntry) e
@@ -179,13 +177,13 @@ module _ (G : Geometry) (n user : ℕ) (l : Lent) where
               found-cases (findEmpty G (rowsOf G l))
               (λ t m. found-cases (findFree G (l .map))
               (λ b f. follows _ _ _
-              (in-range & hit _ at & (guarded-is ∙ writable) & below & and-fails-right _ _ (hit _ m) & and-fails-right _ _ (hit _ f) & tt)
+              (in-range & found-row _ at & (guarded-is ∙ writable) & below & and-fails-right _ _ (found-row _ m) & and-fails-right _ _ (found-row _ f) & tt)
               (plan-new G n user l e at q t b m (block-free G n user l b z f)) ∙ sym (rw (m, f)))
               (λ f. refuses DiskFull _ _
-              (later in-range (later (hit _ at) (later (guarded-is ∙ writable) (later below (later (and-fails-right _ _ (hit _ m))
-              (here (and-both _ _ z (miss _ f)) refl)))))) ∙ sym (rw (m, f))))
+              (later in-range (later (found-row _ at) (later (guarded-is ∙ writable) (later below (later (and-fails-right _ _ (found-row _ m))
+              (here (and-both _ _ z (missed-row _ f)) refl)))))) ∙ sym (rw (m, f))))
               (λ m. refuses (missingCode n NoEntry) _ _
-              (later in-range (later (hit _ at) (later (guarded-is ∙ writable) (later below (here (and-both _ _ (miss _ q) (miss _ m)) refl))))) ∙ sym (rw m))
+              (later in-range (later (found-row _ at) (later (guarded-is ∙ writable) (later below (here (and-both _ _ (missed-row _ q) (missed-row _ m)) refl))))) ∙ sym (rw m))
 
           pub write-found : writeRuling G n user l
               ≡ writeTo G (rowsOf G l) (l .map) (l .fcb) (missingCode n NoEntry) e (targetSlot G n (l .fcb)) (targetEntry G n user l)

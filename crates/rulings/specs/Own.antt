@@ -22,7 +22,8 @@ use Rattle.model.specs.Calls.{reading, read, writing, written}
 use Rattle.model.specs.Step.{refused, carriedOut, effect}
 use Rattle.table.specs.Own.{Call, call20, call21, call33, call34, ownRows}
 use Rattle.table.specs.OwnStep.{ownStep}
-use Rattle.table.specs.Accept.{random-extent, random-below}
+use Rattle.fields.specs.Target.{extent-random}
+use Rattle.table.specs.Accept.{random-below}
 use Rattle.table.specs.Carried.{effect-is}
 use Rattle.table.specs.Present.{there-target}
 use Rattle.rulings.specs.declared.Ruling.{Ruling}
@@ -34,7 +35,7 @@ use Rattle.rulings.specs.Ruling.{rulingOf, readRows, writeRows, readRuli
 over-random : (n : ℕ) (fcb : Bytes) → isRandom n ≡ true → overLast n (targetExtent n fcb) ≡ ltb 262143 (randomOf fcb)
 unfolding overLast
 over-random n fcb r =
-    let ext : targetExtent n fcb ≡ randomOf fcb / 128 = random-extent n fcb r in
+    let ext : targetExtent n fcb ≡ randomOf fcb / 128 = extent-random n fcb r in
     and-then _ _ r ∙ split (lt-or-le 262143 (randomOf fcb))
     (λ h. le-leb extents (targetExtent n fcb) (omega arith) ∙ sym (lt-ltb _ _ h))
     (λ h. lt-leb extents (targetExtent n fcb) (omega arith) ∙ sym (le-ltb _ _ h))

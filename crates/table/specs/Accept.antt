@@ -26,15 +26,13 @@ use Rattle.table.specs.Facts.{Reads, Own, Ready, AcceptedCall}
 use Rattle.table.specs.Reflect.{found, missed, second-fails, either-found, either-missed, pattern-of, pattern-right, argument-of, argument-right, parameters-right, disk-right, ready-of, some-of, some-right, none-of, none-right, writable-of, writable-right, positions-of, positions-right}
 
 -- the target's extent of 33 and 34 is below 2,048 exactly where the random record is at most 262,143
-pub random-extent : (n : ℕ) (fcb : Bytes) → isRandom n ≡ true → targetExtent n fcb ≡ randomOf fcb / 128
-unfolding targetExtent
-random-extent n fcb h = rw h
-
 pub random-below : (n : ℕ) (fcb : Bytes) → isRandom n ≡ true → ltb 262143 (randomOf fcb) ≡ false → targetExtent n fcb < extents
-random-below n fcb r h = omega (arith, random-extent n fcb r, ltb-false 262143 (randomOf fcb) h)
+unfolding targetExtent
+random-below n fcb r h = rw r (omega (arith, ltb-false 262143 (randomOf fcb) h))
 
 pub random-most : (n : ℕ) (fcb : Bytes) → isRandom n ≡ true → targetExtent n fcb < extents → randomOf fcb ≤ 262143
-random-most n fcb r h = omega (arith, random-extent n fcb r)
+unfolding targetExtent
+random-most n fcb r h = let below : randomOf fcb / 128 < extents = rw r at h in omega arith
 
 pub random-low : (n : ℕ) (fcb : Bytes) → isRandom n ≡ true → targetExtent n fcb < extents → ltb 262143 (randomOf fcb) ≡ false
 random-low n fcb r h = le-ltb 262143 (randomOf fcb) (random-most n fcb r h)

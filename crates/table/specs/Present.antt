@@ -1,4 +1,4 @@
--- What a current FCB says, and that a record that is there has an entry for its extent, below extent 2,048.
+-- A record that is there has an entry for its extent, below extent 2,048.
 use mathlib.Core.Path.{_≡_, refl, sym, _∙_}
 use mathlib.Core.Bool.{true, false}
 use Prim.Native.Nat.{ℕ, _≤_, _<_}
@@ -9,57 +9,16 @@ use Rattle.lists.specs.Cases.{split, bool-cases}
 use Rattle.lists.specs.Tests.{_and_, and-left, and-right, or-then}
 use Rattle.lists.specs.Below.{all-at}
 use Rattle.format.specs.Diskette.{Bytes, Geometry, extents}
-use Rattle.format.specs.Entries.{Rows, entryAt, userOf, exOf, s2Of, empty, slotsOf, extentOf, covers, named, isFile, findFile}
+use Rattle.format.specs.Entries.{entryAt, userOf, exOf, s2Of, empty, extentOf, findFile}
 use Rattle.format.specs.Consistent.{numbersRight, entryRight, consistentRows, consistent}
-use Rattle.format.specs.Fcb.{fcbRight, slotsFit, fitting, current}
-use Rattle.facts.specs.Found.{at-not-nothing, at-once, FoundAt, FirstAt, first-says}
+use Rattle.facts.specs.Found.{FoundAt}
+use Rattle.facts.specs.Find.{file-says}
+use Rattle.facts.specs.Naming.{file-user, file-extent}
+use Rattle.facts.specs.Current.{current-says}
 use Rattle.format.specs.declared.Found.{Found}
 use Rattle.format.specs.declared.Found.the-variants.{At, Nothing}
 use Rattle.model.specs.Lent.{Lent, rowsOf}
 use Rattle.model.specs.Target.{targetExtent, targetRecord, presentEntry, stays, targetEntry, countAt, countThere, recordThere}
-
--- the FCB is current, and e is its entry
-pub record Current (G : Geometry) (d : Rows) (map : Bytes) (user : ℕ) (fcb : Bytes) (e : ℕ) : Type 0 where
-  pub fcb-right : fcbRight fcb ≡ true
-  pub entry : findFile G d user fcb 1 (extentOf fcb) ≡ At e
-  pub slots : slotsFit map e (slotsOf (d e)) (slotsOf fcb) ≡ true
-
-module _ (G : Geometry) (d : Rows) (map : Bytes) (user : ℕ) (fcb : Bytes) (e : ℕ) where
-  fitting-at : (r : Found) → fitting d map fcb r ≡ At e → (r ≡ At e) × (slotsFit map e (slotsOf (d e)) (slotsOf fcb) ≡ true)
-  fitting-at (At k) q =
-      split (bool-cases (slotsFit map k (slotsOf (d k)) (slotsOf fcb)))
-      (λ t. let z : At k ≡ At e = rw t at q in let w : k ≡ e = at-once k e z in (z, rw w at t))
-      (λ f. let z : Nothing ≡ At e = rw f at q in absurd (at-not-nothing e (sym z)))
-  fitting-at Nothing q = absurd (at-not-nothing e (sym q))
-
-  pub current-elim : current G d map user fcb ≡ At e → Current G d map user fcb e
-  unfolding current
-  current-elim q =
-      split (bool-cases (fcbRight fcb))
-      (λ t. let z : fitting d map fcb (findFile G d user fcb 1 (extentOf fcb)) ≡ At e = rw t at q in
-      let f = fitting-at (findFile G d user fcb 1 (extentOf fcb)) z in
-      record { fcb-right = t; entry = f .0; slots = f .1 })
-      (λ f. let z : Nothing ≡ At e = rw f at q in absurd (at-not-nothing e (sym z)))
-
--- ---- an entry of a consistent directory that a file's look-up has found
-module _ (G : Geometry) (d : Rows) (user : ℕ) (s : Bytes) (q ext : ℕ) (e : ℕ) (at : findFile G d user s q ext ≡ At e) where
-  file-first : FirstAt (λ (e : ℕ). isFile G user s q ext (d e)) 0 (G .entries) e
-  unfolding findFile
-  file-first = first-says _ 0 (G .entries) e at
-
-  pub file-below : e < G .entries
-  file-below = file-first .below
-
-  pub file-is : isFile G user s q ext (d e) ≡ true
-  file-is = file-first .holds
-
-  pub file-user : userOf (d e) ≡ user
-  unfolding isFile named
-  file-user = eqb-true _ _ (and-left _ _ (and-left _ _ file-is))
-
-  pub file-extent : extentOf (d e) ≡ ext
-  unfolding isFile covers
-  file-extent = eqb-true _ _ (and-right _ _ file-is)
 
 -- a row that is right and whose byte 0 is a user has its numbers in range
 pub user-numbers : (G : Geometry) (r : Bytes) → entryRight G r ≡ true → userOf r ≤ 15 → numbersRight r ≡ true
@@ -78,10 +37,10 @@ pub file-extent-below : (G : Geometry) (img : Bytes) (user : ℕ) (s : Bytes) (q
     → findFile G (entryAt G img) user s q ext ≡ At e → ext < extents
 unfolding consistent consistentRows
 file-extent-below G img user s q ext e right low at =
-    let below = file-below G (entryAt G img) user s q ext e at in
-    let is : extentOf (entryAt G img e) ≡ ext = file-extent G (entryAt G img) user s q ext e at in
-    let mine : userOf (entryAt G img e) ≡ user = file-user G (entryAt G img) user s q ext e at in
-    let fine = user-numbers G (entryAt G img e) (all-at _ (G .entries) (and-left _ _ right) e below) (omega arith) in
+    let first = file-says G (entryAt G img) user s q ext e at in
+    let is : extentOf (entryAt G img e) ≡ ext = file-extent G user s q ext (entryAt G img e) (first .holds) in
+    let mine : userOf (entryAt G img e) ≡ user = file-user G user s q ext (entryAt G img e) (first .holds) in
+    let fine = user-numbers G (entryAt G img e) (all-at _ (G .entries) (and-left _ _ right) e (first .below)) (omega arith) in
     omega (arith, numbers-extent (entryAt G img e) fine)
 
 -- ---- the target
@@ -91,7 +50,7 @@ module _ (G : Geometry) (n user : ℕ) (l : Lent) where
   unfolding presentEntry stays targetEntry
   target-present e at t =
       let q : targetExtent n (l .fcb) ≡ extentOf (l .fcb) = eqb-true _ _ t in
-      rw q (current-elim G (rowsOf G l) (l .map) user (l .fcb) e at .entry)
+      rw q (current-says G (rowsOf G l) (l .map) user (l .fcb) e at .found)
 
   some-count : (r : Found) → targetRecord n (l .fcb) < countAt G n user l r → FoundAt r
   some-count (At k) h = record { place = k; is = refl }

@@ -15,7 +15,7 @@ use Rattle.format.specs.Entries.{named, readOnly, findNamed}
 use Rattle.format.specs.Consistent.{consistent}
 use Rattle.format.specs.Notes.{mapRight}
 use Rattle.format.specs.Found.{isFound}
-use Rattle.facts.specs.Found.{FoundAt, is-found, found-so, not-found, none-says, none-is}
+use Rattle.facts.specs.Found.{FoundAt, found-row, missed-row, is-found, not-found, none-says, none-is}
 use Rattle.format.specs.declared.Found.{Found}
 use Rattle.format.specs.declared.Found.the-variants.{At, Nothing}
 use Rattle.model.specs.declared.Session.{Session}
@@ -28,14 +28,14 @@ pub found : (r : Found) → not (isFound r) ≡ false → FoundAt r
 found r h = is-found r (not-false _ h)
 
 pub missed : (r : Found) → FoundAt r → not (isFound r) ≡ false
-missed r f = ap not (found-so r f)
+missed r f = found-row r (f .is)
 
 -- the second test failed though the first holds
 pub second-fails : (a b : Bool) → (a and b) ≡ false → a ≡ true → b ≡ false
 second-fails a b h t = sym (and-then a b t) ∙ h
 
 pub either-found : (r q : Found) → (not (isFound r) and not (isFound q)) ≡ false → r ≡ Nothing → FoundAt q
-either-found r q h z = found q (second-fails _ _ h (ap (λ (x : Found). not (isFound x)) z))
+either-found r q h z = found q (second-fails _ _ h (missed-row r z))
 
 pub either-missed : (r q : Found) → (r ≡ Nothing → FoundAt q) → (not (isFound r) and not (isFound q)) ≡ false
 either-missed (At k) q f = and-fails-left _ _ refl

@@ -15,7 +15,7 @@ use Rattle.format.specs.Consistent.{consistent}
 use Rattle.format.specs.Notes.{mapRight}
 use Rattle.format.specs.Fcb.{randomOf}
 use Rattle.format.specs.Found.{isFound}
-use Rattle.facts.specs.Found.{not-found}
+use Rattle.facts.specs.Found.{not-found, missed-row}
 use Rattle.format.specs.declared.Found.{Found}
 use Rattle.format.specs.declared.Found.the-variants.{Nothing}
 use Rattle.model.specs.declared.Session.{Session}
@@ -28,7 +28,7 @@ use Rattle.model.specs.Table.{oneOf, isCall, parametersRight, diskRight, Row, v
 use Rattle.table.specs.First.{_&_, Decides, here, later, refused-same, refused-decides, decides-refused}
 use Rattle.table.specs.Own.{when, Call, call13, call15, call16, call17, call18, call19, call20, call21, call22, call23, call32, call33, call34, call35, call36, call46, call98, at-one, call-of, ownRows, rowsFor, verdict-rows, verdict-unlisted}
 use Rattle.table.specs.Facts.{Ready}
-use Rattle.table.specs.Reflect.{pattern-right, fits-of, drive-of, parameters-right, image-of, map-of, disk-right}
+use Rattle.table.specs.Reflect.{pattern-right, parameters-right, disk-right, ready-of}
 
 -- ---- codes of a list of rows
 -- the test passes at every row's code
@@ -140,13 +140,10 @@ module _ (G : Geometry) (argument : ℕ) (l : Lent) (s : Session) where
   pub own-given : (code : Code) {n : ℕ} (c : Call n) → Decides code (ownRows G argument l s c) → gives n code ≡ true
   own-given code {n} c d = decided-passes (gives n) code (ownRows G argument l s c) (all-given c) d
 
-  ready-of : (n : ℕ) → parametersRight G l n s ≡ true → diskRight G l n ≡ true → Ready G n l s
-  ready-of n p d = record { fits = fits-of G n l s p; drive = drive-of G n l s p; image-right = image-of G n l s d; map-right = map-of G n l s d }
-
   refuses-call : (code : Code) {n : ℕ} (c : Call n) → Decides code (rowsFor G argument l s c) → Refuses n code
   refuses-call code c (here t q) = parameter (sym q) c (not-true _ t)
   refuses-call code c (later f (here t q)) = disk (sym q) c (not-true _ t)
-  refuses-call code {n} c (later f (later g d)) = own c (own-given code c d) (ready-of n (not-false _ f) (not-false _ g)) d
+  refuses-call code {n} c (later f (later g d)) = own c (own-given code c d) (ready-of G n l s (not-false _ f) (not-false _ g)) d
 
   pub refuses : (n : ℕ) (code : Code) → verdict G n argument l s ≡ Refused code → Refuses n code
   refuses n code q =
@@ -263,8 +260,8 @@ module _ (G : Geometry) (argument : ℕ) (l : Lent) (s : Session) where
   pub over-first : Ready G 17 l s → nameRight true (l .fcb) 1 ≡ true → (exOf (l .fcb) ≤ 31) ⊎ (exOf (l .fcb) ≡ 63)
       → findHit G (rowsOf G l) (s .user) (patternOf (l .fcb)) 0 ≡ Nothing → verdict G 17 argument l s ≡ Refused SearchOver
   over-first r name ex none =
-      refused-own call17 SearchOver r (later (ap not name) (later (pattern-right _ ex) (here (ap (λ (x : Found). not (isFound x)) none) refl)))
+      refused-own call17 SearchOver r (later (ap not name) (later (pattern-right _ ex) (here (missed-row _ none) refl)))
 
   pub over-next : Ready G 18 l s → searchOn s ≡ true → findHit G (rowsOf G l) (s .user) (s .pattern) (s .place) ≡ Nothing
       → verdict G 18 argument l s ≡ Refused SearchOver
-  over-next r on none = refused-own call18 SearchOver r (later (ap not on) (here (ap (λ (x : Found). not (isFound x)) none) refl))
+  over-next r on none = refused-own call18 SearchOver r (later (ap not on) (here (missed-row _ none) refl))

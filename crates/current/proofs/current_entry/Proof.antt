@@ -9,8 +9,9 @@ use Rattle.format.specs.Diskette.{eightInch}
 use Rattle.format.specs.Entries.{entryAt, slotsOf, extentOf, findFile}
 use Rattle.format.specs.Fcb.{fcbRight, current}
 use Rattle.format.specs.declared.Found.the-variants.{At, Nothing}
-use Rattle.rows.specs.Find.{file-says}
-use Rattle.current.specs.Current.{current-wrong, current-missing, current-by}
+use Rattle.facts.specs.Find.{file-says}
+use Rattle.facts.specs.Current.{current-wrong, current-missing}
+use Rattle.current.specs.Current.{current-by}
 use Rattle.current.proofs.current_entry.Statement.{statement}
 use Rattle.current.proofs.current_entry.Tie as tie
 

@@ -6,7 +6,7 @@ use borrow.Author.Tests.{not-true, not-false}
 use Rattle.format.specs.Diskette.{Bytes, eightInch}
 use Rattle.format.specs.Entries.{entryAt, withEntry, findEmpty}
 use Rattle.format.specs.declared.Found.the-variants.{At, Nothing}
-use Rattle.rows.specs.Find.{empty-says}
+use Rattle.facts.specs.Find.{empty-says}
 use Rattle.model.specs.Lent.{lend}
 use Rattle.model.specs.Table.{askedEntry}
 use Rattle.model.specs.Entering.{copied}

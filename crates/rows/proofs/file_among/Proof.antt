@@ -7,7 +7,7 @@ use borrow.Author.Needs.{needs}
 use Rattle.lists.specs.Below.{firstIn, first-hit, first-turn, first-end}
 use Rattle.format.specs.Diskette.{eightInch, entriesPerRecord}
 use Rattle.rows.specs.Entries.{rowOf}
-use Rattle.rows.specs.Find.{fileTest}
+use Rattle.facts.specs.Find.{fileTest}
 use Rattle.rows.proofs.file_among.Statement.{statement}
 use Rattle.rows.proofs.file_among.Tie as tie
 

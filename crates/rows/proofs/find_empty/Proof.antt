@@ -9,7 +9,7 @@ use Rattle.lists.specs.Below.{firstIn, first-turn}
 use Rattle.format.specs.Diskette.{eightInch}
 use Rattle.format.specs.Entries.{entryAt, empty, findEmpty}
 use Rattle.facts.specs.Found.{look-hit, look-end}
-use Rattle.rows.specs.Find.{emptyTest}
+use Rattle.facts.specs.Find.{emptyTest}
 use Rattle.rows.proofs.find_empty.Statement.{statement}
 use Rattle.rows.proofs.find_empty.Tie as tie
 

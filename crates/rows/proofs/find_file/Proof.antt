@@ -9,7 +9,8 @@ use Rattle.format.specs.Diskette.{Bytes, eightInch, entriesPerRecord}
 use Rattle.format.specs.Entries.{entryAt, isFile, findFile}
 use Rattle.facts.specs.Found.{look-at, look-end}
 use Rattle.disk.specs.Eight.{eight-sound}
-use Rattle.rows.specs.Find.{fileTest, four-hit, four-past}
+use Rattle.facts.specs.Find.{fileTest}
+use Rattle.rows.specs.Find.{four-hit, four-past}
 use Rattle.rows.proofs.find_file.Statement.{statement}
 use Rattle.rows.proofs.find_file.Tie as tie
 

@@ -8,7 +8,7 @@ use Rattle.lists.specs.Below.{firstIn, first-turn}
 use Rattle.format.specs.Diskette.{eightInch}
 use Rattle.format.specs.Entries.{entryAt, findNamed}
 use Rattle.facts.specs.Found.{look-hit, look-end}
-use Rattle.rows.specs.Find.{namedTest}
+use Rattle.facts.specs.Find.{namedTest}
 use Rattle.rows.proofs.find_named.Statement.{statement}
 use Rattle.rows.proofs.find_named.Tie as tie
 

@@ -8,8 +8,8 @@ use Rattle.format.specs.declared.Found.the-variants.{At}
 use Rattle.format.specs.Fcb.{current}
 use Rattle.model.specs.Lent.{lend}
 use Rattle.model.specs.Target.{targetExtent, targetSlot, presentEntry, targetEntry}
-use Rattle.rows.specs.Find.{file-says}
-use Rattle.current.specs.Current.{current-says}
+use Rattle.facts.specs.Find.{file-says}
+use Rattle.facts.specs.Current.{current-says}
 use Rattle.rulings.specs.declared.Ruling.the-variants.{Refuse}
 use Rattle.targets.specs.Target.{overLast}
 use Rattle.rulings.specs.Laws.{target-low, read-over, read-stale, read-missing, read-found}
