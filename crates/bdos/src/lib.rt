@@ -32,7 +32,7 @@ fn disk_right(number: u8, image: &[u8], map: &[u16], marks: &mut [u8]) -> bool
         return false;
     }
     if number != 13 {
-        return notes::map_right(map, marks, image);
+        return maps::map_right(map, marks, image);
     }
     true
 }

@@ -1,4 +1,2 @@
-pub mod Runs
-pub mod BlockMarks
 pub mod Chain
 pub mod Pass

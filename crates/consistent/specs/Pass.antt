@@ -15,7 +15,7 @@ use Rattle.facts.specs.Marks.{markCount}
 use Rattle.consistency.specs.Listed.{listed-unused}
 use Rattle.consistency.specs.Reflect.{used-full, empty-right, alone-intro, same-used-left}
 use Rattle.heads.specs.Head.{rowRight}
-use Rattle.consistent.specs.BlockMarks.{BlockMarks, markSlots, slotsFree, marks-skip, marks-row, slots-right}
+use Rattle.blocks.specs.BlockMarks.{BlockMarks, markSlots, slotsFree, marks-skip, marks-row, slots-right}
 use Rattle.consistent.specs.Chain.{Lasts, Links, links-none, lasts-skip, links-skip}
 
 -- entry e passes: it is right, its blocks do not stand before, and it is alone

@@ -2,86 +2,18 @@
 ghost use mathlib.Core.Path.{_≡_};
 ghost use mathlib.Core.Bool.{true};
 ghost use Prim.Native.Nat.{ℕ, _+_, _*_, _≤_, _<_};
-ghost use lib.ListN.{getD, length};
+ghost use lib.ListN.{length};
 ghost use Rattle.lists.specs.Below.{allBelow};
-ghost use Rattle.format.specs.Diskette.{eightInch, imageBytes, entryBytes, entriesPerRecord, slotCount};
+ghost use Rattle.format.specs.Diskette.{eightInch, imageBytes, entryBytes, entriesPerRecord};
 ghost use Rattle.format.specs.Entries.{entryAt, used};
 ghost use Rattle.format.specs.Consistent.{sameFile, alone, consistent};
 ghost use Rattle.facts.specs.Marks.{markCount, Marked};
-ghost use Rattle.consistent.specs.Runs.{markNumber, Taken};
-ghost use Rattle.consistent.specs.BlockMarks.{startMarks, markSlots, slotsFree};
 ghost use Rattle.consistent.specs.Chain.{Lasts, Links};
 ghost use Rattle.consistent.specs.Pass.{entryFits, Passed};
-use format::AREA_BLOCKS;
-use format::BLOCKS;
 use format::DIRECTORY_RECORDS;
 use format::ENTRIES;
 use format::ENTRIES_PER_RECORD;
-use format::MARKS;
-
-// The number of keys.
-const KEYS: usize = 256;
-
-// Marks the numbers that are no block's past the directory: no slot may list them.
-fn start_marks(marks: &mut [u8])
-    requires { ⌜ length (now marks) ≡ markCount ⌝ }
-    ensures { λ _. ⌜ now (marks .exit) ≡ startMarks eightInch (now (marks .entry)) ⌝ }
-{
-    lists::fill(marks, 0, MARKS, 0);
-    lists::fill(marks, 1, AREA_BLOCKS - 1, 1);
-    lists::fill(marks, BLOCKS, MARKS - BLOCKS, 1);
-}
-
-// Takes the number's place among the marks; the answer is the mark that stood there, 0 where the number was free. A slot of 0 lists
-// nothing: its mark is 0 and stays so, and no test is needed.
-fn take_number(marks: &mut [u8], b: u8) -> u8
-    requires { ⌜ length (now marks) ≡ markCount ⌝ }
-    ensures { λ old. ⌜ (old ≡ getD (now (marks .entry)) b 0) × (now (marks .exit) ≡ markNumber (now (marks .entry)) b) ⌝ }
-{
-    let at = lists::wide(b);
-    let old = marks[at];
-    marks[at] = b;
-    old
-}
-
-// Takes the four numbers of a row from `at` on; the answer is the marks that they met or-ed together, so 0 where each was free.
-fn take_four(marks: &mut [u8], r: &[u8], at: usize) -> u8
-    requires { ⌜ (length (now marks) ≡ markCount) × (at + 4 ≤ length (now r)) ⌝ }
-    ensures { λ met. ⌜ Taken (now (marks .entry)) (now (r .entry)) at 4 (now (marks .exit)) met ⌝ }
-{
-    let mut met: u8 = 0;
-    let mut j = 0;
-    while j < 4 {
-        met = met | take_number(marks, r[at + j]);
-        j += 1;
-    }
-    met
-}
-
-// The same, without a look at the marks where all four are 0, as most are.
-fn take_any(marks: &mut [u8], r: &[u8], at: usize) -> u8
-    requires { ⌜ (length (now marks) ≡ markCount) × (getD (now marks) 0 0 ≡ 0) × (at + 4 ≤ length (now r)) ⌝ }
-    ensures { λ met. ⌜ Taken (now (marks .entry)) (now (r .entry)) at 4 (now (marks .exit)) met ⌝ }
-{
-    if lanes::half(r, at) == 0 {
-        return 0;
-    }
-    take_four(marks, r, at)
-}
-
-// Whether each slot of a row may list what it lists; the numbers are taken on the way.
-fn take_slots(marks: &mut [u8], r: &[u8]) -> bool
-    requires { ⌜ (length (now marks) ≡ markCount) × (getD (now marks) 0 0 ≡ 0) × (entryBytes ≤ length (now r)) ⌝ }
-    ensures { λ b. ⌜ (b ≡ slotsFree (now (marks .entry)) (now (r .entry))) × (now (marks .exit) ≡ markSlots (now (marks .entry)) (now (r .entry)) slotCount) ⌝ }
-{
-    let mut met = take_four(marks, r, 16);
-    let mut k = 1;
-    while k < 4 {
-        met = met | take_any(marks, r, 16 + 4 * k);
-        k += 1;
-    }
-    met == 0
-}
+use heads::KEYS;
 
 // Whether two used rows are of one file.
 fn same_file(r: &[u8], t: &[u8]) -> bool
@@ -144,7 +76,7 @@ fn take_entry(
     if !heads::row_right(r) {
         return false;
     }
-    if !take_slots(marks, r) {
+    if !blocks::take_slots(marks, r) {
         return false;
     }
     take_key(image, e, r, lasts, links)
@@ -175,7 +107,7 @@ pub fn is_consistent(image: &[u8], marks: &mut [u8]) -> bool
     ensures { λ b. ⌜ (b ≡ consistent eightInch (now (image .entry)))
         × (b ≡ true → Marked eightInch (entryAt eightInch (now (image .entry))) (now (marks .exit))) ⌝ }
 {
-    start_marks(marks);
+    blocks::start_marks(marks);
     let mut lasts = [0u8; KEYS];
     let mut links = [0u8; ENTRIES];
     let mut d = 0;

@@ -2,14 +2,14 @@
 use mathlib.Core.Path.{_≡_, sym, ap, _∙_}
 use mathlib.Core.Bool.{Bool, true, false, cond}
 use Prim.Native.Nat.{ℕ, _+_, _-_, _≤_, _<_}
-use native.Mathlib.Omega.{arith}
 use lib.Dec.{eqb}
 use lib.ListN.{getD}
 use borrow.Author.Tests.{leb-true, le-leb, eqb-true, eq-eqb, ne-eqb}
-use Rattle.lists.specs.Cases.{split, bool-ext, refute, lt-or-le}
+use Rattle.lists.specs.Cases.{split}
 use Rattle.lists.specs.Tests.{_and_, _or_, and-left, and-right, and-both, and-then, or-then, or-left, or-right, or-cases}
-use Rattle.lists.specs.Below.{allBelow, all-at, all-intro}
-use Rattle.lanes.specs.Lanes.{wordAt, word-same, same-word}
+use Rattle.lists.specs.Below.{allBelow, all-at, all-intro, all-next}
+use lib.Bits.{bitOr, bitXor}
+use Rattle.lists.specs.Bits.{or-zero, xor-zero}
 use Rattle.format.specs.Diskette.{Bytes, Geometry, slotCount}
 use Rattle.format.specs.Names.{nameRight}
 use Rattle.format.specs.Entries.{Rows, slotsOf, slotOf, extentOf, findFile}
@@ -85,27 +85,10 @@ pub same-slots-fit : (map es fs : Bytes) (e : ℕ) → slotsSame es fs ≡ true 
 unfolding slotsSame slotsFit slotFits
 same-slots-fit map es fs e t = all-intro (slotFits map e es fs) slotCount (λ j h. or-left _ _ (all-at _ slotCount t j h))
 
--- the slots as two words, of which the first is at 0 and the second at 8
-module _ (es fs : Bytes) where
-  same-words : slotsSame es fs ≡ true → (at : ℕ) → at + 8 ≤ slotCount → wordAt es at ≡ wordAt fs at
-  unfolding slotsSame
-  same-words t at h = same-word es fs at at (λ i l. sym (eqb-true _ _ (all-at _ slotCount t (at + i) (omega arith))))
-
-  -- words that differ, at either place
-  pub words-differ : (at w v : ℕ) → at + 8 ≤ slotCount → w ≡ wordAt es at → v ≡ wordAt fs at → (w ≡ v → ⊥) → false ≡ slotsSame es fs
-  words-differ at w v h p q n = refute (slotsSame es fs) (λ t. n (p ∙ same-words t at h ∙ sym q))
-
-  -- the first words are the same, so the second decide
-  pub words-decide : (w v x y : ℕ) → (w ≡ wordAt es 0) × ((i : ℕ) → i < 8 → getD es (0 + i) 0 < 256) → (v ≡ wordAt fs 0) × ((i : ℕ) → i < 8 → getD fs (0 + i) 0 < 256)
-      → w ≡ v → (x ≡ wordAt es 8) × ((i : ℕ) → i < 8 → getD es (8 + i) 0 < 256) → (y ≡ wordAt fs 8) × ((i : ℕ) → i < 8 → getD fs (8 + i) 0 < 256)
-      → eqb x y ≡ slotsSame es fs
-  unfolding slotsSame
-  words-decide w v x y p q e r s =
-      bool-ext (eqb x y) (slotsSame es fs)
-      (λ t. all-intro _ slotCount (λ j h. eq-eqb _ _ (sym (split (lt-or-le j 8)
-      (λ l. let z : 0 + j ≡ j = omega arith in rw z at (word-same es fs 0 0 (p .1) (q .1) (sym (p .0) ∙ e ∙ q .0) j l))
-      (λ l. let z : 8 + (j - 8) ≡ j = omega arith in rw z at (word-same es fs 8 8 (r .1) (s .1) (sym (r .0) ∙ eqb-true _ _ t ∙ s .0) (j - 8) (omega arith)))))))
-      (λ t. eq-eqb _ _ (r .0 ∙ same-words t 8 (omega arith) ∙ sym (s .0)))
+-- a turn of the loop that or-s the bits in which slots differ
+pub same-more : (es fs : Bytes) (d j : ℕ) → eqb d 0 ≡ allBelow (λ (k : ℕ). eqb (getD fs k 0) (getD es k 0)) j
+    → eqb (bitOr d (bitXor (getD fs j 0) (getD es j 0))) 0 ≡ allBelow (λ (k : ℕ). eqb (getD fs k 0) (getD es k 0)) (j + 1)
+same-more es fs d j h = or-zero d _ ∙ rw (h, xor-zero (getD fs j 0) (getD es j 0)) (sym (all-next _ j))
 
 -- ---- the FCB is current, and e is its entry
 module _ (G : Geometry) (d : Rows) (map : Bytes) (user : ℕ) (fcb : Bytes) where

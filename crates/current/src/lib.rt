@@ -44,14 +44,17 @@ pub fn slot_fits(map: &[u16], e: usize, es: [u8; 16], fs: [u8; 16], j: usize) ->
     notes::note_at(map, lists::wide(fs[j])) == notes::pending_note(e, j)
 }
 
-// Whether every slot of an FCB is the entry's. Sixteen slots are two words.
+// Whether every slot of an FCB is the entry's: the bits in which a slot differs are or-ed together.
 pub fn slots_same(es: [u8; 16], fs: [u8; 16]) -> bool
     ensures { λ r. ⌜ r ≡ slotsSame es fs ⌝ }
 {
-    if lanes::word(&es, 0) != lanes::word(&fs, 0) {
-        return false;
+    let mut differ: u8 = 0;
+    let mut j = 0;
+    while j < format::SLOTS {
+        differ = differ | fs[j] ^ es[j];
+        j += 1;
     }
-    lanes::word(&es, 8) == lanes::word(&fs, 8)
+    differ == 0
 }
 
 // Whether every slot of an FCB fits entry e. They are the entry's own as a rule, so that is tried first.

@@ -1,7 +1,7 @@
 -- A close, field by field: the entry, the notes, and the FCB.
 use mathlib.Core.Path.{_≡_, refl, ap, sym, _∙_}
 use mathlib.Core.Logic.{_⊎_, inl, inr}
-use mathlib.Core.Bool.{Bool, true, false, cond, not}
+use mathlib.Core.Bool.{Bool, true, cond, not}
 use Prim.Native.Nat.{ℕ, zero, suc, _+_, _≤_, _<_, max}
 use native.Mathlib.Omega.{arith}
 use lib.Dec.{eqb}
@@ -9,8 +9,8 @@ use lib.ListN.{length, getD, set, length-set}
 use lib.Seq.{getD-set-same, getD-set-other, ext-getD}
 use borrow.Author.Tests.{eqb-true, eqb-false, eq-eqb, ne-eqb, ltb-true, ltb-false, not-true}
 use Rattle.lists.specs.Cases.{split, bool-cases, eq-or-ne, not-both}
-use Rattle.lists.specs.Tests.{_and_, _or_, and-left, and-right, and-both, and-then, and-fails-left, and-fails-right, or-neither, cond-or}
-use Rattle.lists.specs.Below.{anyBelow, any-at, any-some, any-never}
+use Rattle.lists.specs.Tests.{_and_, _or_, and-left, and-right, and-both, and-then, and-fails-left, and-fails-right, cond-or}
+use Rattle.lists.specs.Below.{anyBelow, any-at, any-some}
 use Rattle.lists.specs.Splice.{length-splice, getD-splice-in, getD-splice-out}
 use Rattle.lists.specs.Tab.{length-tab, getD-tab}
 use Rattle.lists.specs.Fold.{foldBelow, fold-keeps}
@@ -20,7 +20,7 @@ use Rattle.format.specs.Entries.{rcOf, slotOf, slotsOf, readOnly, extentOf, cou
 use Rattle.facts.specs.Slots.{length-slotsOf, getD-slotsOf}
 use Rattle.format.specs.Notes.{noteAt, withNote, recordedNote}
 use Rattle.format.specs.Fcb.{fcbRight}
-use Rattle.model.specs.Closing.{takesSlot, mergedSlot, mergedSlots, countsMore, closedCount, closedRow, closeChanges, closedNote, closedMap, closedFcb}
+use Rattle.model.specs.Closing.{takesSlot, mergedSlot, mergedSlots, countsMore, closedCount, closedRow, closedNote, closedMap, closedFcb}
 use Rattle.consistency.specs.Facts.{Numbers, SameFile}
 use Rattle.names.specs.Laws.{right-cong}
 use Rattle.fields.specs.Agree.{Agree, SameName, same-file, same-name, slot-cong, readOnly-cong, extent-cong, fcbRight-cong}
@@ -146,12 +146,6 @@ module _ (G : Geometry) (row fcb : Bytes) (hr : length row ≡ 32) where
     s2 = rw (head-closed 14 (omega arith) (omega arith)) (n .s2);
     rc = rw rc-closed (count-closed-high G row fcb 128 (n .rc) (m .rc));
   }
-
--- ---- a close that changes nothing
-module _ (G : Geometry) (row fcb : Bytes) (same : closeChanges G row fcb ≡ false) where
-  pub takes-none : (j : ℕ) → j < slotCount → takesSlot (slotsOf row) (slotsOf fcb) j ≡ false
-  unfolding closeChanges
-  takes-none j h = any-never (takesSlot (slotsOf row) (slotsOf fcb)) slotCount ((or-neither _ _ same) .0) j h
 
 -- ---- the notes
 -- a slot takes block b

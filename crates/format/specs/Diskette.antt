@@ -24,8 +24,8 @@ pub record Geometry : Type 0 where
   -- the physical sector, counted from 1, of a logical one, counted from 0
   pub physical : ℕ → ℕ
 
--- sizes that are the same on every disk: the bytes of a record and of an entry, the entries of a record, the slots of an entry, the
--- records of an extent, and one past the last extent
+-- sizes that no disk changes: the bytes of a record and of an entry, the entries of a record, the records of an extent, and one past the
+-- last extent; and the slots of an entry, of which there are sixteen on every disk whose block numbers take one byte
 abbrev pub recordBytes : ℕ
 recordBytes = 128
 

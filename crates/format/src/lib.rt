@@ -17,7 +17,7 @@ pub const RESERVED_TRACKS: usize = 2;
 
 pub const RECORD_BYTES: usize = 128;
 
-pub const IMAGE_BYTES: usize = 256256;
+pub const IMAGE_BYTES: usize = TRACKS * SECTORS * RECORD_BYTES;
 
 // Blocks, and the directory in the first of them.
 pub const RECORDS_PER_BLOCK: usize = 8;
@@ -36,7 +36,7 @@ pub const ENTRY_BYTES: usize = 32;
 pub const ENTRIES_PER_RECORD: usize = 4;
 
 // The records that the entries fill.
-pub const DIRECTORY_RECORDS: usize = 16;
+pub const DIRECTORY_RECORDS: usize = ENTRIES / ENTRIES_PER_RECORD;
 
 // Entries and FCBs.
 pub const SLOTS: usize = 16;

@@ -30,7 +30,8 @@ lowPart r = lanes 8 (λ (i : ℕ). bitAnd (getD r i 0) (lowMask i))
 unfoldable pub highPart : Bytes → ℕ
 highPart r = lanes 8 (λ (i : ℕ). bitAnd (getD r (8 + i) 0) (highMask i))
 
--- Any numbers are right in this product; with these, names that are counted through, and the extents of a file, get keys of their own
+-- Any numbers are right in this product; with these, names that are counted through, and the extents of a file, share keys about as
+-- seldom as by chance.
 unfoldable pub mixed : ℕ → ℕ
 mixed both = both % 4294967296 * 930724223 + both / 4294967296 * 1249645923
 

@@ -138,6 +138,9 @@ pub fn row_right(r: &[u8]) -> bool
     lanes::word(&faults, 0) | lanes::word(&faults, 8) == 0
 }
 
+// The number of keys.
+pub const KEYS: usize = 256;
+
 // Two halves of a word multiplied apart, so that no product is too long, and added.
 fn mix(both: u64) -> u64
     ensures { λ r. ⌜ r ≡ mixed both ⌝ }
@@ -152,5 +155,5 @@ pub fn key(r: &[u8]) -> usize
 {
     let low = lanes::word(r, 0) & 0x7F7F7F7F7F7F7FFF;
     let high = lanes::word(r, 8) & 0x1F7F7F7F7F;
-    (mix(low ^ high * 8) / 0x4000000 % 256) as usize
+    (mix(low ^ high * 8) / 0x4000000) as usize % KEYS
 }

@@ -60,7 +60,7 @@ zero-lanes (suc n) f p =
     let first = p 0 (omega arith) in
     omega arith
 
--- ---- bytes of a list: their sums, four that make 0, and two words that are the same
+-- ---- bytes of a list: their sums, and four and eight that make 0
 pub half-sum : (l : List ℕ) (at : ℕ) → halfAt l at ≡ getD l at 0 + getD l (at + 1) 0 * 256 + getD l (at + 2) 0 * 65536 + getD l (at + 3) 0 * 16777216
 unfolding halfAt lanes
 half-sum l at = rw add-zero (omega arith)
@@ -90,11 +90,3 @@ word-zero l at e i h = lanes-zero 8 (λ (k : ℕ). getD l (at + k) 0) e i h
 pub zero-word : (l : List ℕ) (at : ℕ) → ((i : ℕ) → i < 8 → getD l (at + i) 0 ≡ 0) → wordAt l at ≡ 0
 unfolding wordAt
 zero-word l at p = zero-lanes 8 (λ (i : ℕ). getD l (at + i) 0) p
-
-pub word-same : (l m : List ℕ) (at to : ℕ) → ((i : ℕ) → i < 8 → getD l (at + i) 0 < 256) → ((i : ℕ) → i < 8 → getD m (to + i) 0 < 256) → wordAt l at ≡ wordAt m to → (i : ℕ) → i < 8 → getD l (at + i) 0 ≡ getD m (to + i) 0
-unfolding wordAt
-word-same l m at to p q e = lanes-same 8 (λ (i : ℕ). getD l (at + i) 0) (λ (i : ℕ). getD m (to + i) 0) p q e
-
-pub same-word : (l m : List ℕ) (at to : ℕ) → ((i : ℕ) → i < 8 → getD l (at + i) 0 ≡ getD m (to + i) 0) → wordAt l at ≡ wordAt m to
-unfolding wordAt
-same-word l m at to p = lanes-cong 8 (λ (i : ℕ). getD l (at + i) 0) (λ (i : ℕ). getD m (to + i) 0) p

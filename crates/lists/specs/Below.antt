@@ -196,11 +196,6 @@ pub first-none : (p : ℕ → Bool) (i n : ℕ) → i ≤ n → ((j : ℕ) → i
 unfolding firstIn
 first-none p i n h f = of-none p i (n - i) (λ j a b. f j a (omega arith)) ∙ omega arith
 
-of-cong : (p q : ℕ → Bool) (i n : ℕ) → ((k : ℕ) → i ≤ k → k < i + n → p k ≡ q k) → firstOf p i n ≡ firstOf q i n
-unfolding firstOf
-of-cong p q i zero f = refl
-of-cong p q i (suc n) f = rw (f i (omega arith) (omega arith), of-cong p q (suc i) n (λ k a b. f k (omega arith) (omega arith)))
-
 -- numbers at which p fails may be skipped
 pub first-skip : (p : ℕ → Bool) (i k n : ℕ) → i ≤ k → k ≤ n → ((j : ℕ) → i ≤ j → j < k → p j ≡ false) → firstIn p k n ≡ firstIn p i n
 first-skip p i k n a b f =

@@ -1,8 +1,8 @@
--- Bits of numbers or-ed together.
-use mathlib.Core.Path.{_≡_}
+-- Bits of numbers or-ed together, and those in which numbers differ.
+use mathlib.Core.Path.{_≡_, ap, sym, _∙_}
 use Prim.Native.Nat.{ℕ}
 use native.Mathlib.Omega.{arith}
-use lib.Bits.{bitOr, or-add-and, and-le-l, and-le-r}
+use lib.Bits.{bitOr, bitXor, or-add-and, xor-add-and, xor-self, and-le-l, and-le-r}
 use lib.Dec.{eqb}
 use borrow.Author.Tests.{eqb-true, eq-eqb}
 use Rattle.lists.specs.Cases.{bool-ext}
@@ -25,3 +25,10 @@ module _ (a b : ℕ) where
       bool-ext _ _
       (λ t. and-both _ _ (eq-eqb a 0 (or-left-zero (eqb-true _ _ t))) (eq-eqb b 0 (or-right-zero (eqb-true _ _ t))))
       (λ t. eq-eqb _ _ (or-both-zero (eqb-true a 0 (and-left _ _ t)) (eqb-true b 0 (and-right _ _ t))))
+
+  -- no bit of a and b differs exactly when they are the same
+  pub xor-zero : eqb (bitXor a b) 0 ≡ eqb a b
+  xor-zero =
+      bool-ext _ _
+      (λ t. let z : bitXor a b ≡ 0 = eqb-true (bitXor a b) 0 t in eq-eqb a b (omega (arith, xor-add-and a b, and-le-l a b, and-le-r a b)))
+      (λ t. eq-eqb _ _ (ap (bitXor a) (sym (eqb-true a b t)) ∙ xor-self a))

@@ -25,11 +25,6 @@ count-high p (suc n) =
 pub count-done : (p : ℕ → Bool) (i n : ℕ) → i ≤ n → n ≤ i → (x : ℕ) → x ≡ countBelow p i → x ≡ countBelow p n
 count-done p i n a b x e = let q : i ≡ n = omega arith in rw q at e
 
-pub count-cong : (p q : ℕ → Bool) (n : ℕ) → ((k : ℕ) → k < n → p k ≡ q k) → countBelow p n ≡ countBelow q n
-unfolding countBelow
-count-cong p q zero f = refl
-count-cong p q (suc n) f = rw (count-cong p q n (λ k h. f k (omega arith)), f n (omega arith))
-
 pub count-next : (p : ℕ → Bool) (i : ℕ) → countBelow p (i + 1) ≡ countBelow p i + cond (p i) 1 0
 unfolding countBelow
 count-next p i = simp add-one

@@ -112,21 +112,6 @@ module _ (G : Geometry) (s : Session) (l : Lent) where
   unfoldable pub renamed : Outcome
   renamed = done 0 s (lend (changedRows G (named false (s .user) (l .fcb) 1) (renamedRow (l .fcb)) (l .image)) (l .map) (l .fcb) (l .buffer))
 
-  -- 35: the size in r0 to r2, lowest byte first
-  unfoldable pub sized : Outcome
-  sized =
-      done 0 s
-      (lend (l .image) (l .map) (splice (l .fcb) 33 (threeBytes (fileSize G (rowsOf G l) (named false (s .user) (l .fcb) 1)))) (l .buffer))
-
-  -- 36: 128 × extent + cr
-  unfoldable pub positioned : Outcome
-  positioned =
-      done 0 s (lend (l .image) (l .map) (splice (l .fcb) 33 (threeBytes (extentRecords * extentOf (l .fcb) + crOf (l .fcb)))) (l .buffer))
-
-  -- 46: the records of the free blocks, lowest byte first
-  unfoldable pub space : Outcome
-  space = done 0 s (lend (l .image) (l .map) (l .fcb) (splice (l .buffer) 0 (threeBytes (G .perBlock * freeCount G (l .map)))))
-
   -- 20, 33: the FCB comes to the target's extent; the buffer gets the record
   unfoldable pub readAt : ℕ → ℕ → Lent → Outcome
   readAt n b there = done 0 s (haveRead G b (targetRecord n (l .fcb)) (crAfter n (l .fcb)) there)
@@ -151,3 +136,18 @@ module _ (G : Geometry) (s : Session) (l : Lent) where
 
   unfoldable pub written : ℕ → Outcome
   written n = writing n (plan G n (s .user) l)
+
+  -- 35: the size in r0 to r2, lowest byte first
+  unfoldable pub sized : Outcome
+  sized =
+      done 0 s
+      (lend (l .image) (l .map) (splice (l .fcb) 33 (threeBytes (fileSize G (rowsOf G l) (named false (s .user) (l .fcb) 1)))) (l .buffer))
+
+  -- 36: 128 × extent + cr
+  unfoldable pub positioned : Outcome
+  positioned =
+      done 0 s (lend (l .image) (l .map) (splice (l .fcb) 33 (threeBytes (extentRecords * extentOf (l .fcb) + crOf (l .fcb)))) (l .buffer))
+
+  -- 46: the records of the free blocks, lowest byte first
+  unfoldable pub space : Outcome
+  space = done 0 s (lend (l .image) (l .map) (l .fcb) (splice (l .buffer) 0 (threeBytes (G .perBlock * freeCount G (l .map)))))

@@ -4,7 +4,6 @@ use Prim.Native.Nat.{ℕ}
 use lib.Dec.{eqb, ltb}
 use lib.ListN.{getD, set}
 use Rattle.lists.specs.Tests.{_and_, _or_}
-use Rattle.lists.specs.Below.{anyBelow}
 use Rattle.lists.specs.Splice.{splice}
 use Rattle.lists.specs.Tab.{tab}
 use Rattle.lists.specs.Fold.{foldBelow}
@@ -33,10 +32,6 @@ closedCount G row fcb = cond (countsMore G row fcb) (countOf fcb) (rcOf row)
 
 unfoldable pub closedRow : Geometry → Bytes → Bytes → Bytes
 closedRow G row fcb = splice (set row 15 (closedCount G row fcb)) 16 (mergedSlots (slotsOf row) (slotsOf fcb))
-
--- a close changes its entry where it records a block or a larger count
-unfoldable pub closeChanges : Geometry → Bytes → Bytes → Bool
-closeChanges G row fcb = anyBelow (takesSlot (slotsOf row) (slotsOf fcb)) slotCount or countsMore G row fcb
 
 -- the notes of the blocks taken become recorded
 unfoldable pub closedNote : Bytes → Bytes → Bytes → ℕ → Bytes

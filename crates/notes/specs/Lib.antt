@@ -4,4 +4,3 @@ pub mod Freeing
 pub mod FreeingLaws
 pub mod Right
 pub mod Free
-pub mod Told

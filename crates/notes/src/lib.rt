@@ -4,12 +4,9 @@ ghost use mathlib.Core.Bool.{not, cond};
 ghost use Prim.Native.Nat.{_<_, _≤_};
 ghost use lib.Dec.{eqb};
 ghost use lib.ListN.{length};
-ghost use Rattle.format.specs.Diskette.{eightInch, imageBytes, slotCount};
-ghost use Rattle.format.specs.Entries.{Rows, entryAt};
-ghost use Rattle.facts.specs.Marks.{Marked, markCount};
-ghost use Rattle.format.specs.Notes.{freeNote, noteAt, pendingFor, withNote, findFree, freeCount, settledNote, freedMap, freshNote, freshMap, heldFor, heldByUsed, noteRight, mapRight};
+ghost use Rattle.format.specs.Diskette.{eightInch, slotCount};
+ghost use Rattle.format.specs.Notes.{freeNote, noteAt, pendingFor, withNote, findFree, freeCount, settledNote, freedMap, heldFor};
 ghost use Rattle.notes.specs.Freeing.{unlistedSlot, unlistedMap, unheldNote, unheldMap, marksPick};
-ghost use Rattle.notes.specs.Told.{toldNote, differenceCount, areaRight};
 use format::Found;
 
 // The numbers of notes. From PENDING on, each entry has PLACES of them, one for each of its slots.
@@ -19,9 +16,9 @@ pub const AREA: u16 = 1;
 
 pub const RECORDED: u16 = 2;
 
-const PENDING: usize = 16;
+pub const PENDING: usize = 16;
 
-const PLACES: usize = 16;
+pub const PLACES: usize = 16;
 
 // The note of a block that is pending for slot j of entry e.
 pub fn pending_note(e: usize, j: usize) -> u16
@@ -111,39 +108,6 @@ pub fn free_pending(map: &mut [u16])
     }
 }
 
-// The fresh note of a block past the directory, which its mark tells.
-fn told_note(mark: u8) -> u16
-    ensures { λ r. ⌜ r ≡ toldNote mark ⌝ }
-{
-    if mark == 0 {
-        return FREE;
-    }
-    RECORDED
-}
-
-// The fresh note of block b.
-fn fresh_note(b: usize, marks: &[u8]) -> u16
-    requires { ⌜ (length (now marks) ≡ markCount) × (b < eightInch .blocks) ⌝ }
-    ensures { λ r. ⌜ ((d : Rows) → Marked eightInch d (now (marks .entry)) → r ≡ freshNote eightInch d b) ⌝ }
-{
-    if b < format::AREA_BLOCKS {
-        return AREA;
-    }
-    told_note(marks[b])
-}
-
-// The fresh map of the directory whose listed blocks are marked.
-pub fn make_fresh(map: &mut [u16], marks: &[u8])
-    requires { ⌜ (length (now map) ≡ eightInch .blocks) × (length (now marks) ≡ markCount) ⌝ }
-    ensures { λ _. ⌜ ((d : Rows) → Marked eightInch d (now (marks .entry)) → now (map .exit) ≡ freshMap eightInch d) ⌝ }
-{
-    let mut b = 0;
-    while b < format::BLOCKS {
-        set_note(map, b, fresh_note(b, marks));
-        b += 1;
-    }
-}
-
 // Whether a note is pending for an entry whose mark is not 0.
 fn held_for(n: u16, marks: &[u8]) -> bool
     requires { ⌜ length (now marks) ≡ eightInch .entries ⌝ }
@@ -157,111 +121,6 @@ fn held_for(n: u16, marks: &[u8]) -> bool
         return false;
     }
     marks[e] != 0
-}
-
-// Whether a note is pending for a used entry.
-fn held_by_used(n: u16, image: &[u8]) -> bool
-    requires { ⌜ length (now image) ≡ imageBytes eightInch ⌝ }
-    ensures { λ r. ⌜ r ≡ heldByUsed eightInch (entryAt eightInch (now (image .entry))) n ⌝ }
-{
-    if (n as usize) < PENDING {
-        return false;
-    }
-    let e = (n as usize - PENDING) / PLACES;
-    if format::ENTRIES <= e {
-        return false;
-    }
-    rows::row(image, e)[0] <= 15
-}
-
-// Whether block b has a note that is right.
-fn note_right(b: usize, n: u16, marks: &[u8], image: &[u8]) -> bool
-    requires { ⌜ (length (now marks) ≡ markCount) × (length (now image) ≡ imageBytes eightInch) × (b < eightInch .blocks) ⌝ }
-    ensures { λ r. ⌜ (Marked eightInch (entryAt eightInch (now (image .entry))) (now (marks .entry))
-        → r ≡ noteRight eightInch (entryAt eightInch (now (image .entry))) b n) ⌝ }
-{
-    if b < format::AREA_BLOCKS {
-        return n == AREA;
-    }
-    if marks[b] != 0 {
-        return n == RECORDED;
-    }
-    if n == FREE {
-        return true;
-    }
-    held_by_used(n, image)
-}
-
-// Whether every note is right, asked note by note.
-fn notes_right(map: &[u16], marks: &[u8], image: &[u8]) -> bool
-    requires { ⌜ (length (now map) ≡ eightInch .blocks) × (length (now marks) ≡ markCount) × (length (now image) ≡ imageBytes eightInch) ⌝ }
-    ensures { λ r. ⌜ (Marked eightInch (entryAt eightInch (now (image .entry))) (now (marks .entry))
-        → r ≡ mapRight eightInch (entryAt eightInch (now (image .entry))) (now (map .entry))) ⌝ }
-{
-    let mut b = 0;
-    while b < format::BLOCKS {
-        if !note_right(b, map[b], marks, image) {
-            return false;
-        }
-        b += 1;
-    }
-    true
-}
-
-// Whether the directory's blocks have its note.
-fn area_right(map: &[u16]) -> bool
-    requires { ⌜ length (now map) ≡ eightInch .blocks ⌝ }
-    ensures { λ r. ⌜ r ≡ areaRight eightInch (now (map .entry)) ⌝ }
-{
-    let mut b = 0;
-    while b < format::AREA_BLOCKS {
-        if map[b] != AREA {
-            return false;
-        }
-        b += 1;
-    }
-    true
-}
-
-// 1 where a note past the directory is not the fresh one of a block with this mark, or 0.
-fn difference(n: u16, mark: u8) -> u16
-    ensures { λ r. ⌜ r ≡ cond (not (eqb n (toldNote mark))) 1 0 ⌝ }
-{
-    if n != told_note(mark) {
-        return 1;
-    }
-    0
-}
-
-// How many notes past the directory are not the fresh ones. No turn leaves the loop or branches, so that the notes are compared many at
-// a time.
-fn differences(map: &[u16], marks: &[u8]) -> u16
-    requires { ⌜ (length (now map) ≡ eightInch .blocks) × (length (now marks) ≡ markCount) ⌝ }
-    ensures { λ r. ⌜ r ≡ differenceCount eightInch (now (map .entry)) (now (marks .entry)) ⌝ }
-{
-    let mut n: u16 = 0;
-    let mut b = format::AREA_BLOCKS;
-    while b < format::BLOCKS {
-        n += difference(map[b], marks[b]);
-        b += 1;
-    }
-    n
-}
-
-// Whether the map is right for the image whose listed blocks are marked. Most maps are the fresh one: only where notes differ from it,
-// as pending ones do, is each asked for by itself.
-pub fn map_right(map: &[u16], marks: &[u8], image: &[u8]) -> bool
-    requires { ⌜ (length (now map) ≡ eightInch .blocks) × (length (now marks) ≡ markCount) × (length (now image) ≡ imageBytes eightInch) ⌝ }
-    ensures { λ r. ⌜ (Marked eightInch (entryAt eightInch (now (image .entry))) (now (marks .entry))
-        → r ≡ mapRight eightInch (entryAt eightInch (now (image .entry))) (now (map .entry))) ⌝ }
-{
-    if !area_right(map) {
-        return false;
-    }
-    if differences(map, marks) == 0 {
-        return true;
-    }
-    notes_right(map, marks, image)
 }
 
 // The block that a slot lists becomes free; a slot of 0, or past the last block, lists none.

@@ -22,7 +22,7 @@ pub fn log_in(map: &mut [u16], marks: &[u8], session: Session) -> Answer
         → outcome r image (now (map .exit)) fcb buffer
         ≡ ownStep eightInch argument (lend image (now (map .entry)) fcb buffer) session call13) ⌝ }
 {
-    notes::make_fresh(map, marks);
+    maps::make_fresh(map, marks);
     answers::done(0, session)
 }
 
@@ -46,10 +46,7 @@ fn position_right(fcb: &[u8]) -> bool
     requires { ⌜ length (now fcb) ≡ fcbBytes ⌝ }
     ensures { λ r. ⌜ r ≡ positionRight (now (fcb .entry)) ⌝ }
 {
-    if 31 < fcb[12] {
-        return false;
-    }
-    if 63 < fcb[14] {
+    if !rows::extent_right(fcb) {
         return false;
     }
     fcb[32] <= 128

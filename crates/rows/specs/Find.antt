@@ -8,8 +8,6 @@ use Rattle.lists.specs.Below.{firstIn, first-among, first-past}
 use Rattle.format.specs.Diskette.{Bytes, Geometry, Sound, imageBytes, recordAt, entriesPerRecord}
 use Rattle.format.specs.Entries.{entryAt}
 use Rattle.rows.specs.Entries.{rowOf, row-in-record}
--- the code's contracts name the test
-pub use Rattle.facts.specs.Find.{fileTest}
 
 -- At record d it looks for the first of the record's rows that passes a test: i, or 4
 module _ {G : Geometry} (S : Sound G) (img : Bytes) (long : length img ≡ imageBytes G) (test : Bytes → Bool) (d : ℕ)

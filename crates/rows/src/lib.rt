@@ -5,10 +5,10 @@ ghost use lib.ListN.{length};
 ghost use Rattle.lists.specs.Below.{firstIn};
 ghost use Rattle.format.specs.Diskette.{eightInch, imageBytes, recordBytes, recordAt, entryBytes, entriesPerRecord, slotCount};
 ghost use Rattle.format.specs.Names.{nameBytes};
-ghost use Rattle.format.specs.Consistent.{numbersRight};
+ghost use Rattle.format.specs.Consistent.{extentRight, numbersRight};
 ghost use Rattle.format.specs.Entries.{entryPlace, entryAt, withEntry, slotsOf, extentOf, covers, countIn, slotFor, named, isFile, findFile, findNamed, findEmpty};
 ghost use Rattle.rows.specs.Entries.{rowOf};
-ghost use Rattle.rows.specs.Find.{fileTest};
+ghost use Rattle.facts.specs.Find.{fileTest};
 use format::ENTRIES;
 use format::ENTRIES_PER_RECORD;
 use format::ENTRY_BYTES;
@@ -114,15 +114,23 @@ pub fn slot_for(ext: usize, k: usize) -> usize
     k / format::RECORDS_PER_BLOCK
 }
 
-// Whether ex, s2 and rc are in range, in a row or an FCB.
-pub fn numbers_right(r: &[u8]) -> bool
+// Whether ex and s2 are in range, in a row or an FCB.
+pub fn extent_right(r: &[u8]) -> bool
     requires { ⌜ entryBytes ≤ length (now r) ⌝ }
-    ensures { λ b. ⌜ b ≡ numbersRight (now (r .entry)) ⌝ }
+    ensures { λ b. ⌜ b ≡ extentRight (now (r .entry)) ⌝ }
 {
     if 31 < r[12] {
         return false;
     }
-    if 63 < r[14] {
+    r[14] <= 63
+}
+
+// Whether ex, s2 and rc are.
+pub fn numbers_right(r: &[u8]) -> bool
+    requires { ⌜ entryBytes ≤ length (now r) ⌝ }
+    ensures { λ b. ⌜ b ≡ numbersRight (now (r .entry)) ⌝ }
+{
+    if !extent_right(r) {
         return false;
     }
     r[15] <= 128

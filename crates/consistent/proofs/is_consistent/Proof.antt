@@ -1,6 +1,6 @@
 -- The loop keeps that the entries before record d pass, and what stands after them; at the end that is all that is promised.
 use Rattle.consistent.specs.Pass.{entryFits, Passed, pass-all, passed-none}
-use Rattle.consistent.specs.BlockMarks.{marks-start, marks-end}
+use Rattle.blocks.specs.BlockMarks.{marks-start, marks-end}
 use Rattle.consistent.specs.Chain.{lasts-none}
 use Rattle.format.specs.Consistent.{consistent}
 use Rattle.format.specs.Entries.{Rows, entryAt}

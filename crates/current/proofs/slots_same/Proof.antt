@@ -1,58 +1,53 @@
--- `current::slots_same` meets its contract: each word has eight slots, so two words that differ have a slot that does.
+-- `current::slots_same` meets its contract. The invariant: no bit differs exactly where the slots below j are the same.
+use mathlib.Core.Path.{_≡_, sym}
+use Prim.Native.Nat.{ℕ, _-_, _≤_}
 use native.Mathlib.Omega.{arith}
-use borrow.Author.Needs.{needs}
-use Rattle.current.specs.Current.{words-differ, words-decide}
+use lib.Dec.{eqb}
+use lib.ListN.{getD}
+use Rattle.lists.specs.Below.{allBelow, all-none}
+use Rattle.format.specs.Diskette.{slotCount}
+use Rattle.current.specs.Current.{slotsSame, same-more}
 use Rattle.current.proofs.slots_same.Statement.{statement}
 use Rattle.current.proofs.slots_same.Tie as tie
 
-slice-aggregate-word : tie.Need-slice-aggregate-word
-slice-aggregate-word c = search needs
+abbrev Inv-loop : tie.InvT-loop
+Inv-loop es fs differ₀ j₀ differ j = (eqb differ 0 ≡ allBelow (λ (k : ℕ). eqb (getD fs k 0) (getD es k 0)) j) × (j ≤ slotCount)
 
-word-requires : tie.Need-word-requires
-word-requires c κs = search needs
+abbrev μ-loop : tie.MeasureT-loop
+μ-loop es fs differ₀ j₀ differ j = slotCount - j
 
-slice-aggregate-word-2 : tie.Need-slice-aggregate-word-2
-slice-aggregate-word-2 c = search needs
+loop-holds : tie.Need-loop-holds Inv-loop μ-loop
+loop-holds c = (sym (all-none _), omega arith)
 
-word-requires-2 : tie.Need-word-requires-2
-word-requires-2 c κs = search needs
+array-read-differ : tie.Need-array-read-differ Inv-loop μ-loop
+array-read-differ c = omega arith
 
-returns : tie.Need-returns
-returns c =
-    let a = c .before .before .before .before .before .args in
-    words-differ (a .t1) (a .t2) 0 (c .before .before .before .word .result) (c .before .word2 .result) (omega arith)
-    (c .before .before .before .word .ensures .0) (c .before .word2 .ensures .0) (c .if1 .taken)
+array-read-differ-2 : tie.Need-array-read-differ-2 Inv-loop μ-loop
+array-read-differ-2 c = omega arith
 
-slice-aggregate-word-3 : tie.Need-slice-aggregate-word-3
-slice-aggregate-word-3 c = search needs
+add-j : tie.Need-add-j Inv-loop μ-loop
+add-j c = omega arith
 
-word-requires-3 : tie.Need-word-requires-3
-word-requires-3 c κs = search needs
+loop-less : tie.Need-loop-less Inv-loop μ-loop
+loop-less c = omega arith
 
-slice-aggregate-word-4 : tie.Need-slice-aggregate-word-4
-slice-aggregate-word-4 c = search needs
+loop-again : tie.Need-loop-again Inv-loop μ-loop
+loop-again c = let l = c .before .loop in let a = c .before .before .args in (same-more (a .t1) (a .t2) (l .differ) (l .j) (l .inv .0), omega arith)
 
-word-requires-4 : tie.Need-word-requires-4
-word-requires-4 c κs = search needs
-
-returns-2 : tie.Need-returns-2
-returns-2 c =
-    let e = c .before .before .before .before in
-    let a = e .before .before .before .before .before .args in
-    words-decide (a .t1) (a .t2) (e .before .before .before .word .result) (e .before .word2 .result) (c .before .before .word3 .result) (c .word4 .result)
-    (e .before .before .before .word .ensures) (e .before .word2 .ensures) (e .if1 .left) (c .before .before .word3 .ensures) (c .word4 .ensures)
+returns : tie.Need-returns Inv-loop μ-loop
+unfolding slotsSame
+returns c = let l = c .before .loop in let q : l .j ≡ slotCount = omega arith in rw q at (l .inv .0)
 
 pub slots-same-spec : {M : Type 1} → statement M
 slots-same-spec =
     tie.close
     (tie.spec
-    slice-aggregate-word
-    word-requires
-    slice-aggregate-word-2
-    word-requires-2
-    returns
-    slice-aggregate-word-3
-    word-requires-3
-    slice-aggregate-word-4
-    word-requires-4
-    returns-2)
+    Inv-loop
+    μ-loop
+    loop-holds
+    array-read-differ
+    array-read-differ-2
+    add-j
+    loop-less
+    loop-again
+    returns)

@@ -1,40 +1,25 @@
 -- `rows::numbers_right` meets its contract: the tests stand in the definition's order.
-use mathlib.Core.Path.{sym}
+use mathlib.Core.Path.{sym, _∙_}
 use borrow.Author.Needs.{needs}
-use borrow.Author.Tests.{le-leb, lt-leb}
-use Rattle.lists.specs.Tests.{and-both, and-then, and-fails-left, and-fails-right}
+use borrow.Author.Tests.{not-true, not-false}
+use Rattle.lists.specs.Tests.{and-then, and-fails-left}
 use Rattle.format.specs.Consistent.{numbersRight}
 use Rattle.rows.proofs.numbers_right.Statement.{statement}
 use Rattle.rows.proofs.numbers_right.Tie as tie
 
-shared-slice-read-if1 : tie.Need-shared-slice-read-if1
-shared-slice-read-if1 c = search needs
+extent-right-requires : tie.Need-extent-right-requires
+extent-right-requires c κs = search needs
 
 returns : tie.Need-returns
 unfolding numbersRight
-returns c = sym (and-fails-left _ _ (and-fails-left _ _ (lt-leb _ _ (c .if1 .taken))))
-
-shared-slice-read-if2 : tie.Need-shared-slice-read-if2
-shared-slice-read-if2 c = search needs
-
-returns-2 : tie.Need-returns-2
-unfolding numbersRight
-returns-2 c = sym (and-fails-left _ _ (and-fails-right _ _ (lt-leb _ _ (c .if2 .taken))))
+returns c = sym (and-fails-left _ _ (sym (c .before .extent-right .ensures) ∙ not-true _ (c .if1 .taken)))
 
 shared-slice-read-result : tie.Need-shared-slice-read-result
 shared-slice-read-result c = search needs
 
-returns-3 : tie.Need-returns-3
+returns-2 : tie.Need-returns-2
 unfolding numbersRight
-returns-3 c = sym (and-then _ _ (and-both _ _ (le-leb _ _ (c .before .before .before .if1 .left)) (le-leb _ _ (c .before .if2 .left))))
+returns-2 c = sym (and-then _ _ (sym (c .before .before .extent-right .ensures) ∙ not-false _ (c .before .if1 .left)))
 
 pub numbers-right-spec : {M : Type 1} → statement M
-numbers-right-spec =
-    tie.close
-    (tie.spec
-    shared-slice-read-if1
-    returns
-    shared-slice-read-if2
-    returns-2
-    shared-slice-read-result
-    returns-3)
+numbers-right-spec = tie.close (tie.spec extent-right-requires returns shared-slice-read-result returns-2)

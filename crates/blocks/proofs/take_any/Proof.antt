@@ -1,0 +1,27 @@
+-- Four numbers that make 0 are 0 each, and taking them changes nothing.
+use Rattle.blocks.specs.Runs.{taken-zeros}
+use Rattle.lanes.specs.Lanes.{half-zero}
+use mathlib.Core.Path.{sym, _∙_}
+use borrow.Author.Needs.{needs}
+use Rattle.blocks.proofs.take_any.Statement.{statement}
+use Rattle.blocks.proofs.take_any.Tie as tie
+
+half-requires : tie.Need-half-requires
+half-requires c κs = search needs
+
+returns : tie.Need-returns
+returns c =
+    let a = c .before .before .before .before in
+    taken-zeros (a .args .marks .now) (a .args .r .now) (a .args .at) (a .pre .1) 4 (half-zero (a .args .r .now) (a .args .at) (sym (c .before .half .ensures .0) ∙ c .if1 .taken))
+
+take-four-requires : tie.Need-take-four-requires
+take-four-requires c κs = search needs
+
+same-length : tie.Need-same-length
+same-length c = search needs
+
+returns-2 : tie.Need-returns-2
+returns-2 c = search needs
+
+pub take-any-spec : {M : Type 1} → statement M
+take-any-spec = tie.close (tie.spec half-requires returns take-four-requires same-length returns-2)

@@ -1,0 +1,80 @@
+-- The loop keeps that the first k fours of the slots are taken from whatever marks the first four were taken from.
+use Rattle.blocks.specs.Runs.{Taken, taken-join, taken-keeps-none}
+use Rattle.blocks.specs.BlockMarks.{markSlots, slotsFree}
+use Rattle.format.specs.Diskette.{Bytes}
+use lib.ListN.{length}
+use Prim.Native.Nat.{_+_, _*_, _-_, _≤_}
+use mathlib.Core.Path.{_≡_, refl}
+use borrow.Author.Needs.{needs}
+use native.Mathlib.Omega.{arith}
+use Rattle.blocks.proofs.take_slots.Statement.{statement}
+use Rattle.blocks.proofs.take_slots.Tie as tie
+
+abbrev Inv-loop : tie.InvT-loop
+Inv-loop marks₀ r met₀ k₀ marks met k =
+    ((l : Bytes) → Taken l r 16 4 marks₀ met₀ → Taken l r 16 (4 * k) marks met) × (k ≤ 4) × (length marks ≡ length marks₀)
+
+abbrev μ-loop : tie.MeasureT-loop
+μ-loop marks₀ r met₀ k₀ marks met k = 4 - k
+
+take-four-requires : tie.Need-take-four-requires Inv-loop μ-loop
+take-four-requires c κs = search needs
+
+loop-holds : tie.Need-loop-holds Inv-loop μ-loop
+loop-holds c = ((λ l t. t), omega arith, refl)
+
+mul-take-any : tie.Need-mul-take-any Inv-loop μ-loop
+mul-take-any c = omega arith
+
+add-take-any : tie.Need-add-take-any Inv-loop μ-loop
+add-take-any c = omega arith
+
+take-any-requires : tie.Need-take-any-requires Inv-loop μ-loop
+take-any-requires c κs =
+    let b = c .before .before in let f = b .before .before .before .take-four in let a = b .before .before .before .before .before .before .before in
+    let t = b .loop .inv .0 (a .args .marks .now) (f .ensures) in
+    (omega (arith, f .kept .0), taken-keeps-none (a .args .marks .now) (a .args .r .now) 16 (4 * b .loop .k) (b .loop .marks) (b .loop .met) t (a .pre .1), omega arith)
+
+add-k : tie.Need-add-k Inv-loop μ-loop
+add-k c = omega arith
+
+loop-less : tie.Need-loop-less Inv-loop μ-loop
+loop-less c = omega arith
+
+loop-again : tie.Need-loop-again Inv-loop μ-loop
+loop-again c =
+    let b = c .before .before .before .before .before in let r = b .before .before .before .before .before .before .before .args .r .now in
+    let t = c .before .before .take-any in
+    let q : 4 * b .loop .k + 4 ≡ 4 * (b .loop .k + 1) = omega arith in (
+      (λ l u. rw q at (taken-join l r 16 (4 * b .loop .k) (b .loop .marks) (b .loop .met) (b .loop .inv .0 l u) 4 (16 + 4 * b .loop .k) (t .last .0) (t .result) refl (t .ensures))),
+      omega arith,
+      omega (arith, t .kept .0),
+    )
+
+same-length : tie.Need-same-length Inv-loop μ-loop
+same-length c = search needs
+
+returns : tie.Need-returns Inv-loop μ-loop
+unfolding markSlots slotsFree
+returns c =
+    let b = c .before in
+    let q : 4 * b .loop .k ≡ 16 = omega arith in
+    let t = rw q at (b .loop .inv .0 (b .before .before .before .before .before .before .before .args .marks .now) (b .before .before .before .take-four .ensures)) in
+    (t .free, t .marked)
+
+pub take-slots-spec : {M : Type 1} → statement M
+take-slots-spec =
+    tie.close
+    (tie.spec
+    Inv-loop
+    μ-loop
+    take-four-requires
+    loop-holds
+    mul-take-any
+    add-take-any
+    take-any-requires
+    add-k
+    loop-less
+    loop-again
+    same-length
+    returns)

@@ -1,0 +1,72 @@
+// The block numbers that slots list: one mark each, so that a number out of range or listed before is seen when it comes.
+ghost use mathlib.Core.Path.{_≡_};
+ghost use Prim.Native.Nat.{_+_, _*_, _≤_, _<_};
+ghost use lib.ListN.{getD, length};
+ghost use Rattle.format.specs.Diskette.{eightInch, entryBytes, slotCount};
+ghost use Rattle.facts.specs.Marks.{markCount};
+ghost use Rattle.blocks.specs.Runs.{markNumber, Taken};
+ghost use Rattle.blocks.specs.BlockMarks.{startMarks, markSlots, slotsFree};
+use format::AREA_BLOCKS;
+use format::BLOCKS;
+use format::MARKS;
+
+// Marks the numbers that are no block's past the directory: no slot may list them.
+pub fn start_marks(marks: &mut [u8])
+    requires { ⌜ length (now marks) ≡ markCount ⌝ }
+    ensures { λ _. ⌜ now (marks .exit) ≡ startMarks eightInch (now (marks .entry)) ⌝ }
+{
+    lists::fill(marks, 0, MARKS, 0);
+    lists::fill(marks, 1, AREA_BLOCKS - 1, 1);
+    lists::fill(marks, BLOCKS, MARKS - BLOCKS, 1);
+}
+
+// Takes the number's place among the marks; the answer is the mark that stood there, 0 where the number was free. A slot of 0 lists
+// nothing: its mark is 0 and stays so, and no test is needed.
+fn take_number(marks: &mut [u8], b: u8) -> u8
+    requires { ⌜ length (now marks) ≡ markCount ⌝ }
+    ensures { λ old. ⌜ (old ≡ getD (now (marks .entry)) b 0) × (now (marks .exit) ≡ markNumber (now (marks .entry)) b) ⌝ }
+{
+    let at = lists::wide(b);
+    let old = marks[at];
+    marks[at] = b;
+    old
+}
+
+// Takes the four numbers of a row from `at` on; the answer is the marks that they met or-ed together, so 0 where each was free.
+fn take_four(marks: &mut [u8], r: &[u8], at: usize) -> u8
+    requires { ⌜ (length (now marks) ≡ markCount) × (at + 4 ≤ length (now r)) ⌝ }
+    ensures { λ met. ⌜ Taken (now (marks .entry)) (now (r .entry)) at 4 (now (marks .exit)) met ⌝ }
+{
+    let mut met: u8 = 0;
+    let mut j = 0;
+    while j < 4 {
+        met = met | take_number(marks, r[at + j]);
+        j += 1;
+    }
+    met
+}
+
+// The same, without a look at the marks where all four are 0, as most are.
+fn take_any(marks: &mut [u8], r: &[u8], at: usize) -> u8
+    requires { ⌜ (length (now marks) ≡ markCount) × (getD (now marks) 0 0 ≡ 0) × (at + 4 ≤ length (now r)) ⌝ }
+    ensures { λ met. ⌜ Taken (now (marks .entry)) (now (r .entry)) at 4 (now (marks .exit)) met ⌝ }
+{
+    if lanes::half(r, at) == 0 {
+        return 0;
+    }
+    take_four(marks, r, at)
+}
+
+// Whether each slot of a row may list what it lists; the numbers are taken on the way.
+pub fn take_slots(marks: &mut [u8], r: &[u8]) -> bool
+    requires { ⌜ (length (now marks) ≡ markCount) × (getD (now marks) 0 0 ≡ 0) × (entryBytes ≤ length (now r)) ⌝ }
+    ensures { λ b. ⌜ (b ≡ slotsFree (now (marks .entry)) (now (r .entry))) × (now (marks .exit) ≡ markSlots (now (marks .entry)) (now (r .entry)) slotCount) ⌝ }
+{
+    let mut met = take_four(marks, r, 16);
+    let mut k = 1;
+    while k < 4 {
+        met = met | take_any(marks, r, 16 + 4 * k);
+        k += 1;
+    }
+    met == 0
+}

@@ -1,0 +1,82 @@
+-- `maps::differences` meets its contract. The loop's invariant: n is the count of the differences below b.
+use mathlib.Core.Path.{_≡_, sym}
+use Prim.Native.Nat.{_+_, _-_, _≤_}
+use native.Mathlib.Omega.{arith}
+use borrow.Author.Needs.{needs}
+use Rattle.lists.specs.Count.{countBelow, count-high, count-done}
+use Rattle.format.specs.Diskette.{eightInch}
+use Rattle.maps.specs.Told.{differs, differenceCount, no-area-differs, difference-adds}
+use Rattle.maps.proofs.differences.Statement.{statement}
+use Rattle.maps.proofs.differences.Tie as tie
+
+abbrev Inv-loop : tie.InvT-loop
+Inv-loop map marks n₀ b₀ n b =
+    (n ≡ countBelow (differs eightInch map marks) b) × (eightInch .area ≤ b) × (b ≤ eightInch .blocks)
+
+abbrev μ-loop : tie.MeasureT-loop
+μ-loop map marks n₀ b₀ n b = eightInch .blocks - b
+
+loop-holds : tie.Need-loop-holds Inv-loop μ-loop
+loop-holds c = (sym (no-area-differs eightInch _ _), omega arith, omega arith)
+
+mul-difference : tie.Need-mul-difference Inv-loop μ-loop
+mul-difference c = omega arith
+
+shared-slice-read-difference : tie.Need-shared-slice-read-difference Inv-loop μ-loop
+shared-slice-read-difference c = omega arith
+
+shared-slice-read-difference-2 : tie.Need-shared-slice-read-difference-2 Inv-loop μ-loop
+shared-slice-read-difference-2 c = omega arith
+
+difference-requires : tie.Need-difference-requires Inv-loop μ-loop
+difference-requires c κs = search needs
+
+add-n : tie.Need-add-n Inv-loop μ-loop
+add-n c =
+    let l = c .before .before .before .before in
+    let a = l .before .before .before .args in
+    omega (
+      arith,
+      difference-adds eightInch (a .map .now) (a .marks .now) (l .loop .b) (l .loop .n) _ (l .loop .inv .1) (l .loop .inv .0) (c .difference .ensures),
+      count-high (differs eightInch (a .map .now) (a .marks .now)) (l .loop .b + 1),
+    )
+
+add-b : tie.Need-add-b Inv-loop μ-loop
+add-b c = omega arith
+
+loop-less : tie.Need-loop-less Inv-loop μ-loop
+loop-less c = omega arith
+
+loop-again : tie.Need-loop-again Inv-loop μ-loop
+loop-again c =
+    let l = c .before .before .before .before in
+    let a = l .before .before .before .args in (
+      difference-adds eightInch (a .map .now) (a .marks .now) (l .loop .b) (l .loop .n) _ (l .loop .inv .1) (l .loop .inv .0) (c .difference .ensures),
+      omega arith,
+      omega arith,
+    )
+
+returns : tie.Need-returns Inv-loop μ-loop
+unfolding differenceCount
+returns c =
+    let l = c .before in
+    let a = l .before .before .before .args in
+    count-done (differs eightInch (a .map .now) (a .marks .now)) (l .loop .b) (eightInch .blocks) (omega arith) (omega arith) (l .loop .n)
+    (l .loop .inv .0)
+
+pub differences-spec : {M : Type 1} → statement M
+differences-spec =
+    tie.close
+    (tie.spec
+    Inv-loop
+    μ-loop
+    loop-holds
+    mul-difference
+    shared-slice-read-difference
+    shared-slice-read-difference-2
+    difference-requires
+    add-n
+    add-b
+    loop-less
+    loop-again
+    returns)
