@@ -1,16 +1,17 @@
 -- The key of a row: a number below 256 made of user, seven-bit name and extent, so that rows of one file have one key. Where two
 -- rows' keys differ they need no comparison.
 use mathlib.Core.Path.{_≡_, refl, ap, sym, _∙_}
+use mathlib.Core.Bool.{true, false}
 use mathlib.Core.List.{[], _∷_}
 use Prim.Native.Nat.{ℕ, zero, suc, _+_, _-_, _*_, _/_, _%_, _<_}
 use native.Mathlib.Omega.{arith}
 use lib.ListN.{getD}
 use lib.Bits.{bitAnd, bitXor, and-mask, and-zero-r}
-use Rattle.lanes.specs.Lanes.{lanes, wordAt, lanes-cong, lanes-and}
+use Rattle.lanes.specs.Lanes.{lanes, halfAt, wordAt, lanes-cong, lanes-and, lanes-short}
 use Rattle.format.specs.Diskette.{Bytes}
-use Rattle.format.specs.Names.{nameBytes}
-use Rattle.format.specs.Entries.{exOf, extentOf}
-use Rattle.names.specs.Laws.{nameBits, like-at}
+use Rattle.format.specs.Names.{nameBytes, nameLike}
+use Rattle.format.specs.Entries.{userOf, exOf, extentOf}
+use Rattle.names.specs.Laws.{like-at, like-refl}
 use Rattle.consistency.specs.Facts.{SameFile}
 
 abbrev pub keyCount : ℕ
@@ -41,35 +42,57 @@ keyFrom low high = mixed (bitXor low (high * 8)) / 67108864 % keyCount
 unfoldable pub keyOf : Bytes → ℕ
 keyOf r = keyFrom (lowPart r) (highPart r)
 
--- ---- rows of one file have one key
-module _ (r t : Bytes) (s : SameFile r t) where
-  name-same : (i : ℕ) → i < nameBytes → nameBits r 1 i ≡ nameBits t 1 i
-  name-same i h = sym (like-at t 1 r 1 (s .name) i h)
+-- ---- the key of what a row is asked for by: a user, the name in s at q, and an extent
+unfoldable pub lowAsked : ℕ → Bytes → ℕ → ℕ
+lowAsked user s q = lanes 7 (λ (i : ℕ). bitAnd (getD s (q + i) 0) 127) * 256 + bitAnd user 255
 
-  seven-same : (i j : ℕ) → j ≡ 1 + i → i < nameBytes → bitAnd (getD r j 0) 127 ≡ bitAnd (getD t j 0) 127
-  seven-same i j q h = rw q (and-mask (getD r (1 + i) 0) 7 ∙ name-same i h ∙ sym (and-mask (getD t (1 + i) 0) 7))
+unfoldable pub highAsked : Bytes → ℕ → ℕ → ℕ
+highAsked s q ext = lanes 4 (λ (i : ℕ). bitAnd (getD s (q + 7 + i) 0) 127) + ext % 32 * 4294967296
 
-  ex-same : bitAnd (exOf r) 31 ≡ bitAnd (exOf t) 31
-  unfolding extentOf
-  ex-same = let e = s .extent in let q : exOf r % 32 ≡ exOf t % 32 = omega arith in and-mask (exOf r) 5 ∙ q ∙ sym (and-mask (exOf t) 5)
+unfoldable pub fileKey : ℕ → Bytes → ℕ → ℕ → ℕ
+fileKey user s q ext = keyFrom (lowAsked user s q) (highAsked s q ext)
 
-  low-same : (i : ℕ) → i < 8 → bitAnd (getD r i 0) (lowMask i) ≡ bitAnd (getD t i 0) (lowMask i)
-  unfolding lowMask
-  low-same zero h = ap (λ (u : ℕ). bitAnd u 255) (s .user)
-  low-same (suc i) h = seven-same i (suc i) (omega arith) (omega arith)
+five-lanes : (f : ℕ → ℕ) → f 5 ≡ 0 → f 6 ≡ 0 → f 7 ≡ 0 → lanes 8 f ≡ lanes 4 f + f 4 * 4294967296
+unfolding lanes
+five-lanes f a b c = omega arith
 
-  high-same : (i : ℕ) → i < 8 → bitAnd (getD r (8 + i) 0) (highMask i) ≡ bitAnd (getD t (8 + i) 0) (highMask i)
+-- a row has the key of what it is asked for by
+module _ (r : Bytes) (user : ℕ) (s : Bytes) (q ext : ℕ) (u : userOf r ≡ user) (like : nameLike false s q r 1 ≡ true) (e : extentOf r ≡ ext) where
+  seven-same : (i j k : ℕ) → j ≡ 1 + i → k ≡ q + i → i < nameBytes → bitAnd (getD r j 0) 127 ≡ bitAnd (getD s k 0) 127
+  seven-same i j k a b h =
+      rw (a, b) (and-mask (getD r (1 + i) 0) 7 ∙ sym (like-at s q r 1 like i h) ∙ sym (and-mask (getD s (q + i) 0) 7))
+
+  low-asked : lowPart r ≡ lowAsked user s q
+  unfolding lowPart lowAsked lanes lowMask
+  low-asked = rw (lanes-cong 7 (λ (i : ℕ). bitAnd (getD r (suc i) 0) 127) (λ (i : ℕ). bitAnd (getD s (q + i) 0) 127) (λ i h. seven-same i (suc i) (q + i) (omega arith) refl (omega arith)), u)
+
+  four-asked : (i : ℕ) → i < 4 → bitAnd (getD r (8 + i) 0) (highMask i) ≡ bitAnd (getD s (q + 7 + i) 0) 127
   unfolding highMask
-  high-same zero h = seven-same 7 8 refl (omega arith)
-  high-same (suc zero) h = seven-same 8 9 refl (omega arith)
-  high-same (suc (suc zero)) h = seven-same 9 10 refl (omega arith)
-  high-same (suc (suc (suc zero))) h = seven-same 10 11 refl (omega arith)
-  high-same (suc (suc (suc (suc zero)))) h = ex-same
-  high-same (suc (suc (suc (suc (suc i))))) h = and-zero-r (getD r (8 + suc (suc (suc (suc (suc i))))) 0) ∙ sym (and-zero-r (getD t (8 + suc (suc (suc (suc (suc i))))) 0))
+  four-asked zero h = seven-same 7 8 (q + 7 + 0) refl (omega arith) (omega arith)
+  four-asked (suc zero) h = seven-same 8 9 (q + 7 + 1) refl (omega arith) (omega arith)
+  four-asked (suc (suc zero)) h = seven-same 9 10 (q + 7 + 2) refl (omega arith) (omega arith)
+  four-asked (suc (suc (suc zero))) h = seven-same 10 11 (q + 7 + 3) refl (omega arith) (omega arith)
+  four-asked (suc (suc (suc (suc i)))) h = absurd (omega arith)
 
-  pub key-same : keyOf r ≡ keyOf t
-  unfolding keyOf lowPart highPart
-  key-same = rw (lanes-cong 8 _ _ low-same, lanes-cong 8 _ _ high-same)
+  ex-asked : bitAnd (exOf r) 31 ≡ ext % 32
+  unfolding extentOf
+  ex-asked = let z : exOf r % 32 ≡ ext % 32 = omega arith in and-mask (exOf r) 5 ∙ z
+
+  high-asked : highPart r ≡ highAsked s q ext
+  unfolding highPart highAsked highMask
+  high-asked =
+      five-lanes (λ (i : ℕ). bitAnd (getD r (8 + i) 0) (highMask i)) (and-zero-r (getD r 13 0)) (and-zero-r (getD r 14 0)) (and-zero-r (getD r 15 0))
+      ∙ rw (lanes-cong 4 _ _ four-asked, ex-asked)
+
+  pub key-asked : keyOf r ≡ fileKey user s q ext
+  unfolding keyOf fileKey
+  key-asked = rw (low-asked, high-asked)
+
+-- so rows of one file have one key
+pub key-same : (r t : Bytes) → SameFile r t → keyOf r ≡ keyOf t
+key-same r t s =
+    key-asked r (userOf t) t 1 (extentOf t) (s .user) (s .name) (s .extent)
+    ∙ sym (key-asked t (userOf t) t 1 (extentOf t) refl (like-refl t 1) refl)
 
 pub key-below : (r : Bytes) → keyOf r < keyCount
 unfolding keyOf keyFrom
@@ -98,3 +121,29 @@ module _ (r : Bytes) (in-low : (i : ℕ) → i < 8 → getD r i 0 < 256) (in-hig
   pub high-part : bitAnd (wordAt r 8) 135283048319 ≡ highPart r
   unfolding wordAt highPart lanes highMask
   high-part = lanes-and 8 (λ (i : ℕ). getD r (8 + i) 0) highMask in-high high-masks
+
+-- ---- the words of a name, masked: its first seven bytes, and four from a place on
+unfoldable sevenMask : ℕ → ℕ
+sevenMask i = getD (127 ∷ 127 ∷ 127 ∷ 127 ∷ 127 ∷ 127 ∷ 127 ∷ []) i 0
+
+seven-masks : (i : ℕ) → i < 8 → sevenMask i < 256
+unfolding sevenMask
+seven-masks zero h = omega arith
+seven-masks (suc zero) h = omega arith
+seven-masks (suc (suc zero)) h = omega arith
+seven-masks (suc (suc (suc zero))) h = omega arith
+seven-masks (suc (suc (suc (suc zero)))) h = omega arith
+seven-masks (suc (suc (suc (suc (suc zero))))) h = omega arith
+seven-masks (suc (suc (suc (suc (suc (suc zero)))))) h = omega arith
+seven-masks (suc (suc (suc (suc (suc (suc (suc i))))))) h = omega arith
+
+module _ (s : Bytes) (at : ℕ) where
+  pub seven-part : ((i : ℕ) → i < 8 → getD s (at + i) 0 < 256) → bitAnd (wordAt s at) 35887507618889599 ≡ lanes 7 (λ (i : ℕ). bitAnd (getD s (at + i) 0) 127)
+  unfolding wordAt lanes sevenMask
+  seven-part bytes =
+      lanes-and 8 (λ (i : ℕ). getD s (at + i) 0) sevenMask bytes seven-masks
+      ∙ lanes-short 7 (λ (i : ℕ). bitAnd (getD s (at + i) 0) (sevenMask i)) (and-zero-r (getD s (at + 7) 0))
+
+  pub four-part : ((i : ℕ) → i < 4 → getD s (at + i) 0 < 256) → bitAnd (halfAt s at) 2139062143 ≡ lanes 4 (λ (i : ℕ). bitAnd (getD s (at + i) 0) 127)
+  unfolding halfAt lanes
+  four-part bytes = lanes-and 4 (λ (i : ℕ). getD s (at + i) 0) (λ (i : ℕ). 127) bytes (λ i h. omega arith)

@@ -8,9 +8,10 @@ ghost use lib.Bits.{bitAnd};
 ghost use lib.ListN.{length, getD};
 ghost use Rattle.lists.specs.Tab.{tab};
 ghost use Rattle.format.specs.Diskette.{entryBytes};
+ghost use Rattle.format.specs.Names.{nameBytes};
 ghost use Rattle.heads.specs.Bytes.{headBytes, faultOf};
 ghost use Rattle.heads.specs.Head.{rowRight};
-ghost use Rattle.heads.specs.Key.{mixed, keyOf, keyCount};
+ghost use Rattle.heads.specs.Key.{mixed, keyFrom, keyOf, fileKey, keyCount};
 
 const HEAD_BYTES: usize = 16;
 
@@ -148,12 +149,31 @@ fn mix(both: u64) -> u64
     both % 0x100000000 * 0x3779B97F + both / 0x100000000 * 0x4A7C1563
 }
 
+// The key that two parts make: user and name, name and extent.
+fn fold(low: u64, high: u64) -> usize
+    requires { ⌜ high < 2305843009213693952 ⌝ }
+    ensures { λ k. ⌜ (k ≡ keyFrom low high) × (k < keyCount) ⌝ }
+{
+    (mix(low ^ high * 8) / 0x4000000) as usize % KEYS
+}
+
 // The key of a row: rows of one file have one key.
 pub fn key(r: &[u8]) -> usize
     requires { ⌜ entryBytes ≤ length (now r) ⌝ }
     ensures { λ k. ⌜ (k ≡ keyOf (now (r .entry))) × (k < keyCount) ⌝ }
 {
-    let low = lanes::word(r, 0) & 0x7F7F7F7F7F7F7FFF;
-    let high = lanes::word(r, 8) & 0x1F7F7F7F7F;
-    (mix(low ^ high * 8) / 0x4000000) as usize % KEYS
+    fold(
+        lanes::word(r, 0) & 0x7F7F7F7F7F7F7FFF,
+        lanes::word(r, 8) & 0x1F7F7F7F7F,
+    )
+}
+
+// The key of the rows of a user, the name in s at q, and an extent.
+pub fn file_key(user: u8, s: &[u8], q: usize, ext: usize) -> usize
+    requires { ⌜ q + nameBytes ≤ length (now s) ⌝ }
+    ensures { λ k. ⌜ (k ≡ fileKey user (now (s .entry)) q ext) × (k < keyCount) ⌝ }
+{
+    let low = (lanes::word(s, q) & 0x7F7F7F7F7F7F7F) * 256 + user as u64;
+    let high = (lanes::half(s, q + 7) & 0x7F7F7F7F) + (ext % 32) as u64 * 0x100000000;
+    fold(low, high)
 }

@@ -29,6 +29,12 @@ lanes-cong (suc n) f g p =
     let first = p 0 (omega arith) in
     rw (rest, first)
 
+-- a highest lane of 0 may be left out
+pub lanes-short : (n : ℕ) (f : ℕ → ℕ) → f n ≡ 0 → lanes (suc n) f ≡ lanes n f
+unfolding lanes
+lanes-short zero f q = omega arith
+lanes-short (suc n) f q = ap (λ (x : ℕ). x * 256 + f 0) (lanes-short n (λ (i : ℕ). f (suc i)) q)
+
 -- ---- bits that two numbers share
 pub lanes-and : (n : ℕ) (f g : ℕ → ℕ) → ((i : ℕ) → i < n → f i < 256) → ((i : ℕ) → i < n → g i < 256) → bitAnd (lanes n f) (lanes n g) ≡ lanes n (λ (i : ℕ). bitAnd (f i) (g i))
 unfolding lanes

@@ -2,7 +2,7 @@
 use mathlib.Core.Path.{refl}
 use native.Mathlib.Nat.{zero-add}
 use lib.Bits.{and-le-r}
-use Rattle.heads.specs.Key.{keyOf, keyFrom, low-part, high-part}
+use Rattle.heads.specs.Key.{keyOf, low-part, high-part}
 use native.Mathlib.Omega.{arith}
 use borrow.Author.Needs.{needs}
 use Rattle.heads.proofs.key.Statement.{statement}
@@ -14,20 +14,17 @@ word-requires c κs = search needs
 word-requires-2 : tie.Need-word-requires-2
 word-requires-2 c κs = search needs
 
-mul-mix : tie.Need-mul-mix
-mul-mix c = omega (arith, and-le-r (c .word2 .result) 135283048319)
-
-mix-requires : tie.Need-mix-requires
-mix-requires c κs = search needs
+fold-requires : tie.Need-fold-requires
+fold-requires c κs = omega (arith, and-le-r (c .word2 .result) 135283048319)
 
 returns : tie.Need-returns
-unfolding keyOf keyFrom
+unfolding keyOf
 returns c =
     let r = c .before .before .before .before .args .r .now in
     let w = c .before .before .word .ensures in let v = c .before .word2 .ensures in
     let p = low-part r (λ i h. rw zero-add at (w .1 i h)) (v .1) in
     let q = high-part r (λ i h. rw zero-add at (w .1 i h)) (v .1) in
-    (rw (c .mix .ensures, w .0, v .0, p, q) refl, omega arith)
+    (rw (c .fold .ensures .0, w .0, v .0, p, q) refl, c .fold .ensures .1)
 
 pub key-spec : {M : Type 1} → statement M
-key-spec = tie.close (tie.spec word-requires word-requires-2 mul-mix mix-requires returns)
+key-spec = tie.close (tie.spec word-requires word-requires-2 fold-requires returns)
