@@ -16,7 +16,7 @@ use Rattle.consistency.specs.Listed.{listed-unused}
 use Rattle.consistency.specs.Reflect.{used-full, empty-right, alone-intro, same-used-left}
 use Rattle.heads.specs.Head.{rowRight}
 use Rattle.blocks.specs.BlockMarks.{BlockMarks, markSlots, slotsFree, marks-skip, marks-row, slots-right}
-use Rattle.consistent.specs.Chain.{Lasts, Links, links-none, lasts-skip, links-skip}
+use Rattle.chains.specs.Chain.{Chained, chained-skip, Indexed}
 
 -- entry e passes: it is right, its blocks do not stand before, and it is alone
 unfoldable pub entryFits : Geometry → Rows → ℕ → Bool
@@ -24,11 +24,9 @@ entryFits G d e =
     entryRight G (d e) and allBelow (λ (j : ℕ). listedOnce d (slotCount * e + j)) slotCount and alone G d e
 
 -- what stands after the first n entries
-pub record Passed (G : Geometry) (d : Rows) (n : ℕ) (marks lasts links : Bytes) : Type 0 where
+pub record Passed (G : Geometry) (d : Rows) (n : ℕ) (marks chain : Bytes) : Type 0 where
   pub blocks : BlockMarks G d (slotCount * n) marks
-  pub lasts-so : Lasts d n lasts
-  pub links-so : Links d n links
-  pub links-long : length links ≡ G .entries
+  pub chained : Chained G d n chain
 
 -- ---- the directory is consistent when each entry passes
 module _ (G : Geometry) (d : Rows) where
@@ -109,25 +107,23 @@ module _ (G : Geometry) (d : Rows) (e : ℕ) where
 
 -- ---- what stands after one more entry
 module _ (G : Geometry) (d : Rows) where
-  pub passed-none : (marks lasts links : Bytes) → BlockMarks G d 0 marks → Lasts d 0 lasts → length links ≡ G .entries → Passed G d 0 marks lasts links
-  passed-none marks lasts links m l k = record { blocks = m; lasts-so = l; links-so = links-none d links; links-long = k }
-
-  pub passed-empty : (e : ℕ) (marks lasts links : Bytes) → empty (d e) ≡ true → Passed G d e marks lasts links → Passed G d (e + 1) marks lasts links
-  passed-empty e marks lasts links n p =
+  pub passed-empty : (e : ℕ) (marks chain : Bytes) → empty (d e) ≡ true → Passed G d e marks chain → Passed G d (e + 1) marks chain
+  passed-empty e marks chain n p =
       let u : used (d e) ≡ false = empty-unused (d e) n in
-      record {
-        blocks = marks-skip G d e marks u (p .blocks);
-        lasts-so = lasts-skip d e lasts u (p .lasts-so);
-        links-so = links-skip d e links u (p .links-so);
-        links-long = p .links-long;
-      }
+      record { blocks = marks-skip G d e marks u (p .blocks); chained = chained-skip G d e chain u (p .chained) }
 
-  pub passed-used : (e : ℕ) (marks lasts links marks′ lasts′ links′ : Bytes) → rowRight (d e) ≡ true
-      → ((j : ℕ) → j < slotCount → slotOf (d e) j < markCount) → Passed G d e marks lasts links → marks′ ≡ markSlots marks (d e) slotCount
-      → Lasts d (e + 1) lasts′ → Links d (e + 1) links′ → length links′ ≡ length links → Passed G d (e + 1) marks′ lasts′ links′
-  passed-used e marks lasts links marks′ lasts′ links′ r bytes p q l k n = record {
+  pub passed-used : (e : ℕ) (marks chain marks′ chain′ : Bytes) → rowRight (d e) ≡ true
+      → ((j : ℕ) → j < slotCount → slotOf (d e) j < markCount) → Passed G d e marks chain → marks′ ≡ markSlots marks (d e) slotCount
+      → Chained G d (e + 1) chain′ → Passed G d (e + 1) marks′ chain′
+  passed-used e marks chain marks′ chain′ r bytes p q l = record {
     blocks = rw q (marks-row G d e marks (row-used (d e) r) bytes (p .blocks));
-    lasts-so = l;
-    links-so = k;
-    links-long = n ∙ p .links-long;
+    chained = l;
+  }
+
+  -- ---- what stands at the end: a look-up can go by the chains
+  pub passed-all : (marks chain : Bytes) → allBelow (entryFits G d) (G .entries) ≡ true → Passed G d (G .entries) marks chain → Indexed G d chain
+  unfolding entryFits
+  passed-all marks chain t p = record {
+    chained = p .chained;
+    single = λ e h. and-right _ _ (and-right _ _ (all-at _ (G .entries) t e h));
   }

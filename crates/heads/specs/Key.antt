@@ -98,6 +98,10 @@ pub key-below : (r : Bytes) → keyOf r < keyCount
 unfolding keyOf keyFrom
 key-below r = omega arith
 
+pub asked-below : (user : ℕ) (s : Bytes) (q ext : ℕ) → fileKey user s q ext < keyCount
+unfolding fileKey keyFrom
+asked-below user s q ext = omega arith
+
 -- ---- the words of a row, masked
 low-masks : (i : ℕ) → i < 8 → lowMask i < 256
 unfolding lowMask

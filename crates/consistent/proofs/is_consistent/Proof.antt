@@ -19,12 +19,12 @@ use Rattle.consistent.proofs.is_consistent.Statement.{statement}
 use Rattle.consistent.proofs.is_consistent.Tie as tie
 
 abbrev Inv-loop : tie.InvT-loop
-Inv-loop image marks₀ lasts₀ links₀ d₀ marks lasts links d =
+Inv-loop image marks₀ chain₀ d₀ marks chain d =
     (allBelow (entryFits eightInch (entryAt eightInch image)) (entriesPerRecord * d) ≡ true)
-    × Passed eightInch (entryAt eightInch image) (entriesPerRecord * d) marks lasts links × (d ≤ 16) × (length marks ≡ 256)
+    × Passed eightInch (entryAt eightInch image) (entriesPerRecord * d) marks chain × (d ≤ 16) × (length marks ≡ 256)
 
 abbrev μ-loop : tie.MeasureT-loop
-μ-loop image marks₀ lasts₀ links₀ d₀ marks lasts links d = 16 - d
+μ-loop image marks₀ chain₀ d₀ marks chain d = 16 - d
 
 -- the rows of the image, and whether each fits
 abbrev rows : tie.Start Inv-loop μ-loop → Rows

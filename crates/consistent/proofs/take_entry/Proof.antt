@@ -27,7 +27,7 @@ unfolding empty
 returns c =
     let a = c .before .before .before .before .before .before .before in
     let none : empty (rows a (a .args .e)) ≡ true = rw (a .pre .3) at (eq-eqb _ _ (c .if1 .taken)) in
-    (sym (empty-fits eightInch (rows a) (a .args .e) none), λ t. passed-empty eightInch (rows a) (a .args .e) (a .args .marks .now) (a .args .lasts .now) (a .args .links .now) none (a .pre .4))
+    (sym (empty-fits eightInch (rows a) (a .args .e) none), λ t. passed-empty eightInch (rows a) (a .args .e) (a .args .marks .now) (a .args .chain .now) none (a .pre .4))
 
 row-right-requires : tie.Need-row-right-requires
 row-right-requires c κs = search needs
@@ -86,7 +86,7 @@ returns-4 c =
     let m = c .before .before .before .before .before .before .before .before .before .before .take-slots in
     let free : m .result ≡ true = not-false _ (c .before .before .before .before .before .before .before .if3 .left) in (
       t .ensures .0 ∙ sym (alone-decides eightInch (rows a) (a .args .e) (a .args .marks .now) (bytes f) (right f) (a .pre .4 .blocks) (rw (a .pre .3) at (sym (m .ensures .0) ∙ free))),
-      λ q. passed-used eightInch (rows a) (a .args .e) (a .args .marks .now) (a .args .lasts .now) (a .args .links .now) (m .last .0) (t .last .1 .1 .1 .0) (t .last .1 .1 .1 .1 .0) (right f) (bytes f) (a .pre .4) (rw (a .pre .3) at (m .ensures .1)) (t .ensures .1) (t .ensures .2) (omega (arith, t .kept .1)),
+      λ q. passed-used eightInch (rows a) (a .args .e) (a .args .marks .now) (a .args .chain .now) (m .last .0) (t .last .1 .1 .1 .0) (t .last .1 .1 .1 .1 .0) (right f) (bytes f) (a .pre .4) (rw (a .pre .3) at (m .ensures .1)) (t .ensures .1) (t .ensures .2) (omega (arith, t .kept .1)),
     )
 
 pub take-entry-spec : {M : Type 1} → statement M

@@ -22,12 +22,12 @@ abbrev fits : Bytes → ℕ → ℕ → Bool
 fits image d i = entryFits eightInch (entryAt eightInch image) (entriesPerRecord * d + i)
 
 abbrev Inv-loop : tie.InvT-loop
-Inv-loop image d marks₀ lasts₀ links₀ four i₀ marks lasts links i =
-    (allBelow (fits image d) i ≡ true) × Passed eightInch (entryAt eightInch image) (entriesPerRecord * d + i) marks lasts links × (i ≤ 4)
-    × (length marks ≡ length marks₀) × (length lasts ≡ length lasts₀) × (length links ≡ length links₀)
+Inv-loop image d marks₀ chain₀ four i₀ marks chain i =
+    (allBelow (fits image d) i ≡ true) × Passed eightInch (entryAt eightInch image) (entriesPerRecord * d + i) marks chain × (i ≤ 4)
+    × (length marks ≡ length marks₀) × (length chain ≡ length chain₀)
 
 abbrev μ-loop : tie.MeasureT-loop
-μ-loop image d marks₀ lasts₀ links₀ four i₀ marks lasts links i = 4 - i
+μ-loop image d marks₀ chain₀ four i₀ marks chain i = 4 - i
 
 four-rows-requires : tie.Need-four-rows-requires Inv-loop μ-loop
 four-rows-requires c κs = search needs

@@ -1,11 +1,11 @@
 -- Both rows are used, so that the look-up of one by the other decides.
-use Rattle.consistent.specs.Chain.{file-same}
+use Rattle.chains.specs.Walk.{file-same}
 use Rattle.format.specs.Diskette.{eightInch}
 use Rattle.format.specs.Entries.{used}
 use mathlib.Core.Path.{_∙_}
 use borrow.Author.Needs.{needs}
-use Rattle.consistent.proofs.same_file.Statement.{statement}
-use Rattle.consistent.proofs.same_file.Tie as tie
+use Rattle.chains.proofs.same_file.Statement.{statement}
+use Rattle.chains.proofs.same_file.Tie as tie
 
 shared-slice-read-is-file : tie.Need-shared-slice-read-is-file
 shared-slice-read-is-file c = search needs
