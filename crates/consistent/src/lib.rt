@@ -14,13 +14,7 @@ use format::DIRECTORY_RECORDS;
 use format::ENTRIES_PER_RECORD;
 
 // Whether entry e passes, after all before it have; r is its row.
-fn take_entry(
-    image: &[u8],
-    e: usize,
-    r: &[u8],
-    marks: &mut [u8],
-    chain: &mut [u8],
-) -> bool
+fn take_entry(image: &[u8], e: usize, r: &[u8], marks: &mut [u8], chain: &mut [u8]) -> bool
     requires { ⌜ (length (now image) ≡ imageBytes eightInch) × (e < eightInch .entries)
         × (entryBytes ≤ length (now r)) × (now r ≡ entryAt eightInch (now image) e)
         × Passed eightInch (entryAt eightInch (now image)) e (now marks) (now chain) ⌝ }

@@ -30,23 +30,34 @@ cast-chain c = search needs
 slice-write-chain-2 : tie.Need-slice-write-chain-2
 slice-write-chain-2 c =
     let a = c .before .before .before .before .before in let k = c .before .key in
-    omega (arith, linked-long eightInch (entryAt eightInch (a .args .image .now)) (a .args .e) (k .result) (a .args .e + 1) (a .args .r .now) (a .args .chain .now)
-    (a .pre .3) (a .pre .4) (k .ensures .0) (k .ensures .1) (a .pre .1) refl (a .pre .5))
+    omega (
+      arith,
+      linked-long eightInch (entryAt eightInch (a .args .image .now)) (a .args .e) (k .result) (a .args .e + 1) (a .args .r .now) (a .args .chain .now)
+          (a .pre .3) (a .pre .4) (k .ensures .0) (k .ensures .1) (a .pre .1) refl (a .pre .5),
+    )
 
 is-alone-requires : tie.Need-is-alone-requires
 is-alone-requires c κs =
-    let a = c .before .before .before .before .before .before in let k = c .before .before .key in
-    (a .pre .0, a .pre .1, a .pre .2, a .pre .3, a .pre .4, chained-more eightInch (entryAt eightInch (a .args .image .now)) (a .args .e) (k .result) (a .args .e + 1) (a .args .r .now) (a .args .chain .now)
-    (a .pre .3) (a .pre .4) (k .ensures .0) (k .ensures .1) (a .pre .1) refl (a .pre .5))
+    let a = c .before .before .before .before .before .before in let k = c .before .before .key in (
+      a .pre .0,
+      a .pre .1,
+      a .pre .2,
+      a .pre .3,
+      a .pre .4,
+      chained-more eightInch (entryAt eightInch (a .args .image .now)) (a .args .e) (k .result) (a .args .e + 1) (a .args .r .now) (a .args .chain .now)
+          (a .pre .3) (a .pre .4) (k .ensures .0) (k .ensures .1) (a .pre .1) refl (a .pre .5),
+    )
 
 same-length : tie.Need-same-length
 same-length c = search needs
 
 returns : tie.Need-returns
 returns c =
-    let a = c .before .before .before .before .before .before .before in let k = c .before .before .before .key in
-    (c .is-alone .ensures, chained-more eightInch (entryAt eightInch (a .args .image .now)) (a .args .e) (k .result) (a .args .e + 1) (a .args .r .now) (a .args .chain .now)
-    (a .pre .3) (a .pre .4) (k .ensures .0) (k .ensures .1) (a .pre .1) refl (a .pre .5))
+    let a = c .before .before .before .before .before .before .before in let k = c .before .before .before .key in (
+      c .is-alone .ensures,
+      chained-more eightInch (entryAt eightInch (a .args .image .now)) (a .args .e) (k .result) (a .args .e + 1) (a .args .r .now) (a .args .chain .now)
+          (a .pre .3) (a .pre .4) (k .ensures .0) (k .ensures .1) (a .pre .1) refl (a .pre .5),
+    )
 
 pub take-key-spec : {M : Type 1} → statement M
 take-key-spec =

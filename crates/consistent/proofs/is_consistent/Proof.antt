@@ -1,7 +1,6 @@
 -- The loop keeps that the entries before record d pass, and what stands after them; at the end that is all that is promised.
-use Rattle.consistent.specs.Pass.{entryFits, Passed, pass-all, passed-none}
+use Rattle.consistent.specs.Pass.{entryFits, Passed, pass-all, passed-all}
 use Rattle.blocks.specs.BlockMarks.{marks-start, marks-end}
-use Rattle.consistent.specs.Chain.{lasts-none}
 use Rattle.format.specs.Consistent.{consistent}
 use Rattle.format.specs.Entries.{Rows, entryAt}
 use Rattle.format.specs.Diskette.{eightInch, entriesPerRecord}
@@ -21,7 +20,7 @@ use Rattle.consistent.proofs.is_consistent.Tie as tie
 abbrev Inv-loop : tie.InvT-loop
 Inv-loop image marks₀ chain₀ d₀ marks chain d =
     (allBelow (entryFits eightInch (entryAt eightInch image)) (entriesPerRecord * d) ≡ true)
-    × Passed eightInch (entryAt eightInch image) (entriesPerRecord * d) marks chain × (d ≤ 16) × (length marks ≡ 256)
+    × Passed eightInch (entryAt eightInch image) (entriesPerRecord * d) marks chain × (d ≤ 16) × (length marks ≡ 256) × (length chain ≡ 320)
 
 abbrev μ-loop : tie.MeasureT-loop
 μ-loop image marks₀ chain₀ d₀ marks chain d = 16 - d
@@ -36,30 +35,30 @@ fits a = entryFits eightInch (rows a)
 start-marks-requires : tie.Need-start-marks-requires Inv-loop μ-loop
 start-marks-requires c κs = search needs
 
+start-requires : tie.Need-start-requires Inv-loop μ-loop
+start-requires c κs = search needs
+
 loop-holds : tie.Need-loop-holds Inv-loop μ-loop
 loop-holds c =
-    let a = c .before .before .before .before .before .before in
-    let m = c .before .before .start-marks in
+    let a = c .before .before .before .before .before .before .before .before .before .before .before in
+    let m = c .before .before .before .before .before .before .start-marks in
     let marks = marks-start eightInch (rows a) (a .args .marks .now) (a .pre .1) (omega arith) (omega arith) (omega arith) in
-    (all-none _, passed-none eightInch (rows a) (m .last .0) _ _ (rw (m .ensures) marks) (lasts-none (rows a)) refl, omega arith, omega arith)
-
-slice-aggregate-take-record : tie.Need-slice-aggregate-take-record Inv-loop μ-loop
-slice-aggregate-take-record c = sym (c .before .before .before .loop .inv .1 .lasts-so .long)
-
-slice-aggregate-take-record-2 : tie.Need-slice-aggregate-take-record-2 Inv-loop μ-loop
-slice-aggregate-take-record-2 c = sym (c .before .before .before .before .loop .inv .1 .links-long)
+    (all-none _, record { blocks = rw (m .ensures) marks; chained = c .before .before .start .ensures (rows a) }, omega arith, omega arith, omega arith)
 
 take-record-requires : tie.Need-take-record-requires Inv-loop μ-loop
-take-record-requires c κs = (c .before .before .before .before .before .before .before .before .before .before .before .pre .0, omega arith, c .before .before .before .before .loop .inv .1)
+take-record-requires c κs = (c .before .before .before .before .before .before .before .before .before .before .before .before .before .before .before .pre .0, omega arith, c .before .before .before .loop .inv .1)
 
 same-length : tie.Need-same-length Inv-loop μ-loop
 same-length c = search needs
 
+same-length-2 : tie.Need-same-length-2 Inv-loop μ-loop
+same-length-2 c = search needs
+
 returns : tie.Need-returns Inv-loop μ-loop
 unfolding consistent
 returns c =
-    let a = c .before .before .before .before .before .before .before .before .before .before .before .before .before .before .before .before .before in
-    let b = c .before .before .before .before .before .before .before .before .before .before in
+    let a = c .before .before .before .before .before .before .before .before .before .before .before .before .before .before .before .before .before .before .before .before .before in
+    let b = c .before .before .before .before .before .before .before .before .before in
     let wrong = sym (c .before .before .before .before .before .take-record .ensures .0) ∙ not-true _ (c .if1 .taken) in
     let none = refute (allBelow (fits a) 64) (λ t. not-both _ (all-intro _ 4 (λ i h. all-at (fits a) 64 t (entriesPerRecord * b .loop .d + i) (omega arith))) wrong) in
     (none ∙ sym (pass-all eightInch (rows a)), λ t. clash (sym t))
@@ -72,8 +71,8 @@ loop-less c = omega arith
 
 loop-again : tie.Need-loop-again Inv-loop μ-loop
 loop-again c =
-    let a = c .before .before .before .before .before .before .before .before .before .before .before .before .before .before .before .before .before in
-    let b = c .before .before .before .before .before .before .before .before .before .before in
+    let a = c .before .before .before .before .before .before .before .before .before .before .before .before .before .before .before .before .before .before .before .before .before in
+    let b = c .before .before .before .before .before .before .before .before .before in
     let t = c .before .before .before .before .before .take-record in
     let right : t .result ≡ true = not-false _ (c .if1 .left) in
     let q : entriesPerRecord * b .loop .d + 4 ≡ entriesPerRecord * (b .loop .d + 1) = omega arith in (
@@ -81,17 +80,22 @@ loop-again c =
       rw q at (t .ensures .1 right),
       omega arith,
       t .ensures .1 right .blocks .long,
+      t .ensures .1 right .chained .long,
     )
 
-same-length-2 : tie.Need-same-length-2 Inv-loop μ-loop
-same-length-2 c = search needs
+same-length-3 : tie.Need-same-length-3 Inv-loop μ-loop
+same-length-3 c = search needs
+
+same-length-4 : tie.Need-same-length-4 Inv-loop μ-loop
+same-length-4 c = search needs
 
 returns-2 : tie.Need-returns-2 Inv-loop μ-loop
 unfolding consistent
 returns-2 c =
-    let b = c .before in let a = b .before .before .before .before .before .before .before in
+    let b = c .before in let a = b .before .before .before .before .before .before .before .before .before .before .before .before in
     let q : entriesPerRecord * b .loop .d ≡ 64 = omega arith in
-    (sym (rw q at (b .loop .inv .0)) ∙ sym (pass-all eightInch (rows a)), λ t. marks-end eightInch (rows a) (b .loop .marks) (omega arith) (omega arith) (rw q at (b .loop .inv .1) .blocks))
+    let all = rw q at (b .loop .inv .0) in let passed = rw q at (b .loop .inv .1) in
+    (sym all ∙ sym (pass-all eightInch (rows a)), λ t. (marks-end eightInch (rows a) (b .loop .marks) (omega arith) (omega arith) (passed .blocks), passed-all eightInch (rows a) (b .loop .marks) (b .loop .chain) all passed))
 
 pub is-consistent-spec : {M : Type 1} → statement M
 is-consistent-spec =
@@ -100,14 +104,15 @@ is-consistent-spec =
     Inv-loop
     μ-loop
     start-marks-requires
+    start-requires
     loop-holds
-    slice-aggregate-take-record
-    slice-aggregate-take-record-2
     take-record-requires
     same-length
+    same-length-2
     returns
     add-d
     loop-less
     loop-again
-    same-length-2
+    same-length-3
+    same-length-4
     returns-2)

@@ -25,7 +25,7 @@ shared-slice-read-if1 c = search needs
 returns : tie.Need-returns
 unfolding empty
 returns c =
-    let a = c .before .before .before .before .before .before .before in
+    let a = c .before .before .before .before .before .before in
     let none : empty (rows a (a .args .e)) ≡ true = rw (a .pre .3) at (eq-eqb _ _ (c .if1 .taken)) in
     (sym (empty-fits eightInch (rows a) (a .args .e) none), λ t. passed-empty eightInch (rows a) (a .args .e) (a .args .marks .now) (a .args .chain .now) none (a .pre .4))
 
@@ -35,14 +35,14 @@ row-right-requires c κs = search needs
 returns-2 : tie.Need-returns-2
 unfolding empty
 returns-2 c =
-    let a = c .before .before .before .before .before .before .before .before .before in
+    let a = c .before .before .before .before .before .before .before .before in
     let full : empty (rows a (a .args .e)) ≡ false = rw (a .pre .3) at (ne-eqb _ _ (c .before .before .if1 .left)) in
     let wrong : rowRight (rows a (a .args .e)) ≡ false = rw (a .pre .3) at (sym (c .before .row-right .ensures) ∙ not-true _ (c .if2 .taken)) in
     (sym (row-fails eightInch (rows a) (a .args .e) full wrong), λ t. clash (sym t))
 
 -- what holds of a row that is right: the image's row is, and its slots are bytes
 abbrev start : tie.Else2 → tie.Start
-start c = c .before .before .before .before .before .before .before .before .before
+start c = c .before .before .before .before .before .before .before .before
 
 right : (c : tie.Else2) → rowRight (rows (start c) (start c .args .e)) ≡ true
 right c = rw (start c .pre .3) at (sym (c .before .row-right .ensures) ∙ not-false _ (c .if2 .left))
@@ -67,8 +67,8 @@ returns-3 c =
 
 take-key-requires : tie.Need-take-key-requires
 take-key-requires c κs =
-    let f = c .before .before .before .before .before .before .before in let a = start f in
-    (a .pre .0, a .pre .1, a .pre .4 .links-long, a .pre .2, a .pre .3, rw (← a .pre .3) at (row-used (rows a (a .args .e)) (right f)), a .pre .4 .lasts-so, a .pre .4 .links-so)
+    let f = c .before .before .before .before .before .before in let a = start f in
+    (a .pre .0, a .pre .1, a .pre .2, a .pre .3, rw (← a .pre .3) at (row-used (rows a (a .args .e)) (right f)), a .pre .4 .chained)
 
 same-length-2 : tie.Need-same-length-2
 same-length-2 c = search needs
@@ -76,17 +76,14 @@ same-length-2 c = search needs
 same-length-3 : tie.Need-same-length-3
 same-length-3 c = search needs
 
-same-length-4 : tie.Need-same-length-4
-same-length-4 c = search needs
-
 returns-4 : tie.Need-returns-4
 returns-4 c =
-    let f = c .before .before .before .before .before .before .before .before .before .before .before .before in let a = start f in
-    let t = c .before .before .before .before .take-key in
-    let m = c .before .before .before .before .before .before .before .before .before .before .take-slots in
-    let free : m .result ≡ true = not-false _ (c .before .before .before .before .before .before .before .if3 .left) in (
+    let f = c .before .before .before .before .before .before .before .before .before in let a = start f in
+    let t = c .before .before .take-key in
+    let m = c .before .before .before .before .before .before .before .take-slots in
+    let free : m .result ≡ true = not-false _ (c .before .before .before .before .if3 .left) in (
       t .ensures .0 ∙ sym (alone-decides eightInch (rows a) (a .args .e) (a .args .marks .now) (bytes f) (right f) (a .pre .4 .blocks) (rw (a .pre .3) at (sym (m .ensures .0) ∙ free))),
-      λ q. passed-used eightInch (rows a) (a .args .e) (a .args .marks .now) (a .args .chain .now) (m .last .0) (t .last .1 .1 .1 .0) (t .last .1 .1 .1 .1 .0) (right f) (bytes f) (a .pre .4) (rw (a .pre .3) at (m .ensures .1)) (t .ensures .1) (t .ensures .2) (omega (arith, t .kept .1)),
+      λ q. passed-used eightInch (rows a) (a .args .e) (a .args .marks .now) (a .args .chain .now) (m .last .0) _ (right f) (bytes f) (a .pre .4) (rw (a .pre .3) at (m .ensures .1)) (t .ensures .1),
     )
 
 pub take-entry-spec : {M : Type 1} → statement M
@@ -103,5 +100,4 @@ take-entry-spec =
     take-key-requires
     same-length-2
     same-length-3
-    same-length-4
     returns-4)

@@ -33,7 +33,7 @@ four-rows-requires : tie.Need-four-rows-requires Inv-loop μ-loop
 four-rows-requires c κs = search needs
 
 loop-holds : tie.Need-loop-holds Inv-loop μ-loop
-loop-holds c = (all-none _, rw add-zero (c .before .before .before .before .before .pre .2), omega arith, refl, refl, refl)
+loop-holds c = (all-none _, rw add-zero (c .before .before .before .before .pre .2), omega arith, refl, refl)
 
 row-of-requires : tie.Need-row-of-requires Inv-loop μ-loop
 row-of-requires c κs = search needs
@@ -46,8 +46,8 @@ add-take-entry c = omega arith
 
 take-entry-requires : tie.Need-take-entry-requires Inv-loop μ-loop
 take-entry-requires c κs =
-    let b = c .before .before .before .before .before in let f = b .before .four-rows in let a = b .before .before .before .before .before .before in
-    let r = c .before .before .before .row-of in
+    let b = c .before .before .before .before in let f = b .before .four-rows in let a = b .before .before .before .before .before in
+    let r = c .before .before .row-of in
     let same = r .ensures .0 ∙ ap (λ (l : Bytes). rowOf l (b .loop .i)) (f .ensures .0) ∙ row-in-record eight-sound (a .args .image .now) (a .pre .0) (a .args .d) (b .loop .i) (omega arith) (omega arith) in
     (a .pre .0, omega arith, omega arith, same, b .loop .inv .1)
 
@@ -57,13 +57,10 @@ same-length c = search needs
 same-length-2 : tie.Need-same-length-2 Inv-loop μ-loop
 same-length-2 c = search needs
 
-same-length-3 : tie.Need-same-length-3 Inv-loop μ-loop
-same-length-3 c = search needs
-
 returns : tie.Need-returns Inv-loop μ-loop
 returns c =
-    let b = c .before .before .before .before .before .before .before .before .before .before .before .before .before in
-    let wrong = sym (c .before .before .before .before .before .before .before .take-entry .ensures .0) ∙ not-true _ (c .if1 .taken) in
+    let b = c .before .before .before .before .before .before .before .before .before .before in
+    let wrong = sym (c .before .before .before .before .before .take-entry .ensures .0) ∙ not-true _ (c .if1 .taken) in
     (sym (all-fails _ 4 (b .loop .i) (omega arith) wrong), λ t. clash (sym t))
 
 add-i : tie.Need-add-i Inv-loop μ-loop
@@ -74,19 +71,16 @@ loop-less c = omega arith
 
 loop-again : tie.Need-loop-again Inv-loop μ-loop
 loop-again c =
-    let b = c .before .before .before .before .before .before .before .before .before .before .before .before .before in
-    let t = c .before .before .before .before .before .before .before .take-entry in
+    let b = c .before .before .before .before .before .before .before .before .before .before in
+    let t = c .before .before .before .before .before .take-entry in
     let right : t .result ≡ true = not-false _ (c .if1 .left) in
-    (all-more _ (b .loop .i) (b .loop .inv .0) (sym (t .ensures .0) ∙ right), rw add-assoc at (t .ensures .1 right), omega arith, omega (arith, t .kept .1), omega (arith, t .kept .1), omega (arith, t .kept .1))
+    (all-more _ (b .loop .i) (b .loop .inv .0) (sym (t .ensures .0) ∙ right), rw add-assoc at (t .ensures .1 right), omega arith, omega (arith, t .kept .1), omega (arith, t .kept .1))
+
+same-length-3 : tie.Need-same-length-3 Inv-loop μ-loop
+same-length-3 c = search needs
 
 same-length-4 : tie.Need-same-length-4 Inv-loop μ-loop
 same-length-4 c = search needs
-
-same-length-5 : tie.Need-same-length-5 Inv-loop μ-loop
-same-length-5 c = search needs
-
-same-length-6 : tie.Need-same-length-6 Inv-loop μ-loop
-same-length-6 c = search needs
 
 returns-2 : tie.Need-returns-2 Inv-loop μ-loop
 returns-2 c =
@@ -108,12 +102,10 @@ take-record-spec =
     take-entry-requires
     same-length
     same-length-2
-    same-length-3
     returns
     add-i
     loop-less
     loop-again
+    same-length-3
     same-length-4
-    same-length-5
-    same-length-6
     returns-2)
