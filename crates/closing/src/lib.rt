@@ -10,6 +10,7 @@ ghost use Rattle.model.specs.Lent.{lend, outcome};
 ghost use Rattle.model.specs.Closing.{takesSlot, mergedSlot, mergedSlots, closedCount, closedRow, closedNote, closedMap, closedImage, closedFcb};
 ghost use Rattle.table.specs.Own.{call16};
 ghost use Rattle.table.specs.OwnStep.{ownStep};
+ghost use Rattle.chains.specs.Chain.{Indexed};
 use format::Found;
 use model::Answer;
 use model::Code;
@@ -124,13 +125,21 @@ fn clear_attributes(fcb: &mut [u8])
     fcb[6] = fcb[6] % 128;
 }
 
-// Call 16, once the disk and the parameters are known to be right. The transfer buffer is not touched.
-pub fn close_file(image: &mut [u8], map: &mut [u16], fcb: &mut [u8], session: Session) -> Answer
-    requires { ⌜ (length (now image) ≡ imageBytes eightInch) × (length (now fcb) ≡ fcbBytes) ⌝ }
+// Call 16, once the disk and the parameters are known to be right. The transfer buffer is not touched. chain: as the check
+// of the directory made it.
+pub fn close_file(
+    image: &mut [u8],
+    map: &mut [u16],
+    fcb: &mut [u8],
+    session: Session,
+    chain: &[u8],
+) -> Answer
+    requires { ⌜ (length (now image) ≡ imageBytes eightInch) × (length (now fcb) ≡ fcbBytes) × (session .user ≤ 15)
+        × Indexed eightInch (entryAt eightInch (now image)) (now chain) ⌝ }
     ensures { λ r. ⌜ ((buffer : Bytes) → outcome r (now (image .exit)) (now (map .exit)) (now (fcb .exit)) buffer
         ≡ ownStep eightInch 0 (lend (now (image .entry)) (now (map .entry)) (now (fcb .entry)) buffer) session call16) ⌝ }
 {
-    let Found::At(e) = current::current_entry(image, map, session.user, fcb) else {
+    let Found::At(e) = current::current_entry(image, map, chain, session.user, fcb) else {
         return answers::refuse(Code::Failed, session);
     };
     close_entry(image, map, e, fcb);

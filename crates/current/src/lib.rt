@@ -1,10 +1,11 @@
 // When an FCB is current: its fields are in range, it has an entry, and each of its slots is the entry's or pending for it.
 ghost use mathlib.Core.Path.{_≡_};
-ghost use Prim.Native.Nat.{_<_};
+ghost use Prim.Native.Nat.{_≤_, _<_};
 ghost use lib.ListN.{length};
 ghost use Rattle.format.specs.Diskette.{eightInch, imageBytes, slotCount};
 ghost use Rattle.format.specs.Entries.{entryAt};
 ghost use Rattle.format.specs.Fcb.{fcbBytes, randomOf, fcbRight, slotFits, slotsFit, current};
+ghost use Rattle.chains.specs.Chain.{Indexed};
 ghost use Rattle.current.specs.Current.{slotsSame};
 use format::Found;
 
@@ -75,15 +76,16 @@ pub fn slots_fit(map: &[u16], e: usize, es: [u8; 16], fs: [u8; 16]) -> bool
     true
 }
 
-// The entry of a current FCB.
-pub fn current_entry(image: &[u8], map: &[u16], user: u8, fcb: &[u8]) -> Found
-    requires { ⌜ (length (now image) ≡ imageBytes eightInch) × (length (now fcb) ≡ fcbBytes) ⌝ }
+// The entry of a current FCB. chain: as the check of the directory made it.
+pub fn current_entry(image: &[u8], map: &[u16], chain: &[u8], user: u8, fcb: &[u8]) -> Found
+    requires { ⌜ (length (now image) ≡ imageBytes eightInch) × (length (now fcb) ≡ fcbBytes) × (user ≤ 15)
+        × Indexed eightInch (entryAt eightInch (now image)) (now chain) ⌝ }
     ensures { λ r. ⌜ r ≡ current eightInch (entryAt eightInch (now (image .entry))) (now (map .entry)) user (now (fcb .entry)) ⌝ }
 {
     if !fcb_right(fcb) {
         return Found::Nothing;
     }
-    let Found::At(e) = rows::find_file(image, user, fcb, 1, rows::extent(fcb)) else {
+    let Found::At(e) = chains::find_file(image, chain, user, fcb, 1, rows::extent(fcb)) else {
         return Found::Nothing;
     };
     let es = rows::slots(rows::row(image, e));

@@ -11,6 +11,7 @@ ghost use Rattle.model.specs.Lent.{lend, outcome};
 ghost use Rattle.model.specs.Table.{askedEntry};
 ghost use Rattle.table.specs.Own.{call15, call22, call35};
 ghost use Rattle.table.specs.OwnStep.{ownStep};
+ghost use Rattle.chains.specs.Chain.{Indexed};
 ghost use Rattle.files.specs.Asked.{asksRight};
 use format::ENTRIES;
 use format::ENTRIES_PER_RECORD;
@@ -31,40 +32,43 @@ fn asks_right(fcb: &[u8]) -> bool
     names::name_right(false, fcb, 1)
 }
 
-// The entry that 15 and 22 ask for: of the FCB's name, with ex = byte 12 and s2 0.
-fn find_asked(image: &[u8], user: u8, fcb: &[u8]) -> Found
-    requires { ⌜ (length (now image) ≡ imageBytes eightInch) × (length (now fcb) ≡ fcbBytes) ⌝ }
+// The entry that 15 and 22 ask for: of the FCB's name, with ex = byte 12 and s2 0. chain: as the check of the directory made it.
+fn find_asked(image: &[u8], chain: &[u8], user: u8, fcb: &[u8]) -> Found
+    requires { ⌜ (length (now image) ≡ imageBytes eightInch) × (length (now fcb) ≡ fcbBytes) × (user ≤ 15)
+        × Indexed eightInch (entryAt eightInch (now image)) (now chain) ⌝ }
     ensures { λ r. ⌜ ((map buffer : Bytes) → r ≡ askedEntry eightInch (lend (now (image .entry)) map (now (fcb .entry)) buffer) user) ⌝ }
 {
-    rows::find_file(image, user, fcb, 1, lists::wide(fcb[12]))
+    chains::find_file(image, chain, user, fcb, 1, lists::wide(fcb[12]))
 }
 
-// 15: the FCB takes the entry of its name and of the extent that byte 12 gives.
-pub fn open_file(image: &[u8], fcb: &mut [u8], session: Session) -> Answer
-    requires { ⌜ (length (now image) ≡ imageBytes eightInch) × (length (now fcb) ≡ fcbBytes) ⌝ }
+// 15: the FCB takes the entry of its name and of the extent that byte 12 gives. chain: as the check of the directory made it.
+pub fn open_file(image: &[u8], fcb: &mut [u8], session: Session, chain: &[u8]) -> Answer
+    requires { ⌜ (length (now image) ≡ imageBytes eightInch) × (length (now fcb) ≡ fcbBytes) × (session .user ≤ 15)
+        × Indexed eightInch (entryAt eightInch (now image)) (now chain) ⌝ }
     ensures { λ r. ⌜ ((map buffer : Bytes) → outcome r (now (image .entry)) map (now (fcb .exit)) buffer
         ≡ ownStep eightInch 0 (lend (now (image .entry)) map (now (fcb .entry)) buffer) session call15) ⌝ }
 {
     if !asks_right(fcb) {
         return answers::refuse(Code::BadName, session);
     }
-    let Found::At(e) = find_asked(image, session.user, fcb) else {
+    let Found::At(e) = find_asked(image, chain, session.user, fcb) else {
         return answers::refuse(Code::Failed, session);
     };
     entering::enter(fcb, rows::copy_row(image, e));
     answers::done((e % ENTRIES_PER_RECORD) as u8, session)
 }
 
-// 22: the first empty entry becomes the new file's, and the FCB takes it.
-pub fn make_file(image: &mut [u8], fcb: &mut [u8], session: Session) -> Answer
-    requires { ⌜ (length (now image) ≡ imageBytes eightInch) × (length (now fcb) ≡ fcbBytes) ⌝ }
+// 22: the first empty entry becomes the new file's, and the FCB takes it. chain: as the check of the directory made it.
+pub fn make_file(image: &mut [u8], fcb: &mut [u8], session: Session, chain: &[u8]) -> Answer
+    requires { ⌜ (length (now image) ≡ imageBytes eightInch) × (length (now fcb) ≡ fcbBytes) × (session .user ≤ 15)
+        × Indexed eightInch (entryAt eightInch (now image)) (now chain) ⌝ }
     ensures { λ r. ⌜ ((map buffer : Bytes) → outcome r (now (image .exit)) map (now (fcb .exit)) buffer
         ≡ ownStep eightInch 0 (lend (now (image .entry)) map (now (fcb .entry)) buffer) session call22) ⌝ }
 {
     if !asks_right(fcb) {
         return answers::refuse(Code::BadName, session);
     }
-    let Found::Nothing = find_asked(image, session.user, fcb) else {
+    let Found::Nothing = find_asked(image, chain, session.user, fcb) else {
         return answers::refuse(Code::Exists, session);
     };
     let Found::At(e) = rows::find_empty(image) else {

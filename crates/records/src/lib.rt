@@ -5,11 +5,12 @@ ghost use mathlib.Core.Logic.{_⊎_};
 ghost use Prim.Native.Nat.{ℕ, _≤_, _<_};
 ghost use lib.ListN.{length};
 ghost use Rattle.format.specs.Diskette.{Bytes, eightInch, imageBytes, recordBytes, extents, extentRecords};
-ghost use Rattle.format.specs.Entries.{slotFor};
+ghost use Rattle.format.specs.Entries.{entryAt, slotFor};
 ghost use Rattle.format.specs.Consistent.{consistent};
 ghost use Rattle.format.specs.Fcb.{fcbBytes};
 ghost use Rattle.model.specs.Lent.{lend, outcome};
 ghost use Rattle.model.specs.Target.{targetExtent, moved, made, haveRead, haveWritten};
+ghost use Rattle.chains.specs.Chain.{Indexed};
 ghost use Rattle.table.specs.Own.{Call};
 ghost use Rattle.table.specs.OwnStep.{ownStep};
 ghost use Rattle.rulings.specs.Bounds.{Within};
@@ -133,7 +134,7 @@ fn follow_write(
     );
 }
 
-// Calls 20 and 33, once the disk and the parameters are known to be right.
+// Calls 20 and 33, once the disk and the parameters are known to be right. chain: as the check of the directory made it.
 pub fn read_call(
     number: u8,
     image: &mut [u8],
@@ -141,15 +142,16 @@ pub fn read_call(
     fcb: &mut [u8],
     buffer: &mut [u8],
     session: Session,
+    chain: &[u8],
 ) -> Answer
     requires { ⌜ (length (now image) ≡ imageBytes eightInch) × (length (now map) ≡ eightInch .blocks) × (length (now fcb) ≡ fcbBytes)
         × (length (now buffer) ≡ recordBytes) × (session .user ≤ 15) × (consistent eightInch (now image) ≡ true)
-        × ((number ≡ 20) ⊎ (number ≡ 33)) ⌝ }
+        × ((number ≡ 20) ⊎ (number ≡ 33)) × Indexed eightInch (entryAt eightInch (now image)) (now chain) ⌝ }
     ensures { λ r. ⌜ ((argument : ℕ) (c : Call number) → outcome r (now (image .exit)) (now (map .exit)) (now (fcb .exit)) (now (buffer .exit))
         ≡ ownStep eightInch argument (lend (now (image .entry)) (now (map .entry)) (now (fcb .entry)) (now (buffer .entry))) session c) ⌝ }
 {
     let target = targets::target_of(number, fcb);
-    match rulings::rule_read(number, target, image, map, fcb, session.user) {
+    match rulings::rule_read(number, target, image, map, chain, fcb, session.user) {
         Ruling::Refuse(code) => answers::refuse(code, session),
         Ruling::Follow(plan) => {
             follow_read(image, map, fcb, buffer, plan, target);
@@ -158,7 +160,7 @@ pub fn read_call(
     }
 }
 
-// Calls 21 and 34, once the disk and the parameters are known to be right.
+// Calls 21 and 34, once the disk and the parameters are known to be right. chain: as the check of the directory made it.
 pub fn write_call(
     number: u8,
     image: &mut [u8],
@@ -166,15 +168,16 @@ pub fn write_call(
     fcb: &mut [u8],
     buffer: &[u8],
     session: Session,
+    chain: &[u8],
 ) -> Answer
     requires { ⌜ (length (now image) ≡ imageBytes eightInch) × (length (now map) ≡ eightInch .blocks) × (length (now fcb) ≡ fcbBytes)
         × (length (now buffer) ≡ recordBytes) × (session .user ≤ 15) × (consistent eightInch (now image) ≡ true)
-        × ((number ≡ 21) ⊎ (number ≡ 34)) ⌝ }
+        × ((number ≡ 21) ⊎ (number ≡ 34)) × Indexed eightInch (entryAt eightInch (now image)) (now chain) ⌝ }
     ensures { λ r. ⌜ ((argument : ℕ) (c : Call number) → outcome r (now (image .exit)) (now (map .exit)) (now (fcb .exit)) (now (buffer .entry))
         ≡ ownStep eightInch argument (lend (now (image .entry)) (now (map .entry)) (now (fcb .entry)) (now (buffer .entry))) session c) ⌝ }
 {
     let target = targets::target_of(number, fcb);
-    match rulings::rule_write(number, target, image, map, fcb, session.user) {
+    match rulings::rule_write(number, target, image, map, chain, fcb, session.user) {
         Ruling::Refuse(code) => answers::refuse(code, session),
         Ruling::Follow(plan) => {
             follow_write(image, map, fcb, buffer, plan, target);

@@ -6,6 +6,7 @@ ghost use Rattle.format.specs.Diskette.{Bytes, eightInch, imageBytes, entryByte
 ghost use Rattle.format.specs.Entries.{entryAt, readOnly};
 ghost use Rattle.format.specs.Fcb.{fcbBytes};
 ghost use Rattle.model.specs.Lent.{lend};
+ghost use Rattle.chains.specs.Chain.{Indexed};
 ghost use Rattle.targets.specs.Target.{TargetOf};
 ghost use Rattle.rulings.specs.Ruling.{readTo, Among, guarded, blockFor, writeNew, writeTo, readRuling, writeRuling};
 use format::Found;
@@ -42,16 +43,18 @@ fn read_to(
     Ruling::Follow(targets::go_to(e, t, lists::wide(slot)))
 }
 
-// What 20 and 33 are told.
+// What 20 and 33 are told. chain: as the check of the directory made it.
 pub fn rule_read(
     number: u8,
     target: Target,
     image: &[u8],
     map: &[u16],
+    chain: &[u8],
     fcb: &[u8],
     user: u8,
 ) -> Ruling
-    requires { ⌜ (length (now image) ≡ imageBytes eightInch) × (length (now fcb) ≡ fcbBytes) × TargetOf number (now fcb) target ⌝ }
+    requires { ⌜ (length (now image) ≡ imageBytes eightInch) × (length (now fcb) ≡ fcbBytes) × TargetOf number (now fcb) target
+        × (user ≤ 15) × Indexed eightInch (entryAt eightInch (now image)) (now chain) ⌝ }
     ensures { λ r. ⌜ ((buffer : Bytes) → r ≡ readRuling eightInch number user (lend (now (image .entry)) (now (map .entry)) (now (fcb .entry)) buffer)) ⌝ }
 {
     let extent = target.extent;
@@ -59,10 +62,10 @@ pub fn rule_read(
     if targets::over_last(number, extent) {
         return Ruling::Refuse(Code::BadRecord);
     }
-    let Found::At(e) = current::current_entry(image, map, user, fcb) else {
+    let Found::At(e) = current::current_entry(image, map, chain, user, fcb) else {
         return Ruling::Refuse(Code::NotCurrent);
     };
-    let Found::At(t) = targets::target_entry(image, user, fcb, e, extent) else {
+    let Found::At(t) = targets::target_entry(image, chain, user, fcb, e, extent) else {
         return Ruling::Refuse(targets::missing(number, Code::NoExtent));
     };
     let j = rows::slot_for(extent, at);
@@ -139,17 +142,18 @@ fn write_to(
     Ruling::Follow(targets::go_to(e, t, b))
 }
 
-// What 21 and 34 are told.
+// What 21 and 34 are told. chain: as the check of the directory made it.
 pub fn rule_write(
     number: u8,
     target: Target,
     image: &[u8],
     map: &[u16],
+    chain: &[u8],
     fcb: &[u8],
     user: u8,
 ) -> Ruling
     requires { ⌜ (length (now image) ≡ imageBytes eightInch) × (length (now map) ≡ eightInch .blocks) × (length (now fcb) ≡ fcbBytes)
-        × TargetOf number (now fcb) target ⌝ }
+        × TargetOf number (now fcb) target × (user ≤ 15) × Indexed eightInch (entryAt eightInch (now image)) (now chain) ⌝ }
     ensures { λ r. ⌜ ((buffer : Bytes) → r ≡ writeRuling eightInch number user (lend (now (image .entry)) (now (map .entry)) (now (fcb .entry)) buffer)) ⌝ }
 {
     let extent = target.extent;
@@ -157,10 +161,10 @@ pub fn rule_write(
     if targets::over_last(number, extent) {
         return Ruling::Refuse(Code::BadRecord);
     }
-    let Found::At(e) = current::current_entry(image, map, user, fcb) else {
+    let Found::At(e) = current::current_entry(image, map, chain, user, fcb) else {
         return Ruling::Refuse(Code::NotCurrent);
     };
-    let found = targets::target_entry(image, user, fcb, e, extent);
+    let found = targets::target_entry(image, chain, user, fcb, e, extent);
     if is_guarded(image, e, found) {
         return Ruling::Refuse(Code::ReadOnly);
     }

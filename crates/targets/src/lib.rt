@@ -1,11 +1,12 @@
 // Where the record calls 20, 21, 33 and 34 go: the target, its entry, and its slot and count as the FCB will have them there.
 ghost use mathlib.Core.Path.{_≡_};
-ghost use Prim.Native.Nat.{_<_, max};
+ghost use Prim.Native.Nat.{_≤_, _<_, max};
 ghost use lib.ListN.{length};
 ghost use Rattle.format.specs.Diskette.{eightInch, imageBytes, slotCount};
 ghost use Rattle.format.specs.Entries.{entryAt, extentOf, findFile};
 ghost use Rattle.format.specs.Fcb.{fcbBytes};
 ghost use Rattle.model.specs.Target.{isRandom};
+ghost use Rattle.chains.specs.Chain.{Indexed};
 ghost use Rattle.targets.specs.Target.{TargetOf, overLast, missingCode, arrivedSlot, arrivedCount, goTo};
 use format::Found;
 use model::Code;
@@ -77,16 +78,25 @@ pub fn missing(number: u8, random: Code) -> Code
     Code::NoRecord
 }
 
-// The target's entry, where e is the FCB's: the same one where there is no move, so that only a move looks it up.
-pub fn target_entry(image: &[u8], user: u8, fcb: &[u8], e: usize, extent: usize) -> Found
+// The target's entry, where e is the FCB's: the same one where there is no move, so that only a move looks it up. chain: as the check
+// of the directory made it.
+pub fn target_entry(
+    image: &[u8],
+    chain: &[u8],
+    user: u8,
+    fcb: &[u8],
+    e: usize,
+    extent: usize,
+) -> Found
     requires { ⌜ (length (now image) ≡ imageBytes eightInch) × (length (now fcb) ≡ fcbBytes)
-        × (findFile eightInch (entryAt eightInch (now image)) user (now fcb) 1 (extentOf (now fcb)) ≡ Found.At e) ⌝ }
+        × (findFile eightInch (entryAt eightInch (now image)) user (now fcb) 1 (extentOf (now fcb)) ≡ Found.At e)
+        × (user ≤ 15) × Indexed eightInch (entryAt eightInch (now image)) (now chain) ⌝ }
     ensures { λ r. ⌜ r ≡ findFile eightInch (entryAt eightInch (now (image .entry))) user (now (fcb .entry)) 1 extent ⌝ }
 {
     if rows::extent(fcb) == extent {
         return Found::At(e);
     }
-    rows::find_file(image, user, fcb, 1, extent)
+    chains::find_file(image, chain, user, fcb, 1, extent)
 }
 
 // The larger of two counts.

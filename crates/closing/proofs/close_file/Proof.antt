@@ -29,14 +29,14 @@ same-length-3 c = search needs
 
 returns : tie.Need-returns
 returns c buffer =
-    let a = c .before .before .before .before .before .before .before .before .before .before .args in
+    let a = c .before .before .before .before .before .before .before .before .before .before .before .args in
     let found = c .before .before .before .current-entry in
     close-refused eightInch (a .image .now) (a .map .now) (a .fcb .now) (a .session) (found .result) (found .ensures) buffer (c .refuse .result)
     (c .before .enum-told .given .1) (c .refuse .ensures)
 
 close-entry-requires : tie.Need-close-entry-requires
 close-entry-requires c κs =
-    let a = c .before .before .before .before .before .before .before .before .before .before .before .before .before .args in
+    let a = c .before .before .before .before .before .before .before .before .before .before .before .before .before .before .args in
     let found = c .before .before .before .before .before .before .current-entry in
     let e = c .before .before .before .before .e .given in
     let low : e .0 .0 < eightInch .entries =
@@ -63,7 +63,7 @@ same-length-6 c = search needs
 
 returns-2 : tie.Need-returns-2
 returns-2 c buffer =
-    let a = c .before .before .before .before .before .before .before .before .before .before .before .before .before .before .before .before .before .before .before .before .before .before .before .args in
+    let a = c .before .before .before .before .before .before .before .before .before .before .before .before .before .before .before .before .before .before .before .before .before .before .before .before .args in
     let found = c .before .before .before .before .before .before .before .before .before .before .before .before .before .before .before .before .current-entry in
     let e = c .before .before .before .before .before .before .before .before .before .before .before .before .before .before .e .given in
     let closed = c .before .before .before .before .before .before .before .before .before .close-entry in

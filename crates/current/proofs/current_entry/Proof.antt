@@ -20,7 +20,7 @@ fcb-right-requires c κs = search needs
 
 returns : tie.Need-returns
 returns c =
-    let a = c .before .before .before .before .before .args in
+    let a = c .before .before .before .before .before .before .args in
     sym (current-wrong eightInch (entryAt eightInch (a .image .now)) (a .map .now) (a .user) (a .fcb .now)
     (sym (c .before .fcb-right .ensures) ∙ not-true _ (c .if1 .taken)))
 
@@ -38,7 +38,7 @@ enum-told c = search needs
 
 returns-2 : tie.Need-returns-2
 returns-2 c =
-    let a = c .before .before .before .before .before .before .before .before .before .args in
+    let a = c .before .before .before .before .before .before .before .before .before .before .args in
     let q = rw (c .before .before .before .extent .ensures .0) at (c .before .before .find-file .ensures) in
     sym (current-missing eightInch (entryAt eightInch (a .image .now)) (a .map .now) (a .user) (a .fcb .now)
     (sym (c .before .before .before .before .before .fcb-right .ensures) ∙ not-false _ (c .before .before .before .before .if1 .left))
@@ -46,7 +46,7 @@ returns-2 c =
 
 -- what is known once the look-up has answered e: the FCB's fields are right, and e is the entry of its file
 known : (c : tie.After-known-told) →
-    let a = c .before .before .before .before .before .before .before .before .before .before .args in
+    let a = c .before .before .before .before .before .before .before .before .before .before .before .args in
     (fcbRight (a .fcb .now) ≡ true)
     × (findFile eightInch (entryAt eightInch (a .image .now)) (a .user) (a .fcb .now) 1 (extentOf (a .fcb .now)) ≡ At (c .before .e .given .0 .0))
 known c = (
@@ -57,7 +57,7 @@ known c = (
 -- so e is a number of an entry
 low : (c : tie.After-known-told) → c .before .e .given .0 .0 < eightInch .entries
 low c =
-    let a = c .before .before .before .before .before .before .before .before .before .before .args in
+    let a = c .before .before .before .before .before .before .before .before .before .before .before .args in
     file-says eightInch (entryAt eightInch (a .image .now)) (a .user) (a .fcb .now) 1 (extentOf (a .fcb .now)) (c .before .e .given .0 .0)
     (known c .1) .below
 
@@ -75,11 +75,11 @@ slots-fit-requires c κs = let l = low (c .before .before .before) in search nee
 
 -- and the answer goes by whether the slots fit
 fitted : (c : tie.After-slots-fit) →
-    let a = c .before .before .before .before .before .before .before .before .before .before .before .before .before .before .args in
+    let a = c .before .before .before .before .before .before .before .before .before .before .before .before .before .before .before .args in
     cond (c .slots-fit .result) (At (c .before .before .before .before .before .e .given .0 .0)) Nothing
     ≡ current eightInch (entryAt eightInch (a .image .now)) (a .map .now) (a .user) (a .fcb .now)
 fitted c =
-    let a = c .before .before .before .before .before .before .before .before .before .before .before .before .before .before .args in
+    let a = c .before .before .before .before .before .before .before .before .before .before .before .before .before .before .before .args in
     let k = c .before .before .before .before in
     current-by eightInch (entryAt eightInch (a .image .now)) (a .map .now) (a .user) (a .fcb .now) (k .before .e .given .0 .0)
     (c .before .before .slots .result) (c .before .slots2 .result) (c .slots-fit .result) (known k .0) (known k .1)

@@ -54,11 +54,11 @@ returns-2 c = λ map buffer.
     (sym (c .before .before .before .find-asked .ensures map buffer) ∙ c .before .enum-told2 .given .1) (c .refuse2 .ensures)
 
 -- there is no entry that is asked for
-right : (c : tie.After-enum-told) → asksRight (c .before .before .before .before .before .before .before .before .before .before .args .fcb .now) ≡ true
+right : (c : tie.After-enum-told) → asksRight (c .before .before .before .before .before .before .before .before .before .before .before .args .fcb .now) ≡ true
 right c = let u = c .before .before .before .before .before in sym (u .before .asks-right .ensures) ∙ not-false _ (u .if1 .left)
 
 new : (c : tie.After-enum-told) (map buffer : Bytes) →
-    let a = c .before .before .before .before .before .before .before .before .before .before .args in
+    let a = c .before .before .before .before .before .before .before .before .before .before .before .args in
     askedEntry eightInch (lend (a .image .now) map (a .fcb .now) buffer) (a .session .user) ≡ Nothing
 new c map buffer = sym (c .before .before .find-asked .ensures map buffer) ∙ c .enum-told .given .1
 
@@ -87,7 +87,7 @@ returns-3 c = λ map buffer.
     (c .refuse3 .ensures)
 
 -- the entry found is empty, and the first that is
-free : (c : tie.After-known-told) → findEmpty eightInch (entryAt eightInch (c .before .before .before .before .before .before .before .before .before .before .before .before .before .before .before .args .image .now)) ≡ At (c .before .e .given .0 .0)
+free : (c : tie.After-known-told) → findEmpty eightInch (entryAt eightInch (c .before .before .before .before .before .before .before .before .before .before .before .before .before .before .before .before .args .image .now)) ≡ At (c .before .e .given .0 .0)
 free c = sym (c .before .before .before .find-empty .ensures) ∙ c .before .e .given .1
 
 low : (c : tie.After-known-told) → c .before .e .given .0 .0 < eightInch .entries

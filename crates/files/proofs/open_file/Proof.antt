@@ -50,7 +50,7 @@ returns-2 c = λ map buffer.
 
 -- the entry found is the one that is asked for
 asked : (c : tie.After-known-told) (map buffer : Bytes) →
-    let a = c .before .before .before .before .before .before .before .before .before .before .args in
+    let a = c .before .before .before .before .before .before .before .before .before .before .before .args in
     askedEntry eightInch (lend (a .image .now) map (a .fcb .now) buffer) (a .session .user) ≡ At (c .before .e .given .0 .0)
 asked c map buffer = sym (c .before .before .before .find-asked .ensures map buffer) ∙ c .before .e .given .1
 

@@ -22,7 +22,7 @@ over-last-requires c κs = search needs
 
 returns : tie.Need-returns
 returns c =
-    λ buffer. let s = c .before .before .before .before .before in let a = s .args in
+    λ buffer. let s = c .before .before .before .before .before .before in let a = s .args in
     sym (read-over eightInch (a .number) (a .user) (lend (a .image .now) (a .map .now) (a .fcb .now) buffer)
     (ap (overLast (a .number)) (sym (s .pre .2 .extent)) ∙ sym (c .before .over-last .ensures) ∙ c .if1 .taken))
 
@@ -36,29 +36,29 @@ enum-told : tie.Need-enum-told
 enum-told c = search needs
 
 -- what is known on the way: the record is in range, the FCB's entry is e, and the target's entry is as the model looks it up
-in-range : (c : tie.After-current-entry) → overLast (c .before .before .before .before .before .before .args .number) (targetExtent (c .before .before .before .before .before .before .args .number) (c .before .before .before .before .before .before .args .fcb .now)) ≡ false
+in-range : (c : tie.After-current-entry) → overLast (c .before .before .before .before .before .before .before .args .number) (targetExtent (c .before .before .before .before .before .before .before .args .number) (c .before .before .before .before .before .before .before .args .fcb .now)) ≡ false
 in-range c =
-    let s = c .before .before .before .before .before .before in ap (overLast (s .args .number)) (sym (s .pre .2 .extent)) ∙ sym (c .before .before .over-last .ensures) ∙ c .before .if1 .left
+    let s = c .before .before .before .before .before .before .before in ap (overLast (s .args .number)) (sym (s .pre .2 .extent)) ∙ sym (c .before .before .over-last .ensures) ∙ c .before .if1 .left
 
-entry : (c : tie.After-known-told) → let a = c .before .before .before .before .before .before .before .before .before .args in
+entry : (c : tie.After-known-told) → let a = c .before .before .before .before .before .before .before .before .before .before .args in
     current eightInch (entryAt eightInch (a .image .now)) (a .map .now) (a .user) (a .fcb .now) ≡ At (c .before .e .given .0 .0)
 entry c = sym (c .before .before .before .current-entry .ensures) ∙ c .before .e .given .1
 
-target : (c : tie.After-target-entry) → let a = c .before .before .before .before .before .before .before .before .before .before .args in
+target : (c : tie.After-target-entry) → let a = c .before .before .before .before .before .before .before .before .before .before .before .args in
     c .target-entry .result ≡ findFile eightInch (entryAt eightInch (a .image .now)) (a .user) (a .fcb .now) 1 (targetExtent (a .number) (a .fcb .now))
 target c =
-    let a = c .before .before .before .before .before .before .before .before .before .before .args in
-    c .target-entry .ensures ∙ ap (findFile eightInch (entryAt eightInch (a .image .now)) (a .user) (a .fcb .now) 1) (c .before .before .before .before .before .before .before .before .before .before .pre .2 .extent)
+    let a = c .before .before .before .before .before .before .before .before .before .before .before .args in
+    c .target-entry .ensures ∙ ap (findFile eightInch (entryAt eightInch (a .image .now)) (a .user) (a .fcb .now) 1) (c .before .before .before .before .before .before .before .before .before .before .before .pre .2 .extent)
 
 returns-2 : tie.Need-returns-2
 unfolding presentEntry
 returns-2 c =
-    λ buffer. let a = c .before .before .before .before .before .before .before .before .args in
+    λ buffer. let a = c .before .before .before .before .before .before .before .before .before .args in
     sym (read-stale eightInch (a .number) (a .user) (lend (a .image .now) (a .map .now) (a .fcb .now) buffer) (in-range (c .before .before)) (sym (c .before .before .current-entry .ensures) ∙ c .enum-told .given .1))
 
 target-entry-requires : tie.Need-target-entry-requires
 target-entry-requires c κs =
-    let a = c .before .before .before .before .before .before .before .before .before .args in
+    let a = c .before .before .before .before .before .before .before .before .before .before .args in
     let q = current-says eightInch (entryAt eightInch (a .image .now)) (a .map .now) (a .user) (a .fcb .now) (c .before .e .given .0 .0) (entry c) .found in search needs
 
 enum-known-t : tie.Need-enum-known-t
@@ -73,19 +73,19 @@ missing-requires c κs = search needs
 returns-3 : tie.Need-returns-3
 unfolding presentEntry targetEntry
 returns-3 c =
-    λ buffer. let a = c .before .before .before .before .before .before .before .before .before .before .before .before .before .args in
+    λ buffer. let a = c .before .before .before .before .before .before .before .before .before .before .before .before .before .before .args in
     ap Refuse (c .missing .ensures)
     ∙ sym (read-missing eightInch (a .number) (a .user) (lend (a .image .now) (a .map .now) (a .fcb .now) buffer) (in-range (c .before .before .before .before .before .before .before)) (c .before .before .before .before .before .e .given .0 .0) (entry (c .before .before .before .before)) (sym (target (c .before .before .before)) ∙ c .before .enum-told2 .given .1))
 
 slot-for-requires : tie.Need-slot-for-requires
 slot-for-requires c κs =
-    let s = c .before .before .before .before .before .before .before .before .before .before .before .before .before in let a = s .args in
+    let s = c .before .before .before .before .before .before .before .before .before .before .before .before .before .before in let a = s .args in
     target-low eightInch (entryAt eightInch (a .image .now)) (a .map .now) (a .user) (a .fcb .now) (c .before .before .before .before .before .e .given .0 .0) (a .number) (a .target)
     (entry (c .before .before .before .before)) (s .pre .2)
 
 read-to-requires : tie.Need-read-to-requires
 read-to-requires c κs =
-    let a = c .before .before .before .before .before .before .before .before .before .before .before .before .before .before .args in
+    let a = c .before .before .before .before .before .before .before .before .before .before .before .before .before .before .before .args in
     let h : c .before .before .t .given .0 .0 < eightInch .entries =
     file-says eightInch (entryAt eightInch (a .image .now)) (a .user) (a .fcb .now) 1 (targetExtent (a .number) (a .fcb .now)) (c .before .before .t .given .0 .0)
     (sym (target (c .before .before .before .before)) ∙ c .before .before .t .given .1) .below in search needs
@@ -93,7 +93,7 @@ read-to-requires c κs =
 returns-4 : tie.Need-returns-4
 unfolding presentEntry targetEntry targetSlot
 returns-4 c =
-    λ buffer. let s = c .before .before .before .before .before .before .before .before .before .before .before .before .before .before .before in let a = s .args in let t = c .before .before .before .t .given in
+    λ buffer. let s = c .before .before .before .before .before .before .before .before .before .before .before .before .before .before .before .before in let a = s .args in let t = c .before .before .before .t .given in
     c .read-to .ensures
     ∙ rw (c .before .slot-for .ensures .0, s .pre .2 .extent, s .pre .2 .at)
     (sym (read-found eightInch (a .number) (a .user) (lend (a .image .now) (a .map .now) (a .fcb .now) buffer) (in-range (c .before .before .before .before .before .before .before .before .before)) (c .before .before .before .before .before .before .before .e .given .0 .0) (entry (c .before .before .before .before .before .before)) (t .0 .0) (sym (target (c .before .before .before .before .before)) ∙ t .1)))

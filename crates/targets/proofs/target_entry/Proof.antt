@@ -10,7 +10,7 @@ extent-requires c κs = search needs
 
 returns : tie.Need-returns
 returns c =
-    let s = c .before .before .before .before in
+    let s = c .before .before .before .before .before in
     let q : extentOf (s .args .fcb .now) ≡ s .args .extent = sym (c .before .extent .ensures .0) ∙ c .if1 .taken in sym (rw q at (s .pre .2))
 
 find-file-requires : tie.Need-find-file-requires
