@@ -82,7 +82,7 @@ module _ (G : Geometry) (d : Rows) where
     abbrev linked : Bytes
     linked = set c (keyCount + e) (getD c k 0)
 
-    pub linked-long : length linked ≡ chainBytes G
+    linked-long : length linked ≡ chainBytes G
     linked-long = length-set c (keyCount + e) (getD c k 0) ∙ s .long
 
     last-more : (i : ℕ) → i < keyCount → getD (set linked k v) i 0 ≡ lastBelow (hasKey d i) (e + 1)

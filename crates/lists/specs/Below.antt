@@ -205,21 +205,6 @@ first-skip p i k n a b f =
     (λ w. first-none p k n b (λ j c l. first-before p k n j c (omega arith))
     ∙ sym (first-none p i n (omega arith) (λ j c l. split (lt-or-le j k) (λ v. f j c v) (λ v. first-before p k n j v (omega arith)))))
 
--- ---- a loop that looks at m numbers a turn, from i on: q is the test of the m by their places among them
-module _ (p q : ℕ → Bool) (i m n : ℕ) (fits : i + m ≤ n) (same : (j : ℕ) → j < m → q j ≡ p (i + j)) where
-  none-before : (j : ℕ) → i ≤ j → j < i + m → j < i + firstIn q 0 m → p j ≡ false
-  none-before j a b c =
-      let e : i + (j - i) ≡ j = omega arith in
-      rw e at (sym (same (j - i) (omega arith)) ∙ first-before q 0 m (j - i) (omega arith) (omega arith))
-
-  pub first-among : firstIn q 0 m < m → firstIn p i n ≡ i + firstIn q 0 m
-  first-among h =
-      let k : ℕ = firstIn q 0 m in
-      first-is p i n (i + k) (omega arith) (omega arith) (sym (same k h) ∙ first-holds q 0 m h) (λ j a b. none-before j a (omega arith) b)
-
-  pub first-past : m ≤ firstIn q 0 m → firstIn p (i + m) n ≡ firstIn p i n
-  first-past h = first-skip p i (i + m) n (omega arith) fits (λ j a b. none-before j a b (omega arith))
-
 -- ---- the last number
 pub last-none : (p : ℕ → Bool) → lastBelow p 0 ≡ 0
 unfolding lastBelow

@@ -2,13 +2,11 @@
 ghost use mathlib.Core.Path.{_≡_};
 ghost use Prim.Native.Nat.{_+_, _*_, _≤_, _<_};
 ghost use lib.ListN.{length};
-ghost use Rattle.lists.specs.Below.{firstIn};
 ghost use Rattle.format.specs.Diskette.{eightInch, imageBytes, recordBytes, recordAt, entryBytes, entriesPerRecord, slotCount};
 ghost use Rattle.format.specs.Names.{nameBytes};
 ghost use Rattle.format.specs.Consistent.{extentRight, numbersRight};
-ghost use Rattle.format.specs.Entries.{entryPlace, entryAt, withEntry, slotsOf, extentOf, covers, countIn, slotFor, named, isFile, findFile, findNamed, findEmpty};
+ghost use Rattle.format.specs.Entries.{entryPlace, entryAt, withEntry, slotsOf, extentOf, covers, countIn, slotFor, named, isFile, findNamed, findEmpty};
 ghost use Rattle.rows.specs.Entries.{rowOf};
-ghost use Rattle.facts.specs.Find.{fileTest};
 use format::ENTRIES;
 use format::ENTRIES_PER_RECORD;
 use format::ENTRY_BYTES;
@@ -162,37 +160,6 @@ pub fn is_file(user: u8, s: &[u8], q: usize, ext: usize, r: &[u8]) -> bool
         return false;
     }
     covers_extent(r, ext)
-}
-
-// The place among four rows of the first that is of this user, name and extent; 4 where none is.
-fn file_among(four: &[u8], user: u8, s: &[u8], q: usize, ext: usize) -> usize
-    requires { ⌜ (length (now four) ≡ recordBytes) × (q + nameBytes ≤ length (now s)) ⌝ }
-    ensures { λ r. ⌜ r ≡ firstIn (fileTest eightInch (rowOf (now (four .entry))) user (now (s .entry)) q ext) 0 entriesPerRecord ⌝ }
-{
-    let mut i = 0;
-    while i < ENTRIES_PER_RECORD {
-        if is_file(user, s, q, ext, row_of(four, i)) {
-            return i;
-        }
-        i += 1;
-    }
-    ENTRIES_PER_RECORD
-}
-
-// The entry of this user, name and extent.
-pub fn find_file(image: &[u8], user: u8, s: &[u8], q: usize, ext: usize) -> Found
-    requires { ⌜ (length (now image) ≡ imageBytes eightInch) × (q + nameBytes ≤ length (now s)) ⌝ }
-    ensures { λ r. ⌜ r ≡ findFile eightInch (entryAt eightInch (now (image .entry))) user (now (s .entry)) q ext ⌝ }
-{
-    let mut d = 0;
-    while d < format::DIRECTORY_RECORDS {
-        let i = file_among(four_rows(image, d), user, s, q, ext);
-        if i < ENTRIES_PER_RECORD {
-            return Found::At(ENTRIES_PER_RECORD * d + i);
-        }
-        d += 1;
-    }
-    Found::Nothing
 }
 
 // The first entry from `from` on of this user whose name is asked for.

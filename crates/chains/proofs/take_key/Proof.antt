@@ -1,11 +1,12 @@
 -- The key of the row leads to the last entry that has it, which becomes the link of this one.
 use mathlib.Core.Path.{refl}
 use Prim.Native.Nat.{_+_}
+use lib.ListN.{getD, set, length-set}
 use native.Mathlib.Omega.{arith}
 use borrow.Author.Needs.{needs}
 use Rattle.format.specs.Diskette.{eightInch}
 use Rattle.format.specs.Entries.{entryAt}
-use Rattle.chains.specs.Chain.{Chained, linked-long, chained-more}
+use Rattle.chains.specs.Chain.{Chained, chained-more}
 use Rattle.chains.proofs.take_key.Statement.{statement}
 use Rattle.chains.proofs.take_key.Tie as tie
 
@@ -29,35 +30,26 @@ cast-chain c = search needs
 
 slice-write-chain-2 : tie.Need-slice-write-chain-2
 slice-write-chain-2 c =
-    let a = c .before .before .before .before .before in let k = c .before .key in
-    omega (
-      arith,
-      linked-long eightInch (entryAt eightInch (a .args .image .now)) (a .args .e) (k .result) (a .args .e + 1) (a .args .r .now) (a .args .chain .now)
-          (a .pre .3) (a .pre .4) (k .ensures .0) (k .ensures .1) (a .pre .1) refl (a .pre .5),
-    )
+    let long = c .before .before .before .before .before .pre .5 .long in let low = c .before .key .ensures .1 in simp length-set (omega arith)
+
+-- what the two writes make of the chains
+more : (c : tie.After-key) →
+    let a = c .before .before .before .before in let k = c .key .result in let l = a .args .chain .now in
+    Chained eightInch (entryAt eightInch (a .args .image .now)) (a .args .e + 1) (set (set l (256 + a .args .e) (getD l k 0)) k (a .args .e + 1))
+more c =
+    let a = c .before .before .before .before in
+    chained-more eightInch (entryAt eightInch (a .args .image .now)) (a .args .e) (c .key .result) (a .args .e + 1) (a .args .r .now) (a .args .chain .now)
+    (a .pre .3) (a .pre .4) (c .key .ensures .0) (c .key .ensures .1) (a .pre .1) refl (a .pre .5)
 
 is-alone-requires : tie.Need-is-alone-requires
 is-alone-requires c κs =
-    let a = c .before .before .before .before .before .before in let k = c .before .before .key in (
-      a .pre .0,
-      a .pre .1,
-      a .pre .2,
-      a .pre .3,
-      a .pre .4,
-      chained-more eightInch (entryAt eightInch (a .args .image .now)) (a .args .e) (k .result) (a .args .e + 1) (a .args .r .now) (a .args .chain .now)
-          (a .pre .3) (a .pre .4) (k .ensures .0) (k .ensures .1) (a .pre .1) refl (a .pre .5),
-    )
+    let a = c .before .before .before .before .before .before in (a .pre .0, a .pre .1, a .pre .2, a .pre .3, a .pre .4, more (c .before .before))
 
 same-length : tie.Need-same-length
 same-length c = search needs
 
 returns : tie.Need-returns
-returns c =
-    let a = c .before .before .before .before .before .before .before in let k = c .before .before .before .key in (
-      c .is-alone .ensures,
-      chained-more eightInch (entryAt eightInch (a .args .image .now)) (a .args .e) (k .result) (a .args .e + 1) (a .args .r .now) (a .args .chain .now)
-          (a .pre .3) (a .pre .4) (k .ensures .0) (k .ensures .1) (a .pre .1) refl (a .pre .5),
-    )
+returns c = (c .is-alone .ensures, more (c .before .before .before))
 
 pub take-key-spec : {M : Type 1} → statement M
 take-key-spec =
