@@ -16,19 +16,23 @@ ghost use Rattle.model.specs.Step.{step};
 ghost use Rattle.table.specs.Own.{Call};
 ghost use Rattle.table.specs.Facts.{Fits, Ready};
 ghost use Rattle.table.specs.OwnStep.{ownStep};
+ghost use Rattle.chains.specs.Chain.{chainBytes, Indexed};
 ghost use Rattle.bdos.specs.Numbers.{readCalls, writeCalls, fileCalls, diskCalls, ownCalls};
 use model::Answer;
 use model::Asked;
 use model::Code;
 use model::Session;
 
-// Whether the image is consistent and, except for 13, the map right. Where they are, the marks tell which blocks are listed.
-fn disk_right(number: u8, image: &[u8], map: &[u16], marks: &mut [u8]) -> bool
-    requires { ⌜ (length (now image) ≡ imageBytes eightInch) × (length (now map) ≡ eightInch .blocks) × (length (now marks) ≡ markCount) ⌝ }
+// Whether the image is consistent and, except for 13, the map right. Where they are, the marks tell which blocks are listed, and the
+// chain has the entries by their keys.
+fn disk_right(number: u8, image: &[u8], map: &[u16], marks: &mut [u8], chain: &mut [u8]) -> bool
+    requires { ⌜ (length (now image) ≡ imageBytes eightInch) × (length (now map) ≡ eightInch .blocks) × (length (now marks) ≡ markCount)
+        × (length (now chain) ≡ chainBytes eightInch) ⌝ }
     ensures { λ r. ⌜ ((fcb buffer : Bytes) → r ≡ diskRight eightInch (lend (now (image .entry)) (now (map .entry)) fcb buffer) number)
-        × (r ≡ true → Marked eightInch (entryAt eightInch (now (image .entry))) (now (marks .exit))) ⌝ }
+        × (r ≡ true → Marked eightInch (entryAt eightInch (now (image .entry))) (now (marks .exit))
+        × Indexed eightInch (entryAt eightInch (now (image .entry))) (now (chain .exit))) ⌝ }
 {
-    if !consistent::is_consistent(image, marks) {
+    if !consistent::is_consistent(image, marks, chain) {
         return false;
     }
     if number != 13 {
@@ -37,30 +41,32 @@ fn disk_right(number: u8, image: &[u8], map: &[u16], marks: &mut [u8]) -> bool
     true
 }
 
-// The calls on files and extents: 15, 16, 19, 22, 23, 35 and 36.
+// The calls on files and extents: 15, 16, 19, 22, 23, 35 and 36. chain: as the check of the directory made it.
 fn file_call(
     number: u8,
     image: &mut [u8],
     map: &mut [u16],
     fcb: &mut [u8],
     session: Session,
+    chain: &[u8],
 ) -> Answer
     requires { ⌜ (oneOf number fileCalls ≡ true) × (length (now image) ≡ imageBytes eightInch) × (length (now map) ≡ eightInch .blocks)
-        × (length (now fcb) ≡ fcbBytes) × (session .user ≤ 15) × (mapRight eightInch (entryAt eightInch (now image)) (now map) ≡ true) ⌝ }
+        × (length (now fcb) ≡ fcbBytes) × (session .user ≤ 15) × (mapRight eightInch (entryAt eightInch (now image)) (now map) ≡ true)
+        × Indexed eightInch (entryAt eightInch (now image)) (now chain) ⌝ }
     ensures { λ r. ⌜ ((c : Call number) (argument : ℕ) (buffer : Bytes) → outcome r (now (image .exit)) (now (map .exit)) (now (fcb .exit)) buffer
         ≡ ownStep eightInch argument (lend (now (image .entry)) (now (map .entry)) (now (fcb .entry)) buffer) session c) ⌝ }
 {
     if number == 15 {
-        return files::open_file(image, fcb, session);
+        return files::open_file(image, fcb, session, chain);
     }
     if number == 16 {
-        return closing::close_file(image, map, fcb, session);
+        return closing::close_file(image, map, fcb, session, chain);
     }
     if number == 19 {
         return families::delete_file(image, map, fcb, session);
     }
     if number == 22 {
-        return files::make_file(image, fcb, session);
+        return files::make_file(image, fcb, session, chain);
     }
     if number == 23 {
         return families::rename_file(image, fcb, session);
@@ -91,7 +97,7 @@ fn is_write(number: u8) -> bool
     number == 34
 }
 
-// The calls on records, 20, 21, 33 and 34, and those on files.
+// The calls on records, 20, 21, 33 and 34, and those on files. chain: as the check of the directory made it.
 fn disk_call(
     number: u8,
     image: &mut [u8],
@@ -99,22 +105,24 @@ fn disk_call(
     fcb: &mut [u8],
     buffer: &mut [u8],
     session: Session,
+    chain: &[u8],
 ) -> Answer
     requires { ⌜ (oneOf number diskCalls ≡ true) × Fits eightInch (lend (now image) (now map) (now fcb) (now buffer)) session
-        × (consistent eightInch (now image) ≡ true) × (mapRight eightInch (entryAt eightInch (now image)) (now map) ≡ true) ⌝ }
+        × (consistent eightInch (now image) ≡ true) × (mapRight eightInch (entryAt eightInch (now image)) (now map) ≡ true)
+        × Indexed eightInch (entryAt eightInch (now image)) (now chain) ⌝ }
     ensures { λ r. ⌜ ((c : Call number) (argument : ℕ) → outcome r (now (image .exit)) (now (map .exit)) (now (fcb .exit)) (now (buffer .exit))
         ≡ ownStep eightInch argument (lend (now (image .entry)) (now (map .entry)) (now (fcb .entry)) (now (buffer .entry))) session c) ⌝ }
 {
     if is_read(number) {
-        return records::read_call(number, image, map, fcb, buffer, session);
+        return records::read_call(number, image, map, fcb, buffer, session, chain);
     }
     if is_write(number) {
-        return records::write_call(number, image, map, fcb, buffer, session);
+        return records::write_call(number, image, map, fcb, buffer, session, chain);
     }
-    file_call(number, image, map, fcb, session)
+    file_call(number, image, map, fcb, session, chain)
 }
 
-// Every call but 13, once the first three rows have passed it.
+// Every call but 13, once the first three rows have passed it. chain: as the check of the directory made it.
 fn own_call(
     asked: Asked,
     image: &mut [u8],
@@ -122,9 +130,11 @@ fn own_call(
     fcb: &mut [u8],
     buffer: &mut [u8],
     session: Session,
+    chain: &[u8],
 ) -> Answer
     requires { ⌜ (oneOf (asked .number) ownCalls ≡ true)
-        × Ready eightInch (asked .number) (lend (now image) (now map) (now fcb) (now buffer)) session ⌝ }
+        × Ready eightInch (asked .number) (lend (now image) (now map) (now fcb) (now buffer)) session
+        × Indexed eightInch (entryAt eightInch (now image)) (now chain) ⌝ }
     ensures { λ r. ⌜ ((c : Call (asked .number)) → outcome r (now (image .exit)) (now (map .exit)) (now (fcb .exit)) (now (buffer .exit))
         ≡ ownStep eightInch (asked .argument) (lend (now (image .entry)) (now (map .entry)) (now (fcb .entry)) (now (buffer .entry))) session c) ⌝ }
 {
@@ -144,7 +154,7 @@ fn own_call(
     if number == 98 {
         return plain::free_blocks(map, session);
     }
-    disk_call(number, image, map, fcb, buffer, session)
+    disk_call(number, image, map, fcb, buffer, session, chain)
 }
 
 // One call, whatever it is handed: any number, lengths, bytes and session.
@@ -167,11 +177,12 @@ pub fn call(
         return answers::refuse(Code::BadParameter, session);
     }
     let mut marks = [0u8; format::MARKS];
-    if !disk_right(number, image, map, &mut marks) {
+    let mut chain = [0u8; chains::CHAIN_BYTES];
+    if !disk_right(number, image, map, &mut marks, &mut chain) {
         return answers::refuse(Code::BadDisk, session);
     }
     if number == 13 {
         return plain::log_in(map, &marks, session);
     }
-    own_call(asked, image, map, fcb, buffer, session)
+    own_call(asked, image, map, fcb, buffer, session, &chain)
 }

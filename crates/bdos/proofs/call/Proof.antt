@@ -29,11 +29,11 @@ parameters : (c : tie.Else2) →
 parameters c = sym (c .before .parameters-right .ensures) ∙ not-false _ (c .if2 .left)
 
 ready : (c : tie.Else3) →
-    let s = c .before .before .before .before .before .before .before .before .before .before .before .before .before .before .before .before .before .before in
+    let s = c .before .before .before .before .before .before .before .before .before .before .before .before .before .before .before .before .before .before .before .before in
     Ready eightInch (s .args .asked .number) (given s) (s .args .session)
 ready c =
-    ready-of eightInch _ _ _ (parameters (c .before .before .before .before .before .before))
-    (sym (c .before .before .disk-right .ensures .0 _ _) ∙ not-false _ (c .if3 .left))
+    ready-of eightInch _ _ _ (parameters (c .before .before .before .before .before .before .before .before))
+    (sym (c .before .before .before .disk-right .ensures .0 _ _) ∙ not-false _ (c .if3 .left))
 
 is-call-requires : tie.Need-is-call-requires
 is-call-requires c κs = search needs
@@ -69,9 +69,12 @@ returns-2 c =
 slice-aggregate-disk-right : tie.Need-slice-aggregate-disk-right
 slice-aggregate-disk-right c = search needs
 
+slice-aggregate-disk-right-2 : tie.Need-slice-aggregate-disk-right-2
+slice-aggregate-disk-right-2 c = search needs
+
 disk-right-requires : tie.Need-disk-right-requires
 disk-right-requires c κs =
-    let f = fits-of eightInch _ _ _ (parameters (c .before .before .before)) in (f .image-long, f .map-long, search needs)
+    let f = fits-of eightInch _ _ _ (parameters (c .before .before .before .before)) in (f .image-long, f .map-long, search needs, search needs)
 
 refuse-requires-3 : tie.Need-refuse-requires-3
 refuse-requires-3 c κs = search needs
@@ -90,8 +93,8 @@ same-length-8 c = search needs
 
 returns-3 : tie.Need-returns-3
 returns-3 c =
-    disk-step eightInch _ _ _ _ (called (c .before .before .before .before .before .before .before .before .before .before .before .before .before)) (parameters (c .before .before .before .before .before .before .before))
-    (sym (c .before .before .before .disk-right .ensures .0 _ _) ∙ not-true _ (c .before .if3 .taken)) (c .refuse3 .ensures)
+    disk-step eightInch _ _ _ _ (called (c .before .before .before .before .before .before .before .before .before .before .before .before .before .before .before)) (parameters (c .before .before .before .before .before .before .before .before .before))
+    (sym (c .before .before .before .before .disk-right .ensures .0 _ _) ∙ not-true _ (c .before .if3 .taken)) (c .refuse3 .ensures)
 
 slice-aggregate-log-in : tie.Need-slice-aggregate-log-in
 slice-aggregate-log-in c = search needs
@@ -113,12 +116,19 @@ same-length-12 c = search needs
 
 returns-4 : tie.Need-returns-4
 returns-4 c =
-    let k = call-of _ (called (c .before .before .before .before .before .before .before .before .before .before .before .before .before .before .before .before .before .before)) in
-    c .before .before .log-in .ensures _ _ _ _ (c .before .before .before .before .before .before .before .before .disk-right .ensures .1 (not-false _ (c .before .before .before .before .before .before .if3 .left)))
+    let k = call-of _ (called (c .before .before .before .before .before .before .before .before .before .before .before .before .before .before .before .before .before .before .before .before)) in
+    c .before .before .log-in .ensures _ _ _ _ (c .before .before .before .before .before .before .before .before .before .disk-right .ensures .1 (not-false _ (c .before .before .before .before .before .before .if3 .left)) .0)
     ∙ own-at eightInch _ _ (c .before .before .before .before .before .if4 .taken) k call13 _ ∙ sym (step-own eightInch _ _ _ k refl (ready (c .before .before .before .before .before .before)))
 
+slice-aggregate-own-call : tie.Need-slice-aggregate-own-call
+slice-aggregate-own-call c = search needs
+
 own-call-requires : tie.Need-own-call-requires
-own-call-requires c κs = (call-own _ (called (c .before .before .before .before .before .before .before .before .before .before .before .before .before .before .before .before .before)) (c .before .before .before .before .if4 .left), ready (c .before .before .before .before .before))
+own-call-requires c κs = (
+  call-own _ (called (c .before .before .before .before .before .before .before .before .before .before .before .before .before .before .before .before .before .before .before .before)) (c .before .before .before .before .before .if4 .left),
+  ready (c .before .before .before .before .before .before),
+  c .before .before .before .before .before .before .before .before .before .disk-right .ensures .1 (not-false _ (c .before .before .before .before .before .before .if3 .left)) .1,
+)
 
 same-length-13 : tie.Need-same-length-13
 same-length-13 c = search needs
@@ -134,8 +144,8 @@ same-length-16 c = search needs
 
 returns-5 : tie.Need-returns-5
 returns-5 c =
-    let k = call-of _ (called (c .before .before .before .before .before .before .before .before .before .before .before .before .before .before .before .before .before .before .before .before .before .before .before .before .before .before)) in
-    c .before .before .before .before .before .before .before .before .own-call .ensures k ∙ sym (step-own eightInch _ _ _ k refl (ready (c .before .before .before .before .before .before .before .before .before .before .before .before .before .before)))
+    let k = call-of _ (called (c .before .before .before .before .before .before .before .before .before .before .before .before .before .before .before .before .before .before .before .before .before .before .before .before .before .before .before .before .before)) in
+    c .before .before .before .before .before .before .before .before .own-call .ensures k ∙ sym (step-own eightInch _ _ _ k refl (ready (c .before .before .before .before .before .before .before .before .before .before .before .before .before .before .before)))
 
 pub call-spec : {M : Type 1} → statement M
 call-spec =
@@ -152,6 +162,7 @@ call-spec =
     same-length-4
     returns-2
     slice-aggregate-disk-right
+    slice-aggregate-disk-right-2
     disk-right-requires
     refuse-requires-3
     same-length-5
@@ -166,6 +177,7 @@ call-spec =
     same-length-11
     same-length-12
     returns-4
+    slice-aggregate-own-call
     own-call-requires
     same-length-13
     same-length-14

@@ -10,8 +10,8 @@ is-read-requires c κs = search needs
 
 read-call-requires : tie.Need-read-call-requires
 read-call-requires c κs =
-    let f = c .before .before .before .before .before .before .before .before .before .before .pre .1 in
-    (f .image-long, f .map-long, f .fcb-long, f .buffer-long, f .user-low, c .before .before .before .before .before .before .before .before .before .before .pre .2, one-two _ _ _ (sym (c .before .before .before .before .before .is-read .ensures) ∙ c .before .before .before .before .if1 .taken))
+    let f = c .before .before .before .before .before .before .before .before .before .before .before .pre .1 in
+    (f .image-long, f .map-long, f .fcb-long, f .buffer-long, f .user-low, c .before .before .before .before .before .before .before .before .before .before .before .pre .2, one-two _ _ _ (sym (c .before .before .before .before .before .is-read .ensures) ∙ c .before .before .before .before .if1 .taken), c .before .before .before .before .before .before .before .before .before .before .before .pre .4)
 
 same-length : tie.Need-same-length
 same-length c = search needs
@@ -33,8 +33,8 @@ is-write-requires c κs = search needs
 
 write-call-requires : tie.Need-write-call-requires
 write-call-requires c κs =
-    let f = c .before .before .before .before .before .before .before .before .before .before .before .before .pre .1 in
-    (f .image-long, f .map-long, f .fcb-long, f .buffer-long, f .user-low, c .before .before .before .before .before .before .before .before .before .before .before .before .pre .2, one-two _ _ _ (sym (c .before .before .before .before .before .is-write .ensures) ∙ c .before .before .before .before .if2 .taken))
+    let f = c .before .before .before .before .before .before .before .before .before .before .before .before .before .pre .1 in
+    (f .image-long, f .map-long, f .fcb-long, f .buffer-long, f .user-low, c .before .before .before .before .before .before .before .before .before .before .before .before .before .pre .2, one-two _ _ _ (sym (c .before .before .before .before .before .is-write .ensures) ∙ c .before .before .before .before .if2 .taken), c .before .before .before .before .before .before .before .before .before .before .before .before .before .pre .4)
 
 same-length-5 : tie.Need-same-length-5
 same-length-5 c = search needs
@@ -53,9 +53,9 @@ returns-2 c = λ k argument. c .before .before .before .before .before .before .
 
 file-call-requires : tie.Need-file-call-requires
 file-call-requires c κs =
-    let f = c .before .before .before .before .before .before .before .before .before .before .before .pre .1 in
-    let rest = one-outside _ _ _ (sym (c .before .before .before .before .before .before .is-read .ensures) ∙ c .before .before .before .before .before .if1 .left) (c .before .before .before .before .before .before .before .before .before .before .before .pre .0) in
-    (one-outside _ _ _ (sym (c .before .before .before .before .is-write .ensures) ∙ c .before .before .before .if2 .left) rest, f .image-long, f .map-long, f .fcb-long, f .user-low, c .before .before .before .before .before .before .before .before .before .before .before .pre .3)
+    let f = c .before .before .before .before .before .before .before .before .before .before .before .before .pre .1 in
+    let rest = one-outside _ _ _ (sym (c .before .before .before .before .before .before .is-read .ensures) ∙ c .before .before .before .before .before .if1 .left) (c .before .before .before .before .before .before .before .before .before .before .before .before .pre .0) in
+    (one-outside _ _ _ (sym (c .before .before .before .before .is-write .ensures) ∙ c .before .before .before .if2 .left) rest, f .image-long, f .map-long, f .fcb-long, f .user-low, c .before .before .before .before .before .before .before .before .before .before .before .before .pre .3, c .before .before .before .before .before .before .before .before .before .before .before .before .pre .4)
 
 same-length-9 : tie.Need-same-length-9
 same-length-9 c = search needs

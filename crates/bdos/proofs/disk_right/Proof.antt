@@ -14,29 +14,38 @@ is-consistent-requires c κs = search needs
 same-length : tie.Need-same-length
 same-length c = search needs
 
+same-length-2 : tie.Need-same-length-2
+same-length-2 c = search needs
+
 returns : tie.Need-returns
 returns c =
-    let e = c .before .before .before .is-consistent .ensures in
+    let e = c .before .before .before .before .before .is-consistent .ensures in
     (λ fcb buffer. sym (image-wrong eightInch _ _ (sym (e .0) ∙ not-true _ (c .if1 .taken))), λ t. clash (sym t))
 
 map-right-requires : tie.Need-map-right-requires
 map-right-requires c κs = search needs
 
-same-length-2 : tie.Need-same-length-2
-same-length-2 c = search needs
-
-returns-2 : tie.Need-returns-2
-returns-2 c =
-    let e = c .before .before .before .before .before .before .is-consistent .ensures in
-    let r = not-false _ (c .before .before .before .if1 .left) in
-    (λ fcb buffer. c .map-right .ensures (e .1 r) ∙ sym (map-decides eightInch _ _ (sym (e .0) ∙ r) (c .before .before .if2 .taken)), λ t. e .1 r)
-
 same-length-3 : tie.Need-same-length-3
 same-length-3 c = search needs
 
+same-length-4 : tie.Need-same-length-4
+same-length-4 c = search needs
+
+returns-2 : tie.Need-returns-2
+returns-2 c =
+    let e = c .before .before .before .before .before .before .before .before .is-consistent .ensures in
+    let r = not-false _ (c .before .before .before .if1 .left) in
+    (λ fcb buffer. c .map-right .ensures (e .1 r .0) ∙ sym (map-decides eightInch _ _ (sym (e .0) ∙ r) (c .before .before .if2 .taken)), λ t. e .1 r)
+
+same-length-5 : tie.Need-same-length-5
+same-length-5 c = search needs
+
+same-length-6 : tie.Need-same-length-6
+same-length-6 c = search needs
+
 returns-3 : tie.Need-returns-3
 returns-3 c =
-    let e = c .before .before .before .before .is-consistent .ensures in
+    let e = c .before .before .before .before .before .before .is-consistent .ensures in
     let r = not-false _ (c .before .if1 .left) in
     (λ fcb buffer. sym (log-in-right eightInch _ _ (sym (e .0) ∙ r) (c .if2 .left)), λ t. e .1 r)
 
@@ -46,9 +55,12 @@ disk-right-spec =
     (tie.spec
     is-consistent-requires
     same-length
+    same-length-2
     returns
     map-right-requires
-    same-length-2
-    returns-2
     same-length-3
+    same-length-4
+    returns-2
+    same-length-5
+    same-length-6
     returns-3)

@@ -101,7 +101,7 @@ same-length-15 c = search needs
 
 returns-7 : tie.Need-returns-7
 returns-7 c = λ k argument buffer.
-    let a = one-rest _ _ _ (c .before .before .before .before .before .before .before .if3 .left) (one-rest _ _ _ (c .before .before .before .before .before .before .before .before .if2 .left) (one-rest _ _ _ (c .before .before .before .before .before .before .before .before .before .if1 .left) (c .before .before .before .before .before .before .before .before .before .before .before .before .before .pre .0))) in
+    let a = one-rest _ _ _ (c .before .before .before .before .before .before .before .if3 .left) (one-rest _ _ _ (c .before .before .before .before .before .before .before .before .if2 .left) (one-rest _ _ _ (c .before .before .before .before .before .before .before .before .before .if1 .left) (c .before .before .before .before .before .before .before .before .before .before .before .before .before .before .pre .0))) in
     let b = one-rest _ _ _ (c .before .before .before .before .if6 .left) (one-rest _ _ _ (c .before .before .before .before .before .if5 .left) (one-rest _ _ _ (c .before .before .before .before .before .before .if4 .left) a)) in
     c .before .before .random-record .ensures argument _ _ buffer ∙ own-at eightInch _ _ (one-left _ _ b) k call36 argument
 

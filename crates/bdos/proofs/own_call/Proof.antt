@@ -64,12 +64,13 @@ returns-5 c = λ k. c .before .before .free-blocks .ensures _ _ _ _ ∙ own-at e
 
 disk-call-requires : tie.Need-disk-call-requires
 disk-call-requires c κs =
-    let p = c .before .before .before .before .before .before .before .before .before .before .before .before .before .pre in
+    let p = c .before .before .before .before .before .before .before .before .before .before .before .before .before .before .pre in
     let r = p .1 in (
       one-rest _ _ _ (c .before .before .before .before .if5 .left) (one-rest _ _ _ (c .before .before .before .before .before .if4 .left) (one-rest _ _ _ (c .before .before .before .before .before .before .if3 .left) (one-rest _ _ _ (c .before .before .before .before .before .before .before .if2 .left) (one-rest _ _ _ (c .before .before .before .before .before .before .before .before .if1 .left) (p .0))))),
       r .fits,
       r .image-right,
       r .map-right (not-log-in _ (p .0)),
+      p .2,
     )
 
 same-length-9 : tie.Need-same-length-9
