@@ -2,19 +2,21 @@
 use mathlib.Core.Path.{_≡_, sym, ap, _∙_}
 use mathlib.Core.Bool.{Bool, true, false, cond}
 use Prim.Native.Nat.{ℕ, _+_, _-_, _≤_, _<_}
+use native.Mathlib.Nat.{zero-add}
 use lib.Dec.{eqb}
 use lib.ListN.{getD}
 use borrow.Author.Tests.{leb-true, le-leb, eqb-true, eq-eqb, ne-eqb}
-use Rattle.lists.specs.Cases.{split}
+use Rattle.lists.specs.Cases.{split, bool-ext}
 use Rattle.lists.specs.Tests.{_and_, _or_, and-left, and-right, and-both, and-then, or-then, or-left, or-right, or-cases}
-use Rattle.lists.specs.Below.{allBelow, all-at, all-intro, all-next}
+use Rattle.lists.specs.Below.{allBelow, all-at, all-intro, all-cong, all-next}
 use lib.Bits.{bitOr, bitXor}
 use Rattle.lists.specs.Bits.{or-zero, xor-zero}
 use Rattle.format.specs.Diskette.{Bytes, Geometry, slotCount}
 use Rattle.format.specs.Names.{nameRight}
 use Rattle.format.specs.Entries.{Rows, slotsOf, slotOf, extentOf, findFile}
 use Rattle.format.specs.Notes.{pendingFor, noteAt}
-use Rattle.format.specs.Fcb.{crOf, fcbRight, slotFits, slotsFit, current}
+use Rattle.format.specs.Fcb.{crOf, crRight, fcbRight, slotFits, slotsFit, current}
+use Rattle.heads.specs.Head.{fieldsRight}
 use Rattle.facts.specs.Slots.{getD-slotsOf}
 use Rattle.facts.specs.Found.{FirstAt}
 use Rattle.facts.specs.Find.{fileTest, file-says}
@@ -40,6 +42,14 @@ fcb-says fcb t = record {
 pub fcb-is : (fcb : Bytes) → FcbOk fcb → fcbRight fcb ≡ true
 unfolding fcbRight
 fcb-is fcb f = and-both _ _ (f .name) (and-both _ _ (numbers-intro fcb (f .numbers)) (le-leb _ _ (f .cr)))
+
+-- the name and the numbers first, and then cr
+pub fcb-fields : (fcb : Bytes) → fcbRight fcb ≡ (fieldsRight fcb and crRight fcb)
+unfolding fcbRight fieldsRight
+fcb-fields fcb =
+    bool-ext _ _
+    (λ t. and-both _ _ (and-both _ _ (and-left _ _ t) (and-left _ _ (and-right _ _ t))) (and-right _ _ (and-right _ _ t)))
+    (λ t. and-both _ _ (and-left _ _ (and-left _ _ t)) (and-both _ _ (and-right _ _ (and-left _ _ t)) (and-right _ _ t)))
 
 -- ---- the slots
 -- slot j of the FCB fits entry e, whose row is r
@@ -85,10 +95,22 @@ pub same-slots-fit : (map es fs : Bytes) (e : ℕ) → slotsSame es fs ≡ true 
 unfolding slotsSame slotsFit slotFits
 same-slots-fit map es fs e t = all-intro (slotFits map e es fs) slotCount (λ j h. or-left _ _ (all-at _ slotCount t j h))
 
--- a turn of the loop that or-s the bits in which slots differ
-pub same-more : (es fs : Bytes) (d j : ℕ) → eqb d 0 ≡ allBelow (λ (k : ℕ). eqb (getD fs k 0) (getD es k 0)) j
-    → eqb (bitOr d (bitXor (getD fs j 0) (getD es j 0))) 0 ≡ allBelow (λ (k : ℕ). eqb (getD fs k 0) (getD es k 0)) (j + 1)
-same-more es fs d j h = or-zero d _ ∙ rw (h, xor-zero (getD fs j 0) (getD es j 0)) (sym (all-next _ j))
+-- the same where the sixteen bytes stand from a place on: in slots taken out, and in rows
+unfoldable pub sameFrom : Bytes → Bytes → ℕ → Bool
+sameFrom r t at = allBelow (λ (j : ℕ). eqb (getD t (at + j) 0) (getD r (at + j) 0)) slotCount
+
+pub same-out : (es fs : Bytes) → sameFrom es fs 0 ≡ slotsSame es fs
+unfolding sameFrom slotsSame
+same-out es fs = all-cong _ _ slotCount (λ j h. rw zero-add)
+
+pub same-in : (r t : Bytes) → sameFrom r t 16 ≡ slotsSame (slotsOf r) (slotsOf t)
+unfolding sameFrom slotsSame slotOf
+same-in r t = all-cong _ _ slotCount (λ j h. rw (getD-slotsOf r j h, getD-slotsOf t j h))
+
+-- a turn of the loop that or-s the bits in which bytes differ
+pub same-more : (r t : Bytes) (at d j : ℕ) → eqb d 0 ≡ allBelow (λ (k : ℕ). eqb (getD t (at + k) 0) (getD r (at + k) 0)) j
+    → eqb (bitOr d (bitXor (getD t (at + j) 0) (getD r (at + j) 0))) 0 ≡ allBelow (λ (k : ℕ). eqb (getD t (at + k) 0) (getD r (at + k) 0)) (j + 1)
+same-more r t at d j h = or-zero d _ ∙ rw (h, xor-zero (getD t (at + j) 0) (getD r (at + j) 0)) (sym (all-next _ j))
 
 -- ---- the FCB is current, and e is its entry
 module _ (G : Geometry) (d : Rows) (map : Bytes) (user : ℕ) (fcb : Bytes) where

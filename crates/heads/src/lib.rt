@@ -10,7 +10,7 @@ ghost use Rattle.lists.specs.Tab.{tab};
 ghost use Rattle.format.specs.Diskette.{entryBytes};
 ghost use Rattle.format.specs.Names.{nameBytes};
 ghost use Rattle.heads.specs.Bytes.{headBytes, faultOf};
-ghost use Rattle.heads.specs.Head.{rowRight};
+ghost use Rattle.heads.specs.Head.{fieldsRight, rowRight, headFault};
 ghost use Rattle.heads.specs.Key.{mixed, keyFrom, keyOf, fileKey, keyCount};
 
 const HEAD_BYTES: usize = 16;
@@ -125,10 +125,10 @@ fn find_faults(
     }
 }
 
-// Whether a row has a user, a name and numbers in range.
-pub fn row_right(r: &[u8]) -> bool
-    requires { ⌜ entryBytes ≤ length (now r) ⌝ }
-    ensures { λ b. ⌜ b ≡ rowRight (now (r .entry)) ⌝ }
+// What is wrong with each byte of a head, by the tables.
+fn head_faults(r: &[u8]) -> [u8; HEAD_BYTES]
+    requires { ⌜ headBytes ≤ length (now r) ⌝ }
+    ensures { λ f. ⌜ f ≡ tab headBytes (headFault (now (r .entry))) ⌝ }
 {
     let counted = COUNTED;
     let lowest = LOWEST;
@@ -136,7 +136,25 @@ pub fn row_right(r: &[u8]) -> bool
     let barred = BARRED;
     let mut faults = [0u8; HEAD_BYTES];
     find_faults(r, &counted, &lowest, &highest, &barred, &mut faults);
+    faults
+}
+
+// Whether a row has a user, a name and numbers in range.
+pub fn row_right(r: &[u8]) -> bool
+    requires { ⌜ entryBytes ≤ length (now r) ⌝ }
+    ensures { λ b. ⌜ b ≡ rowRight (now (r .entry)) ⌝ }
+{
+    let faults = head_faults(r);
     lanes::word(&faults, 0) | lanes::word(&faults, 8) == 0
+}
+
+// Whether a row or an FCB has a name and numbers in range, whatever its byte 0 is.
+pub fn fields_right(r: &[u8]) -> bool
+    requires { ⌜ entryBytes ≤ length (now r) ⌝ }
+    ensures { λ b. ⌜ b ≡ fieldsRight (now (r .entry)) ⌝ }
+{
+    let faults = head_faults(r);
+    lanes::word(&faults, 0) / 256 | lanes::word(&faults, 8) == 0
 }
 
 // The number of keys.

@@ -1,7 +1,7 @@
 -- List ℕ side by side in one number, the first lowest, each in a lane of its own: what is done to the number is done to every byte at
 -- once, as long as no sum leaves its lane.
 use mathlib.Core.Path.{_≡_, refl, ap, _∙_}
-use Prim.Native.Nat.{ℕ, zero, suc, _+_, _-_, _*_, _<_}
+use Prim.Native.Nat.{ℕ, zero, suc, _+_, _-_, _*_, _/_, _<_}
 use native.Mathlib.Nat.{add-zero}
 use native.Mathlib.Omega.{arith}
 use lib.ListN.{getD}
@@ -96,3 +96,15 @@ word-zero l at e i h = lanes-zero 8 (λ (k : ℕ). getD l (at + k) 0) e i h
 pub zero-word : (l : List ℕ) (at : ℕ) → ((i : ℕ) → i < 8 → getD l (at + i) 0 ≡ 0) → wordAt l at ≡ 0
 unfolding wordAt
 zero-word l at p = zero-lanes 8 (λ (i : ℕ). getD l (at + i) 0) p
+
+-- ---- a word without its first byte
+module _ (l : List ℕ) (at : ℕ) (byte : getD l at 0 < 256) where
+  pub word-rest : wordAt l at ≡ lanes 7 (λ (i : ℕ). getD l (at + suc i) 0) * 256 + getD l at 0
+  unfolding wordAt lanes
+  word-rest = rw add-zero refl
+
+  pub rest-zero : wordAt l at / 256 ≡ 0 → (i : ℕ) → i < 7 → getD l (at + suc i) 0 ≡ 0
+  rest-zero e i h = lanes-zero 7 (λ (k : ℕ). getD l (at + suc k) 0) (omega (arith, word-rest)) i h
+
+  pub zero-rest : ((i : ℕ) → i < 7 → getD l (at + suc i) 0 ≡ 0) → wordAt l at / 256 ≡ 0
+  zero-rest p = let z = zero-lanes 7 (λ (i : ℕ). getD l (at + suc i) 0) p in omega (arith, word-rest)

@@ -4,7 +4,7 @@ ghost use Prim.Native.Nat.{_+_, _*_, _≤_, _<_};
 ghost use lib.ListN.{length};
 ghost use Rattle.format.specs.Diskette.{eightInch, imageBytes, recordBytes, recordAt, entryBytes, entriesPerRecord, slotCount};
 ghost use Rattle.format.specs.Names.{nameBytes};
-ghost use Rattle.format.specs.Consistent.{extentRight, numbersRight};
+ghost use Rattle.format.specs.Consistent.{extentRight};
 ghost use Rattle.format.specs.Entries.{entryPlace, entryAt, withEntry, slotsOf, extentOf, covers, countIn, slotFor, named, isFile, findNamed, findEmpty};
 ghost use Rattle.rows.specs.Entries.{rowOf};
 use format::ENTRIES;
@@ -121,17 +121,6 @@ pub fn extent_right(r: &[u8]) -> bool
         return false;
     }
     r[14] <= 63
-}
-
-// Whether ex, s2 and rc are.
-pub fn numbers_right(r: &[u8]) -> bool
-    requires { ⌜ entryBytes ≤ length (now r) ⌝ }
-    ensures { λ b. ⌜ b ≡ numbersRight (now (r .entry)) ⌝ }
-{
-    if !extent_right(r) {
-        return false;
-    }
-    r[15] <= 128
 }
 
 // Whether a row is the user's, and its name is what the name in s at q asks for.

@@ -1,53 +1,27 @@
--- `current::slots_same` meets its contract. The invariant: no bit differs exactly where the slots below j are the same.
-use mathlib.Core.Path.{_≡_, sym}
-use Prim.Native.Nat.{ℕ, _-_, _≤_}
-use native.Mathlib.Omega.{arith}
-use lib.Dec.{eqb}
-use lib.ListN.{getD}
-use Rattle.lists.specs.Below.{allBelow, all-none}
-use Rattle.format.specs.Diskette.{slotCount}
-use Rattle.current.specs.Current.{slotsSame, same-more}
+-- The sixteen slots taken out stand from 0 on.
+use mathlib.Core.Path.{_∙_}
+use borrow.Author.Needs.{needs}
+use Rattle.current.specs.Current.{same-out}
 use Rattle.current.proofs.slots_same.Statement.{statement}
 use Rattle.current.proofs.slots_same.Tie as tie
 
-abbrev Inv-loop : tie.InvT-loop
-Inv-loop es fs differ₀ j₀ differ j = (eqb differ 0 ≡ allBelow (λ (k : ℕ). eqb (getD fs k 0) (getD es k 0)) j) × (j ≤ slotCount)
+slice-aggregate-same-from : tie.Need-slice-aggregate-same-from
+slice-aggregate-same-from c = search needs
 
-abbrev μ-loop : tie.MeasureT-loop
-μ-loop es fs differ₀ j₀ differ j = slotCount - j
+slice-aggregate-same-from-2 : tie.Need-slice-aggregate-same-from-2
+slice-aggregate-same-from-2 c = search needs
 
-loop-holds : tie.Need-loop-holds Inv-loop μ-loop
-loop-holds c = (sym (all-none _), omega arith)
+same-from-requires : tie.Need-same-from-requires
+same-from-requires c κs = search needs
 
-array-read-differ : tie.Need-array-read-differ Inv-loop μ-loop
-array-read-differ c = omega arith
-
-array-read-differ-2 : tie.Need-array-read-differ-2 Inv-loop μ-loop
-array-read-differ-2 c = omega arith
-
-add-j : tie.Need-add-j Inv-loop μ-loop
-add-j c = omega arith
-
-loop-less : tie.Need-loop-less Inv-loop μ-loop
-loop-less c = omega arith
-
-loop-again : tie.Need-loop-again Inv-loop μ-loop
-loop-again c = let l = c .before .loop in let a = c .before .before .args in (same-more (a .t1) (a .t2) (l .differ) (l .j) (l .inv .0), omega arith)
-
-returns : tie.Need-returns Inv-loop μ-loop
-unfolding slotsSame
-returns c = let l = c .before .loop in let q : l .j ≡ slotCount = omega arith in rw q at (l .inv .0)
+returns : tie.Need-returns
+returns c = c .same-from .ensures ∙ same-out _ _
 
 pub slots-same-spec : {M : Type 1} → statement M
 slots-same-spec =
     tie.close
     (tie.spec
-    Inv-loop
-    μ-loop
-    loop-holds
-    array-read-differ
-    array-read-differ-2
-    add-j
-    loop-less
-    loop-again
+    slice-aggregate-same-from
+    slice-aggregate-same-from-2
+    same-from-requires
     returns)

@@ -1,0 +1,39 @@
+-- Without the fault of byte 0 they are 0 exactly where the fields are right.
+use native.Mathlib.Omega.{arith}
+use Rattle.heads.specs.Head.{fields-tell}
+use borrow.Author.Needs.{needs}
+use Rattle.heads.proofs.fields_right.Statement.{statement}
+use Rattle.heads.proofs.fields_right.Tie as tie
+
+head-faults-requires : tie.Need-head-faults-requires
+head-faults-requires c κs = search needs
+
+slice-aggregate-word : tie.Need-slice-aggregate-word
+slice-aggregate-word c = search needs
+
+word-requires : tie.Need-word-requires
+word-requires c κs = search needs
+
+slice-aggregate-word-2 : tie.Need-slice-aggregate-word-2
+slice-aggregate-word-2 c = search needs
+
+word-requires-2 : tie.Need-word-requires-2
+word-requires-2 c κs = search needs
+
+returns : tie.Need-returns
+returns c =
+    let a = c .before .before .before .before .before .before in let known = c .before .before .before .before .before .shared-slice-known in
+    let w = c .before .before .word .ensures in
+    rw (w .0, c .word2 .ensures .0)
+    (fields-tell (a .args .r .now) (λ i h. omega (arith, known .given i)) _ (c .before .before .before .before .head-faults .ensures) (w .1 0 (omega arith)))
+
+pub fields-right-spec : {M : Type 1} → statement M
+fields-right-spec =
+    tie.close
+    (tie.spec
+    head-faults-requires
+    slice-aggregate-word
+    word-requires
+    slice-aggregate-word-2
+    word-requires-2
+    returns)
