@@ -14,7 +14,7 @@ use Rattle.format.specs.Consistent.{slotsRight, entryRight, slotsInAll, listedO
 use Rattle.facts.specs.Marks.{markCount}
 use Rattle.consistency.specs.Listed.{listed-unused}
 use Rattle.consistency.specs.Reflect.{used-full, empty-right, alone-intro, same-used-left}
-use Rattle.heads.specs.Head.{rowRight}
+use Rattle.heads.specs.Head.{fieldsRight, rowRight}
 use Rattle.blocks.specs.BlockMarks.{BlockMarks, markSlots, slotsFree, marks-skip, marks-row, slots-right}
 use Rattle.chains.specs.Chain.{Chained, chained-skip, Indexed}
 
@@ -73,7 +73,7 @@ module _ (G : Geometry) (d : Rows) (e : ℕ) where
 
   -- of an entry that is not empty the rest of the rule decides
   full-right : empty (d e) ≡ false → entryRight G (d e) ≡ (rowRight (d e) and slotsRight G (d e))
-  unfolding entryRight rowRight
+  unfolding entryRight rowRight fieldsRight
   full-right h =
       or-then _ _ h
       ∙ bool-ext _ _
