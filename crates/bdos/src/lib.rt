@@ -41,7 +41,7 @@ fn disk_right(number: u8, image: &[u8], map: &[u16], marks: &mut [u8], chain: &m
     true
 }
 
-// The calls on files and extents: 15, 16, 19, 22, 23, 35 and 36. chain: as the check of the directory made it.
+// The calls on files and extents: 15, 16, 19, 22, 23, 35 and 36.
 fn file_call(
     number: u8,
     image: &mut [u8],
@@ -97,7 +97,7 @@ fn is_write(number: u8) -> bool
     number == 34
 }
 
-// The calls on records, 20, 21, 33 and 34, and those on files. chain: as the check of the directory made it.
+// The calls on records, 20, 21, 33 and 34, and those on files.
 fn disk_call(
     number: u8,
     image: &mut [u8],
@@ -122,7 +122,7 @@ fn disk_call(
     file_call(number, image, map, fcb, session, chain)
 }
 
-// Every call but 13, once the first three rows have passed it. chain: as the check of the directory made it.
+// Every call but 13, once the first three rows have passed it.
 fn own_call(
     asked: Asked,
     image: &mut [u8],

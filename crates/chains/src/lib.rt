@@ -1,4 +1,5 @@
-// Entries by their keys: the chains that the check of the directory makes, and the look-up of a file along them.
+// Entries by their keys: the chains that the check of the directory makes, and the look-up of a file along them. Every function that
+// looks a file up is lent the chains; `Indexed` says that they are as the check has left them.
 ghost use mathlib.Core.Path.{_≡_};
 ghost use mathlib.Core.Bool.{true};
 ghost use Prim.Native.Nat.{_+_, _≤_, _<_};

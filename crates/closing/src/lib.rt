@@ -125,8 +125,7 @@ fn clear_attributes(fcb: &mut [u8])
     fcb[6] = fcb[6] % 128;
 }
 
-// Call 16, once the disk and the parameters are known to be right. The transfer buffer is not touched. chain: as the check
-// of the directory made it.
+// Call 16, once the disk and the parameters are known to be right. The transfer buffer is not touched.
 pub fn close_file(
     image: &mut [u8],
     map: &mut [u16],

@@ -79,7 +79,7 @@ pub fn slots_fit(map: &[u16], e: usize, es: [u8; 16], fs: [u8; 16]) -> bool
     true
 }
 
-// The entry of a current FCB. chain: as the check of the directory made it.
+// The entry of a current FCB.
 pub fn current_entry(image: &[u8], map: &[u16], chain: &[u8], user: u8, fcb: &[u8]) -> Found
     requires { ⌜ (length (now image) ≡ imageBytes eightInch) × (length (now fcb) ≡ fcbBytes) × (user ≤ 15)
         × Indexed eightInch (entryAt eightInch (now image)) (now chain) ⌝ }

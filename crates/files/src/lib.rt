@@ -32,7 +32,7 @@ fn asks_right(fcb: &[u8]) -> bool
     names::name_right(false, fcb, 1)
 }
 
-// The entry that 15 and 22 ask for: of the FCB's name, with ex = byte 12 and s2 0. chain: as the check of the directory made it.
+// The entry that 15 and 22 ask for: of the FCB's name, with ex = byte 12 and s2 0.
 fn find_asked(image: &[u8], chain: &[u8], user: u8, fcb: &[u8]) -> Found
     requires { ⌜ (length (now image) ≡ imageBytes eightInch) × (length (now fcb) ≡ fcbBytes) × (user ≤ 15)
         × Indexed eightInch (entryAt eightInch (now image)) (now chain) ⌝ }
@@ -41,7 +41,7 @@ fn find_asked(image: &[u8], chain: &[u8], user: u8, fcb: &[u8]) -> Found
     chains::find_file(image, chain, user, fcb, 1, lists::wide(fcb[12]))
 }
 
-// 15: the FCB takes the entry of its name and of the extent that byte 12 gives. chain: as the check of the directory made it.
+// 15: the FCB takes the entry of its name and of the extent that byte 12 gives.
 pub fn open_file(image: &[u8], fcb: &mut [u8], session: Session, chain: &[u8]) -> Answer
     requires { ⌜ (length (now image) ≡ imageBytes eightInch) × (length (now fcb) ≡ fcbBytes) × (session .user ≤ 15)
         × Indexed eightInch (entryAt eightInch (now image)) (now chain) ⌝ }
@@ -58,7 +58,7 @@ pub fn open_file(image: &[u8], fcb: &mut [u8], session: Session, chain: &[u8]) -
     answers::done((e % ENTRIES_PER_RECORD) as u8, session)
 }
 
-// 22: the first empty entry becomes the new file's, and the FCB takes it. chain: as the check of the directory made it.
+// 22: the first empty entry becomes the new file's, and the FCB takes it.
 pub fn make_file(image: &mut [u8], fcb: &mut [u8], session: Session, chain: &[u8]) -> Answer
     requires { ⌜ (length (now image) ≡ imageBytes eightInch) × (length (now fcb) ≡ fcbBytes) × (session .user ≤ 15)
         × Indexed eightInch (entryAt eightInch (now image)) (now chain) ⌝ }

@@ -134,7 +134,7 @@ fn follow_write(
     );
 }
 
-// Calls 20 and 33, once the disk and the parameters are known to be right. chain: as the check of the directory made it.
+// Calls 20 and 33, once the disk and the parameters are known to be right.
 pub fn read_call(
     number: u8,
     image: &mut [u8],
@@ -160,7 +160,7 @@ pub fn read_call(
     }
 }
 
-// Calls 21 and 34, once the disk and the parameters are known to be right. chain: as the check of the directory made it.
+// Calls 21 and 34, once the disk and the parameters are known to be right.
 pub fn write_call(
     number: u8,
     image: &mut [u8],

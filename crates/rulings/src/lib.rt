@@ -43,7 +43,7 @@ fn read_to(
     Ruling::Follow(targets::go_to(e, t, lists::wide(slot)))
 }
 
-// What 20 and 33 are told. chain: as the check of the directory made it.
+// What 20 and 33 are told.
 pub fn rule_read(
     number: u8,
     target: Target,
@@ -142,7 +142,7 @@ fn write_to(
     Ruling::Follow(targets::go_to(e, t, b))
 }
 
-// What 21 and 34 are told. chain: as the check of the directory made it.
+// What 21 and 34 are told.
 pub fn rule_write(
     number: u8,
     target: Target,

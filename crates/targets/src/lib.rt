@@ -78,8 +78,7 @@ pub fn missing(number: u8, random: Code) -> Code
     Code::NoRecord
 }
 
-// The target's entry, where e is the FCB's: the same one where there is no move, so that only a move looks it up. chain: as the check
-// of the directory made it.
+// The target's entry, where e is the FCB's: the same one where there is no move, so that only a move looks it up.
 pub fn target_entry(
     image: &[u8],
     chain: &[u8],
