@@ -13,7 +13,7 @@ use Rattle.lists.specs.Below.{lastBelow, last-none, last-hit, last-miss}
 use Rattle.format.specs.Diskette.{Bytes, Geometry}
 use Rattle.format.specs.Entries.{Rows, used}
 use Rattle.format.specs.Consistent.{alone}
-use Rattle.heads.specs.Key.{keyCount, keyOf}
+use Rattle.keys.specs.Key.{keyCount, keyOf}
 
 -- the key of entry f; keyCount, which is no key, where it is not used
 unfoldable pub keyIn : Rows → ℕ → ℕ

@@ -10,7 +10,7 @@ ghost use Rattle.format.specs.Entries.{Rows, entryAt, used, findFile};
 ghost use Rattle.format.specs.Consistent.{sameFile, alone};
 ghost use Rattle.chains.specs.Chain.{chainBytes, Chained, Indexed};
 use format::Found;
-use heads::KEYS;
+use keys::KEYS;
 
 // A number for each key, and then one for each entry.
 pub const CHAIN_BYTES: usize = KEYS + format::ENTRIES;
@@ -56,7 +56,7 @@ pub fn take_key(image: &[u8], e: usize, r: &[u8], chain: &mut [u8]) -> bool
     ensures { λ b. ⌜ (b ≡ alone eightInch (entryAt eightInch (now (image .entry))) e)
         × Chained eightInch (entryAt eightInch (now (image .entry))) (e + 1) (now (chain .exit)) ⌝ }
 {
-    let k = heads::key(r);
+    let k = keys::key(r);
     chain[KEYS + e] = chain[k];
     chain[k] = (e + 1) as u8;
     is_alone(image, e, r, chain)
@@ -68,7 +68,7 @@ pub fn find_file(image: &[u8], chain: &[u8], user: u8, s: &[u8], q: usize, ext: 
         × Indexed eightInch (entryAt eightInch (now image)) (now chain) ⌝ }
     ensures { λ r. ⌜ r ≡ findFile eightInch (entryAt eightInch (now (image .entry))) user (now (s .entry)) q ext ⌝ }
 {
-    let mut f = lists::wide(chain[heads::file_key(user, s, q, ext)]);
+    let mut f = lists::wide(chain[keys::file_key(user, s, q, ext)]);
     while f != 0 {
         if rows::is_file(user, s, q, ext, rows::row(image, f - 1)) {
             return Found::At(f - 1);

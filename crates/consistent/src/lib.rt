@@ -12,6 +12,8 @@ ghost use Rattle.chains.specs.Chain.{chainBytes, Indexed};
 ghost use Rattle.consistent.specs.Pass.{entryFits, Passed};
 use format::DIRECTORY_RECORDS;
 use format::ENTRIES_PER_RECORD;
+use format::ENTRY_BYTES;
+use format::RECORD_BYTES;
 
 // Whether entry e passes, after all before it have; r is its row.
 fn take_entry(image: &[u8], e: usize, r: &[u8], marks: &mut [u8], chain: &mut [u8]) -> bool
@@ -41,13 +43,13 @@ fn take_record(image: &[u8], d: usize, marks: &mut [u8], chain: &mut [u8]) -> bo
         × (b ≡ true → Passed eightInch (entryAt eightInch (now (image .entry))) (entriesPerRecord * d + entriesPerRecord) (now (marks .exit)) (now (chain .exit))) ⌝ }
 {
     let four = rows::four_rows(image, d);
-    let mut i = 0;
-    while i < ENTRIES_PER_RECORD {
-        let r = rows::row_of(four, i);
-        if !take_entry(image, ENTRIES_PER_RECORD * d + i, r, marks, chain) {
+    let mut at = 0;
+    while at < RECORD_BYTES {
+        let e = ENTRIES_PER_RECORD * d + at / ENTRY_BYTES;
+        if !take_entry(image, e, rows::row_at(four, at), marks, chain) {
             return false;
         }
-        i += 1;
+        at += ENTRY_BYTES;
     }
     true
 }

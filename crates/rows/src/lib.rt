@@ -2,11 +2,11 @@
 ghost use mathlib.Core.Path.{_≡_};
 ghost use Prim.Native.Nat.{_+_, _*_, _≤_, _<_};
 ghost use lib.ListN.{length};
+ghost use Rattle.lists.specs.Splice.{part};
 ghost use Rattle.format.specs.Diskette.{eightInch, imageBytes, recordBytes, recordAt, entryBytes, entriesPerRecord, slotCount};
 ghost use Rattle.format.specs.Names.{nameBytes};
 ghost use Rattle.format.specs.Consistent.{extentRight};
 ghost use Rattle.format.specs.Entries.{entryPlace, entryAt, withEntry, slotsOf, extentOf, covers, countIn, slotFor, named, isFile, findNamed, findEmpty};
-ghost use Rattle.rows.specs.Entries.{rowOf};
 use format::ENTRIES;
 use format::ENTRIES_PER_RECORD;
 use format::ENTRY_BYTES;
@@ -40,12 +40,11 @@ pub fn four_rows(image: &[u8], d: usize) -> &[u8]
     &image[at..end]
 }
 
-// The i-th row of four.
-pub fn row_of(four: &[u8], i: usize) -> &[u8]
-    requires { ⌜ (length (now four) ≡ recordBytes) × (i < entriesPerRecord) ⌝ }
-    ensures { λ r. ⌜ (now r ≡ rowOf (now (four .entry)) i) × (length (now r) ≡ entryBytes) ⌝ }
+// The row that begins at a place among four. A loop over them goes from place to place.
+pub fn row_at(four: &[u8], at: usize) -> &[u8]
+    requires { ⌜ (length (now four) ≡ recordBytes) × (at + entryBytes ≤ recordBytes) ⌝ }
+    ensures { λ r. ⌜ (now r ≡ part (now (four .entry)) at entryBytes) × (length (now r) ≡ entryBytes) ⌝ }
 {
-    let at = i * ENTRY_BYTES;
     let end = at + ENTRY_BYTES;
     &four[at..end]
 }

@@ -6,7 +6,7 @@ use native.Mathlib.Omega.{arith}
 use borrow.Author.Needs.{needs}
 use Rattle.format.specs.Diskette.{eightInch}
 use Rattle.format.specs.Entries.{Rows, entryAt}
-use Rattle.heads.specs.Key.{fileKey, asked-below}
+use Rattle.keys.specs.Key.{fileKey, asked-below}
 use Rattle.facts.specs.Find.{fileTest}
 use Rattle.chains.specs.Chain.{keyIn}
 use Rattle.chains.specs.Walk.{Walk, walk-all, walk-more, walk-less, file-only, find-hit, find-end}

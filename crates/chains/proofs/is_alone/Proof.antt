@@ -7,7 +7,7 @@ use borrow.Author.Needs.{needs}
 use Rattle.format.specs.Diskette.{eightInch}
 use Rattle.format.specs.Entries.{Rows, entryAt, used}
 use Rattle.format.specs.Consistent.{sameFile}
-use Rattle.heads.specs.Key.{keyOf, key-below}
+use Rattle.keys.specs.Key.{keyOf, key-below}
 use Rattle.chains.specs.Walk.{Walk, walk-used, walk-before, walk-more, walk-less, sameAs, same-only, alone-hit, alone-end}
 use Rattle.chains.proofs.is_alone.Statement.{statement}
 use Rattle.chains.proofs.is_alone.Tie as tie

@@ -1,14 +1,15 @@
--- The loop keeps that the first i of the four entries pass, and what stands after them.
+-- The loop keeps that the entries before the place pass, and what stands after them.
 use Rattle.consistent.specs.Pass.{entryFits, Passed}
 use Rattle.rows.specs.Entries.{rowOf, row-in-record}
 use Rattle.disk.specs.Eight.{eight-sound}
 use Rattle.format.specs.Entries.{entryAt}
-use Rattle.format.specs.Diskette.{Bytes, eightInch, entriesPerRecord}
+use Rattle.lists.specs.Splice.{part}
+use Rattle.format.specs.Diskette.{Bytes, eightInch, entryBytes, recordBytes, entriesPerRecord}
 use Rattle.lists.specs.Below.{allBelow, all-none, all-more, all-fails, all-done}
 use Rattle.lists.specs.Cases.{clash}
 use borrow.Author.Tests.{not-true, not-false}
 use lib.ListN.{length}
-use Prim.Native.Nat.{ℕ, _+_, _*_, _-_, _≤_}
+use Prim.Native.Nat.{ℕ, _+_, _*_, _-_, _/_, _%_, _≤_}
 use native.Mathlib.Nat.{add-zero, add-assoc}
 use mathlib.Core.Bool.{Bool, true}
 use mathlib.Core.Path.{_≡_, refl, sym, ap, _∙_}
@@ -22,33 +23,35 @@ abbrev fits : Bytes → ℕ → ℕ → Bool
 fits image d i = entryFits eightInch (entryAt eightInch image) (entriesPerRecord * d + i)
 
 abbrev Inv-loop : tie.InvT-loop
-Inv-loop image d marks₀ chain₀ four i₀ marks chain i =
-    (allBelow (fits image d) i ≡ true) × Passed eightInch (entryAt eightInch image) (entriesPerRecord * d + i) marks chain × (i ≤ 4)
-    × (length marks ≡ length marks₀) × (length chain ≡ length chain₀)
+Inv-loop image d marks₀ chain₀ four at₀ marks chain at =
+    (allBelow (fits image d) (at / entryBytes) ≡ true) × Passed eightInch (entryAt eightInch image) (entriesPerRecord * d + at / entryBytes) marks chain
+    × (at % entryBytes ≡ 0) × (at ≤ recordBytes) × (length marks ≡ length marks₀) × (length chain ≡ length chain₀)
 
 abbrev μ-loop : tie.MeasureT-loop
-μ-loop image d marks₀ chain₀ four i₀ marks chain i = 4 - i
+μ-loop image d marks₀ chain₀ four at₀ marks chain at = recordBytes - at
 
 four-rows-requires : tie.Need-four-rows-requires Inv-loop μ-loop
 four-rows-requires c κs = search needs
 
 loop-holds : tie.Need-loop-holds Inv-loop μ-loop
-loop-holds c = (all-none _, rw add-zero (c .before .before .before .before .pre .2), omega arith, refl, refl)
+loop-holds c = (all-none _, rw add-zero (c .before .before .before .before .pre .2), refl, omega arith, refl, refl)
 
-row-of-requires : tie.Need-row-of-requires Inv-loop μ-loop
-row-of-requires c κs = search needs
+mul-e : tie.Need-mul-e Inv-loop μ-loop
+mul-e c = omega arith
 
-mul-take-entry : tie.Need-mul-take-entry Inv-loop μ-loop
-mul-take-entry c = omega arith
+add-e : tie.Need-add-e Inv-loop μ-loop
+add-e c = omega arith
 
-add-take-entry : tie.Need-add-take-entry Inv-loop μ-loop
-add-take-entry c = omega arith
+row-at-requires : tie.Need-row-at-requires Inv-loop μ-loop
+row-at-requires c κs = (omega arith, omega arith)
 
 take-entry-requires : tie.Need-take-entry-requires Inv-loop μ-loop
 take-entry-requires c κs =
     let b = c .before .before .before .before in let f = b .before .four-rows in let a = b .before .before .before .before .before in
-    let r = c .before .before .row-of in
-    let same = r .ensures .0 ∙ ap (λ (l : Bytes). rowOf l (b .loop .i)) (f .ensures .0) ∙ row-in-record eight-sound (a .args .image .now) (a .pre .0) (a .args .d) (b .loop .i) (omega arith) (omega arith) in
+    let r = c .before .before .row-at in let i = b .loop .at / entryBytes in
+    let z : b .loop .at ≡ i * entryBytes = omega arith in
+    let same = r .ensures .0 ∙ ap (λ (k : ℕ). part (f .result .now) k entryBytes) z ∙ ap (λ (l : Bytes). rowOf l i) (f .ensures .0)
+    ∙ row-in-record eight-sound (a .args .image .now) (a .pre .0) (a .args .d) i (omega arith) (omega arith) in
     (a .pre .0, omega arith, omega arith, same, b .loop .inv .1)
 
 same-length : tie.Need-same-length Inv-loop μ-loop
@@ -61,10 +64,10 @@ returns : tie.Need-returns Inv-loop μ-loop
 returns c =
     let b = c .before .before .before .before .before .before .before .before .before .before in
     let wrong = sym (c .before .before .before .before .before .take-entry .ensures .0) ∙ not-true _ (c .if1 .taken) in
-    (sym (all-fails _ 4 (b .loop .i) (omega arith) wrong), λ t. clash (sym t))
+    (sym (all-fails _ 4 (b .loop .at / entryBytes) (omega arith) wrong), λ t. clash (sym t))
 
-add-i : tie.Need-add-i Inv-loop μ-loop
-add-i c = omega arith
+add-at : tie.Need-add-at Inv-loop μ-loop
+add-at c = omega arith
 
 loop-less : tie.Need-loop-less Inv-loop μ-loop
 loop-less c = omega arith
@@ -72,9 +75,10 @@ loop-less c = omega arith
 loop-again : tie.Need-loop-again Inv-loop μ-loop
 loop-again c =
     let b = c .before .before .before .before .before .before .before .before .before .before in
-    let t = c .before .before .before .before .before .take-entry in
+    let t = c .before .before .before .before .before .take-entry in let i = b .loop .at / entryBytes in
     let right : t .result ≡ true = not-false _ (c .if1 .left) in
-    (all-more _ (b .loop .i) (b .loop .inv .0) (sym (t .ensures .0) ∙ right), rw add-assoc at (t .ensures .1 right), omega arith, omega (arith, t .kept .1), omega (arith, t .kept .1))
+    let z : i + 1 ≡ (b .loop .at + entryBytes) / entryBytes = omega arith in
+    (rw z at (all-more _ i (b .loop .inv .0) (sym (t .ensures .0) ∙ right)), rw z at (rw add-assoc at (t .ensures .1 right)), omega arith, omega arith, omega (arith, t .kept .1), omega (arith, t .kept .1))
 
 same-length-3 : tie.Need-same-length-3 Inv-loop μ-loop
 same-length-3 c = search needs
@@ -85,8 +89,8 @@ same-length-4 c = search needs
 returns-2 : tie.Need-returns-2 Inv-loop μ-loop
 returns-2 c =
     let b = c .before in
-    let q : b .loop .i ≡ 4 = omega arith in
-    (all-done _ (b .loop .i) 4 (omega arith) (omega arith) (b .loop .inv .0), λ t. rw q at (b .loop .inv .1))
+    let q : b .loop .at / entryBytes ≡ 4 = omega arith in
+    (all-done _ (b .loop .at / entryBytes) 4 (omega arith) (omega arith) (b .loop .inv .0), λ t. rw q at (b .loop .inv .1))
 
 pub take-record-spec : {M : Type 1} → statement M
 take-record-spec =
@@ -96,14 +100,14 @@ take-record-spec =
     μ-loop
     four-rows-requires
     loop-holds
-    row-of-requires
-    mul-take-entry
-    add-take-entry
+    mul-e
+    add-e
+    row-at-requires
     take-entry-requires
     same-length
     same-length-2
     returns
-    add-i
+    add-at
     loop-less
     loop-again
     same-length-3

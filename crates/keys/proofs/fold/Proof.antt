@@ -2,9 +2,9 @@
 use mathlib.Core.Path.{refl}
 use native.Mathlib.Omega.{arith}
 use borrow.Author.Needs.{needs}
-use Rattle.heads.specs.Key.{keyFrom}
-use Rattle.heads.proofs.fold.Statement.{statement}
-use Rattle.heads.proofs.fold.Tie as tie
+use Rattle.keys.specs.Key.{keyFrom}
+use Rattle.keys.proofs.fold.Statement.{statement}
+use Rattle.keys.proofs.fold.Tie as tie
 
 mul-mix : tie.Need-mul-mix
 mul-mix c = search needs

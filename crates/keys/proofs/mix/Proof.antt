@@ -1,9 +1,9 @@
 -- Halves of a word times numbers below 2 to the 31 fit, and so does their sum.
 use mathlib.Core.Path.{refl}
-use Rattle.heads.specs.Key.{mixed}
+use Rattle.keys.specs.Key.{mixed}
 use borrow.Author.Needs.{needs}
-use Rattle.heads.proofs.mix.Statement.{statement}
-use Rattle.heads.proofs.mix.Tie as tie
+use Rattle.keys.proofs.mix.Statement.{statement}
+use Rattle.keys.proofs.mix.Tie as tie
 
 mul-result : tie.Need-mul-result
 mul-result c = search needs

@@ -2,11 +2,11 @@
 use mathlib.Core.Path.{_≡_, refl, sym, _∙_}
 use Prim.Native.Nat.{_≤_}
 use lib.Bits.{bitAnd, and-mask, and-le-r}
-use Rattle.heads.specs.Key.{fileKey, lowAsked, highAsked, seven-part, four-part}
+use Rattle.keys.specs.Key.{fileKey, lowAsked, highAsked, seven-part, four-part}
 use native.Mathlib.Omega.{arith}
 use borrow.Author.Needs.{needs}
-use Rattle.heads.proofs.file_key.Statement.{statement}
-use Rattle.heads.proofs.file_key.Tie as tie
+use Rattle.keys.proofs.file_key.Statement.{statement}
+use Rattle.keys.proofs.file_key.Tie as tie
 
 word-requires : tie.Need-word-requires
 word-requires c κs = search needs

@@ -1,16 +1,13 @@
 -- The part is the definition.
 use mathlib.Core.Path.{refl, ap, _∙_}
-use Prim.Native.Nat.{_+_, _*_}
+use Prim.Native.Nat.{_+_}
 use native.Mathlib.Omega.{arith}
 use lib.ListN.{length}
 use Rattle.lists.specs.Splice.{take-part, length-part}
 use Rattle.format.specs.Diskette.{entryBytes}
 use borrow.Author.Needs.{needs}
-use Rattle.rows.proofs.row_of.Statement.{statement}
-use Rattle.rows.proofs.row_of.Tie as tie
-
-mul-at : tie.Need-mul-at
-mul-at c = search needs
+use Rattle.rows.proofs.row_at.Statement.{statement}
+use Rattle.rows.proofs.row_at.Tie as tie
 
 add-end : tie.Need-add-end
 add-end c = search needs
@@ -27,10 +24,9 @@ part-result-end c = search needs
 returns : tie.Need-returns
 returns c =
     let a = c .before .args in
-    let at = a .i * entryBytes in
-    let t = take-part (a .four .now) at (at + entryBytes) entryBytes refl in
-    (t, ap length t ∙ length-part (a .four .now) at entryBytes (omega arith))
+    let t = take-part (a .four .now) (a .at) (a .at + entryBytes) entryBytes refl in
+    (t, ap length t ∙ length-part (a .four .now) (a .at) entryBytes (omega arith))
 
-pub row-of-spec : {M : Type 1} → statement M
-row-of-spec =
-    tie.close (tie.spec mul-at add-end sub-result part-result-start part-result-end returns)
+pub row-at-spec : {M : Type 1} → statement M
+row-at-spec =
+    tie.close (tie.spec add-end sub-result part-result-start part-result-end returns)

@@ -2,11 +2,11 @@
 use mathlib.Core.Path.{refl}
 use native.Mathlib.Nat.{zero-add}
 use lib.Bits.{and-le-r}
-use Rattle.heads.specs.Key.{keyOf, low-part, high-part}
+use Rattle.keys.specs.Key.{keyOf, low-part, high-part}
 use native.Mathlib.Omega.{arith}
 use borrow.Author.Needs.{needs}
-use Rattle.heads.proofs.key.Statement.{statement}
-use Rattle.heads.proofs.key.Tie as tie
+use Rattle.keys.proofs.key.Statement.{statement}
+use Rattle.keys.proofs.key.Tie as tie
 
 word-requires : tie.Need-word-requires
 word-requires c κs = search needs
