@@ -196,15 +196,6 @@ pub first-none : (p : ℕ → Bool) (i n : ℕ) → i ≤ n → ((j : ℕ) → i
 unfolding firstIn
 first-none p i n h f = of-none p i (n - i) (λ j a b. f j a (omega arith)) ∙ omega arith
 
--- numbers at which p fails may be skipped
-pub first-skip : (p : ℕ → Bool) (i k n : ℕ) → i ≤ k → k ≤ n → ((j : ℕ) → i ≤ j → j < k → p j ≡ false) → firstIn p k n ≡ firstIn p i n
-first-skip p i k n a b f =
-    split (lt-or-le (firstIn p k n) n)
-    (λ w. sym (first-is p i n (firstIn p k n) (omega (arith, first-low p k n)) w (first-holds p k n w)
-    (λ j c l. split (lt-or-le j k) (λ v. f j c v) (λ v. first-before p k n j v l))))
-    (λ w. first-none p k n b (λ j c l. first-before p k n j c (omega arith))
-    ∙ sym (first-none p i n (omega arith) (λ j c l. split (lt-or-le j k) (λ v. f j c v) (λ v. first-before p k n j v (omega arith)))))
-
 -- ---- the last number
 pub last-none : (p : ℕ → Bool) → lastBelow p 0 ≡ 0
 unfolding lastBelow
