@@ -133,4 +133,4 @@ module _ (r : Bytes) (bytes : (i : ℕ) → i < headBytes → getD r i 0 < 256) 
         (λ t. let f = eqb-true _ _ (fields-tell ∙ and-right _ _ t) in
         let u : getD out 0 0 ≡ 0 = out-at 0 (omega arith) ∙ ok-clear 0 (omega arith) (user-ok ∙ and-left _ _ t) in
         let a = or-left-zero (wordAt out 0 / 256) (wordAt out 8) f in
-        eq-eqb _ _ (or-both-zero (wordAt out 0) (wordAt out 8) (omega (arith, word-rest out 0 byte)) (or-right-zero (wordAt out 0 / 256) (wordAt out 8) f)))
+        eq-eqb _ _ (or-both-zero (wordAt out 0) (wordAt out 8) (omega (arith, word-rest out 0)) (or-right-zero (wordAt out 0 / 256) (wordAt out 8) f)))

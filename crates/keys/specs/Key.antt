@@ -7,7 +7,9 @@ use Prim.Native.Nat.{ℕ, zero, suc, _+_, _-_, _*_, _/_, _%_, _<_}
 use native.Mathlib.Omega.{arith}
 use lib.ListN.{getD}
 use lib.Bits.{bitAnd, bitXor, and-mask, and-zero-r}
-use Rattle.lanes.specs.Lanes.{lanes, halfAt, wordAt, lanes-cong, lanes-and, lanes-short}
+use Rattle.lists.specs.Tests.{_and_}
+use Rattle.lists.specs.Below.{allBelow}
+use Rattle.lanes.specs.Lanes.{lanes, halfAt, wordAt, lanes-cong, lanes-and, lanes-short, five-lanes, eight-bytes}
 use Rattle.format.specs.Diskette.{Bytes}
 use Rattle.format.specs.Names.{nameBytes, nameLike}
 use Rattle.format.specs.Entries.{userOf, exOf, extentOf}
@@ -52,10 +54,6 @@ highAsked s q ext = lanes 4 (λ (i : ℕ). bitAnd (getD s (q + 7 + i) 0) 127) + 
 unfoldable pub fileKey : ℕ → Bytes → ℕ → ℕ → ℕ
 fileKey user s q ext = keyFrom (lowAsked user s q) (highAsked s q ext)
 
-five-lanes : (f : ℕ → ℕ) → f 5 ≡ 0 → f 6 ≡ 0 → f 7 ≡ 0 → lanes 8 f ≡ lanes 4 f + f 4 * 4294967296
-unfolding lanes
-five-lanes f a b c = omega arith
-
 -- a row has the key of what it is asked for by
 module _ (r : Bytes) (user : ℕ) (s : Bytes) (q ext : ℕ) (u : userOf r ≡ user) (like : nameLike false s q r 1 ≡ true) (e : extentOf r ≡ ext) where
   seven-same : (i j k : ℕ) → j ≡ 1 + i → k ≡ q + i → i < nameBytes → bitAnd (getD r j 0) 127 ≡ bitAnd (getD s k 0) 127
@@ -94,28 +92,26 @@ key-same r t s =
     key-asked r (userOf t) t 1 (extentOf t) (s .user) (s .name) (s .extent)
     ∙ sym (key-asked t (userOf t) t 1 (extentOf t) refl (like-refl t 1) refl)
 
+from-below : (low high : ℕ) → keyFrom low high < keyCount
+unfolding keyFrom
+from-below low high = omega arith
+
 pub key-below : (r : Bytes) → keyOf r < keyCount
-unfolding keyOf keyFrom
-key-below r = omega arith
+unfolding keyOf
+key-below r = from-below (lowPart r) (highPart r)
 
 pub asked-below : (user : ℕ) (s : Bytes) (q ext : ℕ) → fileKey user s q ext < keyCount
-unfolding fileKey keyFrom
-asked-below user s q ext = omega arith
+unfolding fileKey
+asked-below user s q ext = from-below (lowAsked user s q) (highAsked s q ext)
 
 -- ---- the words of a row, masked
 low-masks : (i : ℕ) → i < 8 → lowMask i < 256
-unfolding lowMask
-low-masks zero h = omega arith
-low-masks (suc i) h = omega arith
+unfolding lowMask allBelow _and_
+low-masks = eight-bytes lowMask refl
 
 high-masks : (i : ℕ) → i < 8 → highMask i < 256
-unfolding highMask
-high-masks zero h = omega arith
-high-masks (suc zero) h = omega arith
-high-masks (suc (suc zero)) h = omega arith
-high-masks (suc (suc (suc zero))) h = omega arith
-high-masks (suc (suc (suc (suc zero)))) h = omega arith
-high-masks (suc (suc (suc (suc (suc i))))) h = omega arith
+unfolding highMask allBelow _and_
+high-masks = eight-bytes highMask refl
 
 module _ (r : Bytes) (in-low : (i : ℕ) → i < 8 → getD r i 0 < 256) (in-high : (i : ℕ) → i < 8 → getD r (8 + i) 0 < 256) where
   pub low-part : bitAnd (wordAt r 0) 9187201950435737599 ≡ lowPart r
@@ -131,15 +127,8 @@ unfoldable sevenMask : ℕ → ℕ
 sevenMask i = getD (127 ∷ 127 ∷ 127 ∷ 127 ∷ 127 ∷ 127 ∷ 127 ∷ []) i 0
 
 seven-masks : (i : ℕ) → i < 8 → sevenMask i < 256
-unfolding sevenMask
-seven-masks zero h = omega arith
-seven-masks (suc zero) h = omega arith
-seven-masks (suc (suc zero)) h = omega arith
-seven-masks (suc (suc (suc zero))) h = omega arith
-seven-masks (suc (suc (suc (suc zero)))) h = omega arith
-seven-masks (suc (suc (suc (suc (suc zero))))) h = omega arith
-seven-masks (suc (suc (suc (suc (suc (suc zero)))))) h = omega arith
-seven-masks (suc (suc (suc (suc (suc (suc (suc i))))))) h = omega arith
+unfolding sevenMask allBelow _and_
+seven-masks = eight-bytes sevenMask refl
 
 module _ (s : Bytes) (at : ℕ) where
   pub seven-part : ((i : ℕ) → i < 8 → getD s (at + i) 0 < 256) → bitAnd (wordAt s at) 35887507618889599 ≡ lanes 7 (λ (i : ℕ). bitAnd (getD s (at + i) 0) 127)

@@ -1,11 +1,15 @@
--- List ℕ side by side in one number, the first lowest, each in a lane of its own: what is done to the number is done to every byte at
+-- Bytes side by side in one number, the first lowest, each in a lane of its own: what is done to the number is done to every byte at
 -- once, as long as no sum leaves its lane.
 use mathlib.Core.Path.{_≡_, refl, ap, _∙_}
+use mathlib.Core.Bool.{true}
 use Prim.Native.Nat.{ℕ, zero, suc, _+_, _-_, _*_, _/_, _<_}
 use native.Mathlib.Nat.{add-zero}
 use native.Mathlib.Omega.{arith}
 use lib.ListN.{getD}
+use lib.Dec.{ltb}
+use borrow.Author.Tests.{ltb-true}
 use Rattle.lists.specs.Cases.{split, lt-or-le}
+use Rattle.lists.specs.Below.{allBelow, all-at}
 use lib.Bits.{bitAnd, and-block}
 use mathlib.Core.List.{List}
 
@@ -34,6 +38,15 @@ pub lanes-short : (n : ℕ) (f : ℕ → ℕ) → f n ≡ 0 → lanes (suc n) f 
 unfolding lanes
 lanes-short zero f q = omega arith
 lanes-short (suc n) f q = ap (λ (x : ℕ). x * 256 + f 0) (lanes-short n (λ (i : ℕ). f (suc i)) q)
+
+-- eight lanes of which the last three are 0
+pub five-lanes : (f : ℕ → ℕ) → f 5 ≡ 0 → f 6 ≡ 0 → f 7 ≡ 0 → lanes 8 f ≡ lanes 4 f + f 4 * 4294967296
+unfolding lanes
+five-lanes f a b c = omega arith
+
+-- numbers that are bytes, where one test over all eight says so
+pub eight-bytes : (f : ℕ → ℕ) → allBelow (λ (i : ℕ). ltb (f i) 256) 8 ≡ true → (i : ℕ) → i < 8 → f i < 256
+eight-bytes f t i h = ltb-true (f i) 256 (all-at (λ (k : ℕ). ltb (f k) 256) 8 t i h)
 
 -- ---- bits that two numbers share
 pub lanes-and : (n : ℕ) (f g : ℕ → ℕ) → ((i : ℕ) → i < n → f i < 256) → ((i : ℕ) → i < n → g i < 256) → bitAnd (lanes n f) (lanes n g) ≡ lanes n (λ (i : ℕ). bitAnd (f i) (g i))
@@ -98,13 +111,13 @@ unfolding wordAt
 zero-word l at p = zero-lanes 8 (λ (i : ℕ). getD l (at + i) 0) p
 
 -- ---- a word without its first byte
-module _ (l : List ℕ) (at : ℕ) (byte : getD l at 0 < 256) where
-  pub word-rest : wordAt l at ≡ lanes 7 (λ (i : ℕ). getD l (at + suc i) 0) * 256 + getD l at 0
-  unfolding wordAt lanes
-  word-rest = rw add-zero refl
+pub word-rest : (l : List ℕ) (at : ℕ) → wordAt l at ≡ lanes 7 (λ (i : ℕ). getD l (at + suc i) 0) * 256 + getD l at 0
+unfolding wordAt lanes
+word-rest l at = rw add-zero refl
 
+module _ (l : List ℕ) (at : ℕ) (byte : getD l at 0 < 256) where
   pub rest-zero : wordAt l at / 256 ≡ 0 → (i : ℕ) → i < 7 → getD l (at + suc i) 0 ≡ 0
-  rest-zero e i h = lanes-zero 7 (λ (k : ℕ). getD l (at + suc k) 0) (omega (arith, word-rest)) i h
+  rest-zero e i h = lanes-zero 7 (λ (k : ℕ). getD l (at + suc k) 0) (omega (arith, word-rest l at)) i h
 
   pub zero-rest : ((i : ℕ) → i < 7 → getD l (at + suc i) 0 ≡ 0) → wordAt l at / 256 ≡ 0
-  zero-rest p = let z = zero-lanes 7 (λ (i : ℕ). getD l (at + suc i) 0) p in omega (arith, word-rest)
+  zero-rest p = let z = zero-lanes 7 (λ (i : ℕ). getD l (at + suc i) 0) p in omega (arith, word-rest l at)

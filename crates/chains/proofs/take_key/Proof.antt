@@ -6,6 +6,7 @@ use native.Mathlib.Omega.{arith}
 use borrow.Author.Needs.{needs}
 use Rattle.format.specs.Diskette.{eightInch}
 use Rattle.format.specs.Entries.{entryAt}
+use Rattle.keys.specs.Key.{keyCount}
 use Rattle.chains.specs.Chain.{Chained, chained-more}
 use Rattle.chains.proofs.take_key.Statement.{statement}
 use Rattle.chains.proofs.take_key.Tie as tie
@@ -35,7 +36,7 @@ slice-write-chain-2 c =
 -- what the two writes make of the chains
 more : (c : tie.After-key) →
     let a = c .before .before .before .before in let k = c .key .result in let l = a .args .chain .now in
-    Chained eightInch (entryAt eightInch (a .args .image .now)) (a .args .e + 1) (set (set l (256 + a .args .e) (getD l k 0)) k (a .args .e + 1))
+    Chained eightInch (entryAt eightInch (a .args .image .now)) (a .args .e + 1) (set (set l (keyCount + a .args .e) (getD l k 0)) k (a .args .e + 1))
 more c =
     let a = c .before .before .before .before in
     chained-more eightInch (entryAt eightInch (a .args .image .now)) (a .args .e) (c .key .result) (a .args .e + 1) (a .args .r .now) (a .args .chain .now)

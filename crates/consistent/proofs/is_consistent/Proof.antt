@@ -1,5 +1,7 @@
 -- The loop keeps that the entries before record d pass, and what stands after them; at the end that is all that is promised.
 use Rattle.consistent.specs.Pass.{entryFits, Passed, pass-all, passed-all}
+use Rattle.facts.specs.Marks.{markCount}
+use Rattle.chains.specs.Chain.{chainBytes}
 use Rattle.blocks.specs.BlockMarks.{marks-start, marks-end}
 use Rattle.format.specs.Consistent.{consistent}
 use Rattle.format.specs.Entries.{Rows, entryAt}
@@ -20,7 +22,7 @@ use Rattle.consistent.proofs.is_consistent.Tie as tie
 abbrev Inv-loop : tie.InvT-loop
 Inv-loop image marks₀ chain₀ d₀ marks chain d =
     (allBelow (entryFits eightInch (entryAt eightInch image)) (entriesPerRecord * d) ≡ true)
-    × Passed eightInch (entryAt eightInch image) (entriesPerRecord * d) marks chain × (d ≤ 16) × (length marks ≡ 256) × (length chain ≡ 320)
+    × Passed eightInch (entryAt eightInch image) (entriesPerRecord * d) marks chain × (d ≤ 16) × (length marks ≡ markCount) × (length chain ≡ chainBytes eightInch)
 
 abbrev μ-loop : tie.MeasureT-loop
 μ-loop image marks₀ chain₀ d₀ marks chain d = 16 - d
