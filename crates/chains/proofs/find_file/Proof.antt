@@ -64,7 +64,7 @@ returns : tie.Need-returns Inv-loop μ-loop
 returns c =
     let a = c .before .before .before .before .before .before .before .before .before .before .before in let b = c .before .before .before .before in
     let high = b .loop .inv .high in
-    let h : test a (b .loop .f - 1) ≡ true = cc in
+    let h : test a (b .loop .f - 1) ≡ true = rw (c .before .is-file .ensures, c .before .before .row .ensures .0) at (c .if1 .taken) in
     sym (find-hit eightInch (rows a) (a .args .user) (a .args .s .now) (a .args .q) (a .args .ext) (a .pre .2) (a .args .chain .now) (b .loop .f - 1) (a .pre .3) (omega arith) h)
 
 sub-wide : tie.Need-sub-wide Inv-loop μ-loop
@@ -89,7 +89,7 @@ loop-less c =
 loop-again : tie.Need-loop-again Inv-loop μ-loop
 loop-again c =
     let a = c .before .before .before .before .before .before .before .before .before .before .before .before .before in let b = c .before .before .before .before .before .before in
-    let h : test a (b .loop .f - 1) ≡ false = cc in
+    let h : test a (b .loop .f - 1) ≡ false = rw (c .before .before .before .is-file .ensures, c .before .before .before .before .row .ensures .0) at (c .before .before .if1 .left) in
     rw (c .wide2 .ensures .0) (walk-more eightInch (rows a) (test a) (asked a) (eightInch .entries) (asked-below _ _ _ _) (only a) (eightInch .entries) (a .args .chain .now) (a .pre .3 .chained) (omega arith) (b .loop .f) (b .loop .inv) (omega arith) h)
 
 returns-2 : tie.Need-returns-2 Inv-loop μ-loop

@@ -52,7 +52,7 @@ same-file-requires c κs =
 returns : tie.Need-returns Inv-loop μ-loop
 returns c =
     let a = c .before .before .before .before .before .before .before .before .before .before in let b = c .before .before .before .before in let d = rows a in
-    let h : sameFile eightInch (d (a .args .e)) (d (b .loop .f - 1)) ≡ true = cc in
+    let h : sameFile eightInch (d (a .args .e)) (d (b .loop .f - 1)) ≡ true = rw (c .before .same-file .ensures, c .before .before .row .ensures .0, a .pre .3) at (c .if1 .taken) in
     sym (alone-hit eightInch d (a .args .e) (b .loop .f) (b .loop .inv) (omega arith) h)
 
 sub-wide : tie.Need-sub-wide Inv-loop μ-loop
@@ -77,7 +77,7 @@ loop-less c =
 loop-again : tie.Need-loop-again Inv-loop μ-loop
 loop-again c =
     let a = c .before .before .before .before .before .before .before .before .before .before .before .before in let b = c .before .before .before .before .before .before in let d = rows a in let e = a .args .e in
-    let h : sameFile eightInch (d e) (d (b .loop .f - 1)) ≡ false = cc in
+    let h : sameFile eightInch (d e) (d (b .loop .f - 1)) ≡ false = rw (c .before .before .before .same-file .ensures, c .before .before .before .before .row .ensures .0, a .pre .3) at (c .before .before .if1 .left) in
     rw (c .wide2 .ensures .0) (walk-more eightInch d (sameAs eightInch d e) (keyOf (d e)) e (key-below (d e)) (same-only eightInch d e) (e + 1) (a .args .chain .now) (a .pre .5) (omega arith) (b .loop .f) (b .loop .inv) (omega arith) h)
 
 returns-2 : tie.Need-returns-2 Inv-loop μ-loop

@@ -15,7 +15,9 @@ same-length c = search needs
 
 returns : tie.Need-returns
 unfolding recordAt
-returns c = cc
+returns c =
+    let a = c .before .before .before .before .before .before .before in
+    rw (← c .before .before .before .before .offset .ensures .0, ← a .pre .2) (c .before .before .get .ensures)
 
 pub read-record-spec : {M : Type 1} → statement M
 read-record-spec = tie.close (tie.spec offset-requires get-requires same-length returns)

@@ -15,7 +15,7 @@ same-length c = search needs
 
 returns : tie.Need-returns
 unfolding withRecord
-returns c = cc
+returns c = rw (← c .before .before .before .before .offset .ensures .0) (c .before .before .put .ensures)
 
 pub write-record-spec : {M : Type 1} → statement M
 write-record-spec = tie.close (tie.spec offset-requires put-requires same-length returns)

@@ -15,7 +15,7 @@ get-requires c κs = search needs
 
 returns : tie.Need-returns
 unfolding entryAt
-returns c = cc
+returns c = rw (← c .before .before .before .entry-place .ensures .0) (c .before .get .ensures)
 
 pub copy-row-spec : {M : Type 1} → statement M
 copy-row-spec = tie.close (tie.spec entry-place-requires slice-aggregate-get get-requires returns)

@@ -12,7 +12,7 @@ get-requires c κs = search needs
 
 returns : tie.Need-returns
 unfolding slotsOf
-returns c = cc
+returns c = c .before .get .ensures
 
 pub slots-spec : {M : Type 1} → statement M
 slots-spec = tie.close (tie.spec slice-aggregate-get get-requires returns)

@@ -18,7 +18,7 @@ same-length c = search needs
 
 returns : tie.Need-returns
 unfolding withEntry
-returns c = cc
+returns c = rw (← c .before .before .before .before .before .entry-place .ensures .0) (c .before .before .put .ensures)
 
 pub store-row-spec : {M : Type 1} → statement M
 store-row-spec =
