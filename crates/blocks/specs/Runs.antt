@@ -2,18 +2,20 @@
 -- Number 0 has the mark 0, so it is always free and changes nothing.
 use mathlib.Core.Path.{_≡_, refl, ap, sym, _∙_}
 use mathlib.Core.Bool.{Bool, true}
-use Prim.Native.Nat.{ℕ, zero, suc, _+_, _<_}
+use Prim.Native.Nat.{ℕ, zero, suc, _+_, _-_, _<_}
 use native.Mathlib.Nat.{add-assoc}
 use native.Mathlib.Omega.{arith}
 use lib.Bits.{bitOr}
 use lib.Dec.{eqb}
 use lib.ListN.{getD, set}
-use borrow.Author.Tests.{eq-eqb}
+use borrow.Author.Tests.{eq-eqb, eqb-true}
+use Rattle.lists.specs.Cases.{split, lt-or-le, bool-ext}
 use Rattle.lists.specs.Tests.{_and_}
-use Rattle.lists.specs.Below.{allBelow, all-none, all-next, all-intro, all-cong, all-join}
+use Rattle.lists.specs.Below.{allBelow, all-none, all-next, all-at, all-intro, all-cong, all-join}
 use Rattle.lists.specs.Fold.{foldBelow, fold-none, fold-next, fold-keeps, fold-cong, fold-join}
 use Rattle.lists.specs.Seen.{set-none, set-keeps-none}
-use Rattle.lists.specs.Bits.{or-zero}
+use Rattle.lists.specs.Bits.{or-zero, or-none}
+use Rattle.lanes.specs.Lanes.{halfAt, wordAt, half-zero, zero-half, word-zero, zero-word}
 use Rattle.format.specs.Diskette.{Bytes}
 
 -- b has no mark; and b marked
@@ -110,3 +112,30 @@ module _ (l r : Bytes) (at : ℕ) where
 
     pub taken-keeps-none : getD l 0 0 ≡ 0 → getD marks 0 0 ≡ 0
     taken-keeps-none none = rw (t .marked) (run-keeps-none none n)
+
+-- ---- the slots after the first four
+-- numbers that are 0 change neither the marks nor what was met
+pub taken-rest : (l r : Bytes) (at n : ℕ) (marks : Bytes) (met : ℕ) → Taken l r at n marks met
+    → (k : ℕ) → getD marks 0 0 ≡ 0 → ((i : ℕ) → i < k → getD r (at + n + i) 0 ≡ 0) → Taken l r at (n + k) marks met
+taken-rest l r at n marks met t k none z = rw or-none at (taken-join l r at n marks met t k (at + n) marks 0 refl (taken-zeros marks r (at + n) none k z))
+
+-- the twelve numbers of r from 20 on are 0
+unfoldable pub restZero : Bytes → Bool
+restZero r = allBelow (λ (i : ℕ). eqb (getD r (20 + i) 0) 0) 12
+
+module _ (r : Bytes) where
+  pub rest-zeros : restZero r ≡ true → (i : ℕ) → i < 12 → getD r (20 + i) 0 ≡ 0
+  unfolding restZero
+  rest-zeros t i h = eqb-true _ _ (all-at _ 12 t i h)
+
+  -- eight of them are a word, four a half
+  pub rest-word : restZero r ≡ true → wordAt r 20 ≡ 0
+  rest-word t = zero-word r 20 (λ i h. rest-zeros t i (omega arith))
+
+  pub rest-decides : wordAt r 20 ≡ 0 → eqb (halfAt r 28) 0 ≡ restZero r
+  unfolding restZero
+  rest-decides w =
+      bool-ext _ _
+      (λ t. all-intro _ 12 (λ i h. eq-eqb _ _ (split (lt-or-le i 8) (λ l. word-zero r 20 w i l)
+      (λ l. let q : 20 + i ≡ 28 + (i - 8) = omega arith in ap (λ (k : ℕ). getD r k 0) q ∙ half-zero r 28 (eqb-true _ _ t) (i - 8) (omega arith)))))
+      (λ t. eq-eqb _ _ (zero-half r 28 (λ i h. let q : 28 + i ≡ 20 + (8 + i) = omega arith in ap (λ (k : ℕ). getD r k 0) q ∙ rest-zeros t (8 + i) (omega arith))))

@@ -4,7 +4,7 @@ ghost use Prim.Native.Nat.{_+_, _*_, _≤_, _<_};
 ghost use lib.ListN.{getD, length};
 ghost use Rattle.format.specs.Diskette.{eightInch, entryBytes, slotCount};
 ghost use Rattle.facts.specs.Marks.{markCount};
-ghost use Rattle.blocks.specs.Runs.{markNumber, Taken};
+ghost use Rattle.blocks.specs.Runs.{markNumber, Taken, restZero};
 ghost use Rattle.blocks.specs.BlockMarks.{startMarks, markSlots, slotsFree};
 use format::AREA_BLOCKS;
 use format::BLOCKS;
@@ -57,12 +57,26 @@ fn take_any(marks: &mut [u8], r: &[u8], at: usize) -> u8
     take_four(marks, r, at)
 }
 
+// Whether the slots after the first four list nothing, as those of most files do.
+fn rest_is_zero(r: &[u8]) -> bool
+    requires { ⌜ entryBytes ≤ length (now r) ⌝ }
+    ensures { λ b. ⌜ b ≡ restZero (now (r .entry)) ⌝ }
+{
+    if lanes::word(r, 20) != 0 {
+        return false;
+    }
+    lanes::half(r, 28) == 0
+}
+
 // Whether each slot of a row may list what it lists; the numbers are taken on the way.
 pub fn take_slots(marks: &mut [u8], r: &[u8]) -> bool
     requires { ⌜ (length (now marks) ≡ markCount) × (getD (now marks) 0 0 ≡ 0) × (entryBytes ≤ length (now r)) ⌝ }
     ensures { λ b. ⌜ (b ≡ slotsFree (now (marks .entry)) (now (r .entry))) × (now (marks .exit) ≡ markSlots (now (marks .entry)) (now (r .entry)) slotCount) ⌝ }
 {
     let mut met = take_four(marks, r, 16);
+    if rest_is_zero(r) {
+        return met == 0;
+    }
     let mut k = 1;
     while k < 4 {
         met = met | take_any(marks, r, 16 + 4 * k);

@@ -102,6 +102,10 @@ pub half-zero : (l : List ℕ) (at : ℕ) → halfAt l at ≡ 0 → (i : ℕ) �
 unfolding halfAt
 half-zero l at e i h = lanes-zero 4 (λ (k : ℕ). getD l (at + k) 0) e i h
 
+pub zero-half : (l : List ℕ) (at : ℕ) → ((i : ℕ) → i < 4 → getD l (at + i) 0 ≡ 0) → halfAt l at ≡ 0
+unfolding halfAt
+zero-half l at p = zero-lanes 4 (λ (i : ℕ). getD l (at + i) 0) p
+
 pub word-zero : (l : List ℕ) (at : ℕ) → wordAt l at ≡ 0 → (i : ℕ) → i < 8 → getD l (at + i) 0 ≡ 0
 unfolding wordAt
 word-zero l at e i h = lanes-zero 8 (λ (k : ℕ). getD l (at + k) 0) e i h

@@ -8,6 +8,10 @@ use borrow.Author.Tests.{eqb-true, eq-eqb}
 use Rattle.lists.specs.Cases.{bool-ext}
 use Rattle.lists.specs.Tests.{_and_, and-left, and-right, and-both}
 
+-- 0 has no bits to give
+pub or-none : (a : ℕ) → bitOr a 0 ≡ a
+or-none a = omega (arith, or-add-and a 0, and-le-r a 0)
+
 -- the common bits are in each of the two, so where the or is 0 both are
 module _ (a b : ℕ) where
   pub or-left-zero : bitOr a b ≡ 0 → a ≡ 0
