@@ -1,7 +1,8 @@
 -- The pass over the directory: what is tested at each entry, and what stands after the first e entries.
 use mathlib.Core.Path.{_≡_, sym, _∙_}
 use mathlib.Core.Bool.{Bool, true, false}
-use Prim.Native.Nat.{ℕ, _+_, _*_, _/_, _%_, _<_}
+use Prim.Native.Nat.{ℕ, zero, suc, _+_, _*_, _/_, _%_, _<_}
+use native.Mathlib.Nat.{add-zero}
 use native.Mathlib.Omega.{arith}
 use lib.ListN.{length}
 use borrow.Author.Tests.{eq-eqb}
@@ -111,6 +112,17 @@ module _ (G : Geometry) (d : Rows) where
   passed-empty e marks chain n p =
       let u : used (d e) ≡ false = empty-unused (d e) n in
       record { blocks = marks-skip G d e marks u (p .blocks); chained = chained-skip G d e chain u (p .chained) }
+
+  -- entries in a row that are empty
+  module _ (n : ℕ) where
+    pub fits-empty : (k : ℕ) → ((i : ℕ) → i < k → empty (d (n + i)) ≡ true) → allBelow (λ (i : ℕ). entryFits G d (n + i)) k ≡ true
+    fits-empty k h = all-intro _ k (λ i l. empty-fits G d (n + i) (h i l))
+
+    pub passed-all-empty : (k : ℕ) (marks chain : Bytes) → ((i : ℕ) → i < k → empty (d (n + i)) ≡ true) → Passed G d n marks chain → Passed G d (n + k) marks chain
+    passed-all-empty zero marks chain h p = rw add-zero p
+    passed-all-empty (suc k) marks chain h p =
+        let q : n + k + 1 ≡ n + suc k = omega arith in
+        rw q at (passed-empty (n + k) marks chain (h k (omega arith)) (passed-all-empty k marks chain (λ i l. h i (omega arith)) p))
 
   pub passed-used : (e : ℕ) (marks chain marks′ chain′ : Bytes) → rowRight (d e) ≡ true
       → ((j : ℕ) → j < slotCount → slotOf (d e) j < markCount) → Passed G d e marks chain → marks′ ≡ markSlots marks (d e) slotCount

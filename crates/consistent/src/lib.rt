@@ -35,7 +35,8 @@ fn take_entry(image: &[u8], e: usize, r: &[u8], marks: &mut [u8], chain: &mut [u
     chains::take_key(image, e, r, chain)
 }
 
-// Whether the four entries of the directory's record d pass, after all before them have. So a record's place is computed once for four rows.
+// Whether the four entries of the directory's record d pass, after all before them have. A record's place is computed once for its four
+// rows, and rows that are all empty are passed over at once.
 fn take_record(image: &[u8], d: usize, marks: &mut [u8], chain: &mut [u8]) -> bool
     requires { ⌜ (length (now image) ≡ imageBytes eightInch) × (entriesPerRecord * d < eightInch .entries)
         × Passed eightInch (entryAt eightInch (now image)) (entriesPerRecord * d) (now marks) (now chain) ⌝ }
@@ -43,6 +44,9 @@ fn take_record(image: &[u8], d: usize, marks: &mut [u8], chain: &mut [u8]) -> bo
         × (b ≡ true → Passed eightInch (entryAt eightInch (now (image .entry))) (entriesPerRecord * d + entriesPerRecord) (now (marks .exit)) (now (chain .exit))) ⌝ }
 {
     let four = rows::four_rows(image, d);
+    if rows::all_empty(four) {
+        return true;
+    }
     let mut at = 0;
     while at < RECORD_BYTES {
         let e = ENTRIES_PER_RECORD * d + at / ENTRY_BYTES;

@@ -4,11 +4,12 @@ use mathlib.Core.Logic.{_⊎_, inl, inr}
 use Prim.Native.Nat.{ℕ, _+_, _*_, _/_, _%_, _≤_, _<_}
 use native.Mathlib.Nat.{mul-le-mul-left}
 use native.Mathlib.Omega.{arith}
+use lib.Dec.{eqb}
 use lib.ListN.{length, getD, replicate, getD-replicate, length-replicate}
 use Rattle.lists.specs.Cases.{split, lt-or-le, eq-or-ne}
 use Rattle.lists.specs.Splice.{part, splice, length-part, length-splice, getD-part, part-part, part-splice-same, part-splice-other, getD-splice-out}
 use Rattle.format.specs.Diskette.{Bytes, Geometry, Sound, recordBytes, imageBytes, diskRecord, offsetOf, recordAt, withRecord, entryBytes, entriesPerRecord}
-use Rattle.format.specs.Entries.{entryPlace, entryAt, withEntry, userOf}
+use Rattle.format.specs.Entries.{entryPlace, entryAt, withEntry, userOf, empty}
 use Rattle.disk.specs.Places.{blockRecords, offset-fits, offset-past, offset-apart}
 
 -- the records of the directory
@@ -18,6 +19,13 @@ areaRecords G = G .perBlock * G .area
 -- the i-th row of four, which fill a record
 abbrev pub rowOf : Bytes → ℕ → Bytes
 rowOf four i = part four (i * entryBytes) entryBytes
+
+-- the first byte of the i-th row tells whether it is empty
+pub row-empty : (four : Bytes) (at i : ℕ) → at ≡ i * entryBytes → at + entryBytes ≤ length four → empty (rowOf four i) ≡ eqb (getD four at 0) 229
+unfolding empty
+row-empty four at i q h =
+    let z : i * entryBytes + 0 ≡ at = omega arith in
+    ap (λ (n : ℕ). eqb n 229) (getD-part four (i * entryBytes) entryBytes (omega arith) 0 (omega arith) ∙ ap (λ (k : ℕ). getD four k 0) z)
 
 -- a block past the directory has its records past the directory's
 pub block-past : (G : Geometry) (b k : ℕ) → G .area ≤ b → areaRecords G ≤ diskRecord G b k

@@ -1,12 +1,14 @@
 // Directory entries: rows taken out of the image and stored, their fields, and the look-ups of entries.
 ghost use mathlib.Core.Path.{_≡_};
-ghost use Prim.Native.Nat.{_+_, _*_, _≤_, _<_};
+ghost use Prim.Native.Nat.{ℕ, _+_, _*_, _≤_, _<_};
 ghost use lib.ListN.{length};
+ghost use Rattle.lists.specs.Below.{allBelow};
 ghost use Rattle.lists.specs.Splice.{part};
 ghost use Rattle.format.specs.Diskette.{eightInch, imageBytes, recordBytes, recordAt, entryBytes, entriesPerRecord, slotCount};
 ghost use Rattle.format.specs.Names.{nameBytes};
 ghost use Rattle.format.specs.Consistent.{extentRight};
-ghost use Rattle.format.specs.Entries.{entryPlace, entryAt, withEntry, slotsOf, extentOf, covers, countIn, slotFor, named, isFile, findNamed, findEmpty};
+ghost use Rattle.format.specs.Entries.{entryPlace, entryAt, withEntry, slotsOf, extentOf, covers, countIn, slotFor, named, isFile, findNamed, findEmpty, empty};
+ghost use Rattle.rows.specs.Entries.{rowOf};
 use format::ENTRIES;
 use format::ENTRIES_PER_RECORD;
 use format::ENTRY_BYTES;
@@ -47,6 +49,21 @@ pub fn row_at(four: &[u8], at: usize) -> &[u8]
 {
     let end = at + ENTRY_BYTES;
     &four[at..end]
+}
+
+// Whether none of four rows is in use, as in most records of a directory that is not full.
+pub fn all_empty(four: &[u8]) -> bool
+    requires { ⌜ length (now four) ≡ recordBytes ⌝ }
+    ensures { λ b. ⌜ b ≡ allBelow (λ (i : ℕ). empty (rowOf (now (four .entry)) i)) entriesPerRecord ⌝ }
+{
+    let mut at = 0;
+    while at < format::RECORD_BYTES {
+        if four[at] != 0xE5 {
+            return false;
+        }
+        at += ENTRY_BYTES;
+    }
+    true
 }
 
 // The row of an entry by value, for a caller that goes on to change the image.

@@ -1,15 +1,15 @@
 -- The loop keeps that the entries before the place pass, and what stands after them.
-use Rattle.consistent.specs.Pass.{entryFits, Passed}
+use Rattle.consistent.specs.Pass.{entryFits, Passed, fits-empty, passed-all-empty}
 use Rattle.rows.specs.Entries.{rowOf, row-in-record}
 use Rattle.disk.specs.Eight.{eight-sound}
-use Rattle.format.specs.Entries.{entryAt}
+use Rattle.format.specs.Entries.{entryAt, empty}
 use Rattle.lists.specs.Splice.{part}
 use Rattle.format.specs.Diskette.{Bytes, eightInch, entryBytes, recordBytes, entriesPerRecord}
-use Rattle.lists.specs.Below.{allBelow, all-none, all-more, all-fails, all-done}
+use Rattle.lists.specs.Below.{allBelow, all-none, all-at, all-more, all-fails, all-done}
 use Rattle.lists.specs.Cases.{clash}
 use borrow.Author.Tests.{not-true, not-false}
 use lib.ListN.{length}
-use Prim.Native.Nat.{ℕ, _+_, _*_, _-_, _/_, _%_, _≤_}
+use Prim.Native.Nat.{ℕ, _+_, _*_, _-_, _/_, _%_, _≤_, _<_}
 use native.Mathlib.Nat.{add-zero, add-assoc}
 use mathlib.Core.Bool.{Bool, true}
 use mathlib.Core.Path.{_≡_, refl, sym, ap, _∙_}
@@ -33,8 +33,21 @@ abbrev μ-loop : tie.MeasureT-loop
 four-rows-requires : tie.Need-four-rows-requires Inv-loop μ-loop
 four-rows-requires c κs = search needs
 
+all-empty-requires : tie.Need-all-empty-requires Inv-loop μ-loop
+all-empty-requires c κs = search needs
+
+returns : tie.Need-returns Inv-loop μ-loop
+returns c =
+    let a = c .before .before .before .before .before .before in let f = c .before .before .four-rows in
+    let d = entryAt eightInch (a .args .image .now) in let n = entriesPerRecord * a .args .d in
+    let all = sym (c .before .all-empty .ensures) ∙ c .if1 .taken in
+    let h : (i : ℕ) → i < entriesPerRecord → empty (d (n + i)) ≡ true =
+      λ i l. ap empty (sym (row-in-record eight-sound (a .args .image .now) (a .pre .0) (a .args .d) i l (omega arith)) ∙ ap (λ (k : Bytes). rowOf k i) (sym (f .ensures .0)))
+      ∙ all-at (λ (k : ℕ). empty (rowOf (f .result .now) k)) entriesPerRecord all i l in
+    (sym (fits-empty eightInch d n entriesPerRecord h), λ t. passed-all-empty eightInch d n entriesPerRecord (a .args .marks .now) (a .args .chain .now) h (a .pre .2))
+
 loop-holds : tie.Need-loop-holds Inv-loop μ-loop
-loop-holds c = (all-none _, rw add-zero (c .before .before .before .before .pre .2), refl, omega arith, refl, refl)
+loop-holds c = (all-none _, rw add-zero (c .before .before .before .before .before .before .pre .2), refl, omega arith, refl, refl)
 
 mul-e : tie.Need-mul-e Inv-loop μ-loop
 mul-e c = omega arith
@@ -47,7 +60,7 @@ row-at-requires c κs = (omega arith, omega arith)
 
 take-entry-requires : tie.Need-take-entry-requires Inv-loop μ-loop
 take-entry-requires c κs =
-    let b = c .before .before .before .before in let f = b .before .four-rows in let a = b .before .before .before .before .before in
+    let b = c .before .before .before .before in let f = b .before .before .before .four-rows in let a = b .before .before .before .before .before .before .before in
     let r = c .before .before .row-at in let i = b .loop .at / entryBytes in
     let z : b .loop .at ≡ i * entryBytes = omega arith in
     let same = r .ensures .0 ∙ ap (λ (k : ℕ). part (f .result .now) k entryBytes) z ∙ ap (λ (l : Bytes). rowOf l i) (f .ensures .0)
@@ -60,10 +73,10 @@ same-length c = search needs
 same-length-2 : tie.Need-same-length-2 Inv-loop μ-loop
 same-length-2 c = search needs
 
-returns : tie.Need-returns Inv-loop μ-loop
-returns c =
+returns-2 : tie.Need-returns-2 Inv-loop μ-loop
+returns-2 c =
     let b = c .before .before .before .before .before .before .before .before .before .before in
-    let wrong = sym (c .before .before .before .before .before .take-entry .ensures .0) ∙ not-true _ (c .if1 .taken) in
+    let wrong = sym (c .before .before .before .before .before .take-entry .ensures .0) ∙ not-true _ (c .if2 .taken) in
     (sym (all-fails _ 4 (b .loop .at / entryBytes) (omega arith) wrong), λ t. clash (sym t))
 
 add-at : tie.Need-add-at Inv-loop μ-loop
@@ -76,7 +89,7 @@ loop-again : tie.Need-loop-again Inv-loop μ-loop
 loop-again c =
     let b = c .before .before .before .before .before .before .before .before .before .before in
     let t = c .before .before .before .before .before .take-entry in let i = b .loop .at / entryBytes in
-    let right : t .result ≡ true = not-false _ (c .if1 .left) in
+    let right : t .result ≡ true = not-false _ (c .if2 .left) in
     let z : i + 1 ≡ (b .loop .at + entryBytes) / entryBytes = omega arith in
     (rw z at (all-more _ i (b .loop .inv .0) (sym (t .ensures .0) ∙ right)), rw z at (rw add-assoc at (t .ensures .1 right)), omega arith, omega arith, omega (arith, t .kept .1), omega (arith, t .kept .1))
 
@@ -86,8 +99,8 @@ same-length-3 c = search needs
 same-length-4 : tie.Need-same-length-4 Inv-loop μ-loop
 same-length-4 c = search needs
 
-returns-2 : tie.Need-returns-2 Inv-loop μ-loop
-returns-2 c =
+returns-3 : tie.Need-returns-3 Inv-loop μ-loop
+returns-3 c =
     let b = c .before in
     let q : b .loop .at / entryBytes ≡ 4 = omega arith in
     (all-done _ (b .loop .at / entryBytes) 4 (omega arith) (omega arith) (b .loop .inv .0), λ t. rw q at (b .loop .inv .1))
@@ -99,6 +112,8 @@ take-record-spec =
     Inv-loop
     μ-loop
     four-rows-requires
+    all-empty-requires
+    returns
     loop-holds
     mul-e
     add-e
@@ -106,10 +121,10 @@ take-record-spec =
     take-entry-requires
     same-length
     same-length-2
-    returns
+    returns-2
     add-at
     loop-less
     loop-again
     same-length-3
     same-length-4
-    returns-2)
+    returns-3)
