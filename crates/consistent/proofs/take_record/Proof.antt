@@ -42,8 +42,8 @@ returns c =
     let d = entryAt eightInch (a .args .image .now) in let n = entriesPerRecord * a .args .d in
     let all = sym (c .before .all-empty .ensures) ∙ c .if1 .taken in
     let h : (i : ℕ) → i < entriesPerRecord → empty (d (n + i)) ≡ true =
-      λ i l. ap empty (sym (row-in-record eight-sound (a .args .image .now) (a .pre .0) (a .args .d) i l (omega arith)) ∙ ap (λ (k : Bytes). rowOf k i) (sym (f .ensures .0)))
-      ∙ all-at (λ (k : ℕ). empty (rowOf (f .result .now) k)) entriesPerRecord all i l in
+    λ i l. ap empty (sym (row-in-record eight-sound (a .args .image .now) (a .pre .0) (a .args .d) i l (omega arith)) ∙ ap (λ (k : Bytes). rowOf k i) (sym (f .ensures .0)))
+    ∙ all-at (λ (k : ℕ). empty (rowOf (f .result .now) k)) entriesPerRecord all i l in
     (sym (fits-empty eightInch d n entriesPerRecord h), λ t. passed-all-empty eightInch d n entriesPerRecord (a .args .marks .now) (a .args .chain .now) h (a .pre .2))
 
 loop-holds : tie.Need-loop-holds Inv-loop μ-loop
