@@ -59,7 +59,7 @@ fn closed_count(row: &[u8], fcb: &[u8]) -> u8
     requires { ⌜ (entryBytes ≤ length (now row)) × (entryBytes ≤ length (now fcb)) ⌝ }
     ensures { λ r. ⌜ r ≡ closedCount eightInch (now (row .entry)) (now (fcb .entry)) ⌝ }
 {
-    if rows::count_in(row, rows::extent(fcb)) < fcb[15] {
+    if entries::count_in(row, entries::extent(fcb)) < fcb[15] {
         return fcb[15];
     }
     row[15]
@@ -70,7 +70,7 @@ fn closed_row(row: [u8; 32], fcb: &[u8]) -> [u8; 32]
     requires { ⌜ length (now fcb) ≡ fcbBytes ⌝ }
     ensures { λ r. ⌜ r ≡ closedRow eightInch row (now (fcb .entry)) ⌝ }
 {
-    let merged = merge(rows::slots(&row), rows::slots(fcb));
+    let merged = merge(entries::slots(&row), entries::slots(fcb));
     let mut r = row;
     r[15] = closed_count(&row, fcb);
     lists::put(&mut r, 16, &merged);
@@ -112,7 +112,7 @@ pub fn close_entry(image: &mut [u8], map: &mut [u16], e: usize, fcb: &[u8])
         × (now (map .exit) ≡ closedMap (entryAt eightInch (now (image .entry)) e) (now (fcb .entry)) (now (map .entry))) ⌝ }
 {
     let row = rows::copy_row(image, e);
-    record_blocks(map, rows::slots(&row), rows::slots(fcb));
+    record_blocks(map, entries::slots(&row), entries::slots(fcb));
     rows::store_row(image, e, closed_row(row, fcb));
 }
 

@@ -88,7 +88,7 @@ pub fn current_entry(image: &[u8], map: &[u16], chain: &[u8], user: u8, fcb: &[u
     if !fcb_right(fcb) {
         return Found::Nothing;
     }
-    let Found::At(e) = chains::find_file(image, chain, user, fcb, 1, rows::extent(fcb)) else {
+    let Found::At(e) = chains::find_file(image, chain, user, fcb, 1, entries::extent(fcb)) else {
         return Found::Nothing;
     };
     let row = rows::row(image, e);
@@ -96,7 +96,7 @@ pub fn current_entry(image: &[u8], map: &[u16], chain: &[u8], user: u8, fcb: &[u
     if same_from(row, fcb, 16) {
         return Found::At(e);
     }
-    if !slots_fit(map, e, rows::slots(row), rows::slots(fcb)) {
+    if !slots_fit(map, e, entries::slots(row), entries::slots(fcb)) {
         return Found::Nothing;
     }
     Found::At(e)

@@ -12,7 +12,7 @@ use Rattle.format.specs.Diskette.{Bytes, Geometry, Sound, recordAt, slotCount, 
 use Rattle.format.specs.Entries.{slotOf, slotFor, rcOf, extentOf}
 use Rattle.format.specs.Fcb.{fcbBytes, fcbRight, randomOf}
 use Rattle.format.specs.declared.Found.the-variants.{At}
-use Rattle.rows.specs.Fields.{slot-for-below}
+use Rattle.facts.specs.Slots.{slot-for-below}
 use Rattle.model.specs.declared.Asked.{Asked}
 use Rattle.model.specs.declared.Session.{Session}
 use Rattle.model.specs.declared.Plan.{Plan}

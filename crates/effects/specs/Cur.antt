@@ -14,7 +14,7 @@ use Rattle.format.specs.Fcb.{fcbRight, current}
 use Rattle.format.specs.declared.Found.the-variants.{At}
 use Rattle.consistency.specs.Facts.{Consistent}
 use Rattle.invariant.specs.Close.{Held}
-use Rattle.rows.specs.Fields.{slot-for-below}
+use Rattle.facts.specs.Slots.{slot-for-below}
 use Rattle.facts.specs.Current.{Current, current-is, current-says}
 use Rattle.current.specs.Current.{current-file, current-slot, SlotOk, slot-same, slot-pending, slots-are}
 use Rattle.notes.specs.Numbers.{pending-block}

@@ -16,7 +16,7 @@ use Rattle.format.specs.Fcb.{fcbBytes, fcbRight}
 use Rattle.notes.specs.Numbers.{pending-not-free}
 use Rattle.disk.specs.Records.{record-written, record-left}
 use Rattle.rows.specs.Entries.{block-past, entry-kept}
-use Rattle.rows.specs.Fields.{slot-for-below}
+use Rattle.facts.specs.Slots.{slot-for-below}
 use Rattle.model.specs.Target.{placeIn, writtenMap, writtenFcb}
 use Rattle.fields.specs.Agree.{isFile-asked}
 use Rattle.fields.specs.Target.{place-below, name-written, extent-written, slot-written, slot-written-other, rc-written, count-written-target, map-written-kept, note-written, note-written-other}

@@ -14,7 +14,7 @@ use Rattle.format.specs.Entries.{rcOf, slotOf, extentOf, countIn}
 use Rattle.format.specs.Notes.{noteAt, pendingFor, withNote}
 use Rattle.format.specs.Fcb.{crOf, randomOf}
 use Rattle.disk.specs.Places.{blockRecords, block-record}
-use Rattle.rows.specs.Fields.{slot-for-below}
+use Rattle.facts.specs.Slots.{slot-for-below}
 use Rattle.model.specs.Lent.{Lent, rowsOf}
 use Rattle.model.specs.Closing.{closedImage, closedMap}
 use Rattle.model.specs.Entering.{entered}

@@ -71,7 +71,7 @@ pub fn make_file(image: &mut [u8], fcb: &mut [u8], session: Session, chain: &[u8
     let Found::Nothing = find_asked(image, chain, session.user, fcb) else {
         return answers::refuse(Code::Exists, session);
     };
-    let Found::At(e) = rows::find_empty(image) else {
+    let Found::At(e) = entries::find_empty(image) else {
         return answers::refuse(Code::Failed, session);
     };
     let row = entering::made_row(session.user, fcb);
@@ -85,8 +85,8 @@ fn size_of(r: &[u8]) -> usize
     requires { ⌜ entryBytes ≤ length (now r) ⌝ }
     ensures { λ n. ⌜ n ≡ sizeOf eightInch (now (r .entry)) ⌝ }
 {
-    let ext = rows::extent(r);
-    EXTENT_RECORDS * ext + lists::wide(rows::count_in(r, ext))
+    let ext = entries::extent(r);
+    EXTENT_RECORDS * ext + lists::wide(entries::count_in(r, ext))
 }
 
 // The larger of a size and that of an entry, where the entry is of the file.
@@ -95,7 +95,7 @@ fn larger_size(image: &[u8], e: usize, user: u8, fcb: &[u8], size: usize) -> usi
     ensures { λ r. ⌜ r ≡ largerSize eightInch (entryAt eightInch (now (image .entry))) (named false user (now (fcb .entry)) 1) size e ⌝ }
 {
     let r = rows::row(image, e);
-    if !rows::is_named(false, user, fcb, 1, r) {
+    if !entries::is_named(false, user, fcb, 1, r) {
         return size;
     }
     let n = size_of(r);
@@ -128,7 +128,7 @@ pub fn file_size(image: &[u8], fcb: &mut [u8], session: Session) -> Answer
     if !names::name_right(false, fcb, 1) {
         return answers::refuse(Code::BadName, session);
     }
-    let Found::At(_) = rows::find_named(image, false, session.user, fcb, 1, 0) else {
+    let Found::At(_) = entries::find_named(image, false, session.user, fcb, 1, 0) else {
         return answers::refuse(Code::Failed, session);
     };
     let size = largest_size(image, session.user, fcb);

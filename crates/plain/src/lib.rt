@@ -46,7 +46,7 @@ fn position_right(fcb: &[u8]) -> bool
     requires { ⌜ length (now fcb) ≡ fcbBytes ⌝ }
     ensures { λ r. ⌜ r ≡ positionRight (now (fcb .entry)) ⌝ }
 {
-    if !rows::extent_right(fcb) {
+    if !entries::extent_right(fcb) {
         return false;
     }
     fcb[32] <= 128
@@ -61,7 +61,7 @@ pub fn random_record(fcb: &mut [u8], session: Session) -> Answer
     if !position_right(fcb) {
         return answers::refuse(Code::Failed, session);
     }
-    let n = format::EXTENT_RECORDS * rows::extent(fcb) + lists::wide(fcb[32]);
+    let n = format::EXTENT_RECORDS * entries::extent(fcb) + lists::wide(fcb[32]);
     entering::put_three(fcb, 33, n);
     answers::done(0, session)
 }

@@ -120,7 +120,7 @@ fn follow_write(
         (arrived eightInch n (lend (now (image .entry)) (now (map .entry)) (now (fcb .entry)) (now (buffer .entry))) plan)) ⌝ }
 {
     arrive(image, map, fcb, plan, target.extent);
-    let j = rows::slot_for(target.extent, target.at);
+    let j = entries::slot_for(target.extent, target.at);
     transfers::write_at(
         image,
         map,

@@ -68,7 +68,7 @@ pub fn rule_read(
     let Found::At(t) = targets::target_entry(image, chain, user, fcb, e, extent) else {
         return Ruling::Refuse(targets::missing(number, Code::NoExtent));
     };
-    let j = rows::slot_for(extent, at);
+    let j = entries::slot_for(extent, at);
     read_to(image, fcb, e, t, extent, j, at)
 }
 
@@ -110,7 +110,7 @@ fn write_new(image: &[u8], map: &[u16], code: Code, e: usize) -> Ruling
     requires { ⌜ (length (now image) ≡ imageBytes eightInch) × (length (now map) ≡ eightInch .blocks) ⌝ }
     ensures { λ r. ⌜ r ≡ writeNew eightInch (entryAt eightInch (now (image .entry))) (now (map .entry)) code e ⌝ }
 {
-    let Found::At(t) = rows::find_empty(image) else {
+    let Found::At(t) = entries::find_empty(image) else {
         return Ruling::Refuse(code);
     };
     let Found::At(b) = notes::first_free(map) else {
@@ -171,7 +171,7 @@ pub fn rule_write(
     if format::EXTENTS <= extent {
         return Ruling::Refuse(Code::NoRecord);
     }
-    let j = rows::slot_for(extent, at);
+    let j = entries::slot_for(extent, at);
     write_to(
         image,
         map,

@@ -43,7 +43,7 @@ pub fn target_of(number: u8, fcb: &[u8]) -> Target
         };
     }
     let cr = lists::wide(fcb[32]);
-    let extent = rows::extent(fcb);
+    let extent = entries::extent(fcb);
     if cr == format::EXTENT_RECORDS {
         return Target {
             extent: extent + 1,
@@ -92,7 +92,7 @@ pub fn target_entry(
         × (user ≤ 15) × Indexed eightInch (entryAt eightInch (now image)) (now chain) ⌝ }
     ensures { λ r. ⌜ r ≡ findFile eightInch (entryAt eightInch (now (image .entry))) user (now (fcb .entry)) 1 extent ⌝ }
 {
-    if rows::extent(fcb) == extent {
+    if entries::extent(fcb) == extent {
         return Found::At(e);
     }
     chains::find_file(image, chain, user, fcb, 1, extent)
@@ -124,7 +124,7 @@ pub fn arrived_count(image: &[u8], fcb: &[u8], e: usize, t: usize, extent: usize
     requires { ⌜ (length (now image) ≡ imageBytes eightInch) × (length (now fcb) ≡ fcbBytes) × (t < eightInch .entries) ⌝ }
     ensures { λ r. ⌜ r ≡ arrivedCount eightInch (entryAt eightInch (now (image .entry))) (now (fcb .entry)) e t extent ⌝ }
 {
-    let count = rows::count_in(rows::row(image, t), extent);
+    let count = entries::count_in(rows::row(image, t), extent);
     if t == e {
         return larger(fcb[15], count);
     }

@@ -42,7 +42,7 @@ fn set_written(fcb: &mut [u8], row: [u8; 32], j: usize, b: usize, r: usize, cr: 
     requires { ⌜ (length (now fcb) ≡ fcbBytes) × (j < slotCount) × (b < eightInch .blocks) × (r < extentRecords) × (cr ≤ extentRecords) ⌝ }
     ensures { λ _. ⌜ now (fcb .exit) ≡ writtenFcb eightInch (now (fcb .entry)) row j b r cr ⌝ }
 {
-    let count = rows::count_in(&row, rows::extent(fcb));
+    let count = entries::count_in(&row, entries::extent(fcb));
     let rc = targets::larger(targets::larger(fcb[15], count), (r + 1) as u8);
     fcb[16 + j] = b as u8;
     fcb[15] = rc;

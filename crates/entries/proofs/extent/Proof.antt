@@ -2,8 +2,8 @@
 use Rattle.format.specs.Entries.{extentOf}
 use native.Mathlib.Omega.{arith}
 use borrow.Author.Needs.{needs}
-use Rattle.rows.proofs.extent.Statement.{statement}
-use Rattle.rows.proofs.extent.Tie as tie
+use Rattle.entries.proofs.extent.Statement.{statement}
+use Rattle.entries.proofs.extent.Tie as tie
 
 shared-slice-read-wide : tie.Need-shared-slice-read-wide
 shared-slice-read-wide c = search needs

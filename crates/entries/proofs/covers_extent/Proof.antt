@@ -1,8 +1,8 @@
 -- The test on the extent is the definition.
 use Rattle.format.specs.Entries.{covers}
 use borrow.Author.Needs.{needs}
-use Rattle.rows.proofs.covers_extent.Statement.{statement}
-use Rattle.rows.proofs.covers_extent.Tie as tie
+use Rattle.entries.proofs.covers_extent.Statement.{statement}
+use Rattle.entries.proofs.covers_extent.Tie as tie
 
 extent-requires : tie.Need-extent-requires
 extent-requires c κs = search needs

@@ -4,8 +4,8 @@ use borrow.Author.Tests.{eq-eqb, ne-eqb}
 use Rattle.lists.specs.Tests.{and-fails-left, and-then}
 use Rattle.format.specs.Entries.{named}
 use borrow.Author.Needs.{needs}
-use Rattle.rows.proofs.is_named.Statement.{statement}
-use Rattle.rows.proofs.is_named.Tie as tie
+use Rattle.entries.proofs.is_named.Statement.{statement}
+use Rattle.entries.proofs.is_named.Tie as tie
 
 shared-slice-read-if1 : tie.Need-shared-slice-read-if1
 shared-slice-read-if1 c = search needs

@@ -2,8 +2,8 @@
 use mathlib.Core.Path.{refl}
 use Rattle.format.specs.Entries.{countIn}
 use borrow.Author.Needs.{needs}
-use Rattle.rows.proofs.count_in.Statement.{statement}
-use Rattle.rows.proofs.count_in.Tie as tie
+use Rattle.entries.proofs.count_in.Statement.{statement}
+use Rattle.entries.proofs.count_in.Tie as tie
 
 shared-slice-read-result : tie.Need-shared-slice-read-result
 shared-slice-read-result c = search needs

@@ -4,8 +4,8 @@ use borrow.Author.Tests.{eq-eqb, ne-eqb, not-true, not-false}
 use Rattle.lists.specs.Tests.{and-both, and-then, and-fails-left, and-fails-right}
 use Rattle.format.specs.Entries.{named, isFile}
 use borrow.Author.Needs.{needs}
-use Rattle.rows.proofs.is_file.Statement.{statement}
-use Rattle.rows.proofs.is_file.Tie as tie
+use Rattle.entries.proofs.is_file.Statement.{statement}
+use Rattle.entries.proofs.is_file.Tie as tie
 
 shared-slice-read-if1 : tie.Need-shared-slice-read-if1
 shared-slice-read-if1 c = search needs

@@ -1,10 +1,10 @@
--- `rows::extent_right` meets its contract: the tests stand in the definition's order.
+-- `entries::extent_right` meets its contract: the tests stand in the definition's order.
 use mathlib.Core.Path.{sym}
 use borrow.Author.Needs.{needs}
 use borrow.Author.Tests.{le-leb, lt-leb}
 use Rattle.lists.specs.Tests.{and-then, and-fails-left}
-use Rattle.rows.proofs.extent_right.Statement.{statement}
-use Rattle.rows.proofs.extent_right.Tie as tie
+use Rattle.entries.proofs.extent_right.Statement.{statement}
+use Rattle.entries.proofs.extent_right.Tie as tie
 
 shared-slice-read-if1 : tie.Need-shared-slice-read-if1
 shared-slice-read-if1 c = search needs

@@ -1,8 +1,8 @@
 -- The copy from byte 16 on is the definition.
 use Rattle.format.specs.Entries.{slotsOf}
 use borrow.Author.Needs.{needs}
-use Rattle.rows.proofs.slots.Statement.{statement}
-use Rattle.rows.proofs.slots.Tie as tie
+use Rattle.entries.proofs.slots.Statement.{statement}
+use Rattle.entries.proofs.slots.Tie as tie
 
 slice-aggregate-get : tie.Need-slice-aggregate-get
 slice-aggregate-get c = search needs

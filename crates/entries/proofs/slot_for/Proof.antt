@@ -1,8 +1,8 @@
 use borrow.Author.Needs.{needs}
 -- The code is the definition, whichever extent is asked.
 use Rattle.format.specs.Entries.{slotFor}
-use Rattle.rows.proofs.slot_for.Statement.{statement}
-use Rattle.rows.proofs.slot_for.Tie as tie
+use Rattle.entries.proofs.slot_for.Statement.{statement}
+use Rattle.entries.proofs.slot_for.Tie as tie
 
 returns : tie.Need-returns
 unfolding slotFor
