@@ -12,7 +12,7 @@ use Rattle.format.specs.Diskette.{Bytes, Geometry}
 use Rattle.format.specs.Entries.{Rows, userOf, used, isFile, extentOf, findFile}
 use Rattle.format.specs.Consistent.{sameFile, alone}
 use Rattle.format.specs.declared.Found.the-variants.{At, Nothing}
-use Rattle.names.specs.Laws.{like-sym, like-trans}
+use Rattle.facts.specs.Names.{like-sym, like-trans}
 use Rattle.facts.specs.Find.{fileTest, file-is, no-file-is}
 use Rattle.facts.specs.Naming.{file-user, file-like, file-extent}
 use Rattle.consistency.specs.Reflect.{same-elim, same-intro, same-used-right, alone-elim}

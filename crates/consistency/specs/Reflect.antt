@@ -12,7 +12,7 @@ use Rattle.lists.specs.Seen.{taken}
 use Rattle.format.specs.Diskette.{Bytes, Geometry, slotCount}
 use Rattle.format.specs.Entries.{Rows, entryAt, userOf, slotOf, empty, used, named, isFile, covers}
 use Rattle.format.specs.Consistent.{numbersRight, slotRight, slotsRight, entryRight, slotsInAll, listed, listedOnce, sameFile, alone, consistentRows, consistent}
-use Rattle.names.specs.Laws.{like-sym}
+use Rattle.facts.specs.Names.{like-sym}
 use Rattle.consistency.specs.Facts.{Numbers, Fine, Stands, SameFile, Consistent}
 use Rattle.consistency.specs.Listed.{stands-at, stands-place, stands-listed}
 

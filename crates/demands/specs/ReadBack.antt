@@ -12,7 +12,7 @@ use Rattle.lists.specs.Tests.{_or_}
 use Rattle.format.specs.Diskette.{Bytes, Geometry, Sound, recordBytes, extents}
 use Rattle.format.specs.Entries.{userOf, extentOf, named}
 use Rattle.format.specs.Fcb.{fcbBytes}
-use Rattle.names.specs.Laws.{like-at}
+use Rattle.facts.specs.Names.{like-at}
 use Rattle.model.specs.declared.Asked.{Asked}
 use Rattle.model.specs.declared.Session.{Session}
 use Rattle.model.specs.Lent.{Lent, Outcome}

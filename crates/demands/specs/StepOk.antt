@@ -15,7 +15,7 @@ use Rattle.format.specs.Entries.{slotOf, named, findEmpty}
 use Rattle.format.specs.Notes.{noteAt, freshMap, freedMap}
 use Rattle.format.specs.Fcb.{fcbBytes}
 use Rattle.format.specs.declared.Found.the-variants.{At}
-use Rattle.names.specs.Laws.{like-intro}
+use Rattle.facts.specs.Names.{like-intro}
 use Rattle.notes.specs.Right.{fresh-at, freed-at}
 use Rattle.facts.specs.Find.{empty-says}
 use Rattle.model.specs.declared.Asked.{Asked}

@@ -11,7 +11,7 @@ use Rattle.format.specs.Notes.{freeNote, noteAt}
 use Rattle.format.specs.Found.{numberOf}
 use Rattle.format.specs.Fcb.{fcbBytes}
 use Rattle.format.specs.declared.Found.the-variants.{At, Nothing}
-use Rattle.names.specs.Laws.{like-at}
+use Rattle.facts.specs.Names.{like-at}
 use Rattle.consistency.specs.Facts.{Fine}
 use Rattle.consistency.specs.Reflect.{empty-elsewhere}
 use Rattle.rows.specs.Entries.{length-entryAt}

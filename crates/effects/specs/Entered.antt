@@ -9,7 +9,7 @@ use Rattle.lists.specs.Cases.{split, eq-or-ne}
 use Rattle.format.specs.Diskette.{Bytes, Geometry, Sound, entryBytes, slotCount, extentRecords}
 use Rattle.format.specs.Entries.{entryAt, slotOf, userOf, rcOf, extentOf, countIn, isFile}
 use Rattle.format.specs.Fcb.{fcbBytes, fcbRight, crOf}
-use Rattle.names.specs.Laws.{like-intro, right-cong}
+use Rattle.facts.specs.Names.{like-intro, right-cong}
 use Rattle.consistency.specs.Facts.{Fine}
 use Rattle.consistency.specs.Reflect.{numbers-intro}
 use Rattle.current.specs.Current.{fcb-says, fcb-is}

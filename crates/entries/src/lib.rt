@@ -71,9 +71,9 @@ pub fn is_named(wild: bool, user: u8, s: &[u8], q: usize, r: &[u8]) -> bool
         return false;
     }
     if wild {
-        return names::name_like(true, s, q, r, 1);
+        return matching::name_like(true, s, q, r, 1);
     }
-    names::name_same(s, q, r, 1)
+    matching::name_same(s, q, r, 1)
 }
 
 // Whether a row is the user's, of the name in s at q, and covers the extent.
@@ -84,7 +84,7 @@ pub fn is_file(user: u8, s: &[u8], q: usize, ext: usize, r: &[u8]) -> bool
     if r[0] != user {
         return false;
     }
-    if !names::name_same(s, q, r, 1) {
+    if !matching::name_same(s, q, r, 1) {
         return false;
     }
     covers_extent(r, ext)

@@ -11,7 +11,7 @@ use Rattle.lists.specs.Splice.{getD-part}
 use Rattle.format.specs.Diskette.{Bytes}
 use Rattle.format.specs.Names.{nameBytes, sevenBits}
 use Rattle.format.specs.Entries.{userOf, exOf, named}
-use Rattle.names.specs.Laws.{like-any}
+use Rattle.facts.specs.Names.{like-any}
 use Rattle.model.specs.Search.{patternBytes, patternOf, extentHit, hit}
 
 -- the bytes from q on are eleven 3FH

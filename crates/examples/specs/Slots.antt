@@ -11,7 +11,7 @@ use Rattle.format.specs.Diskette.{Bytes, Geometry, Sound, imageBytes, slotCount
 use Rattle.format.specs.Entries.{Rows, entryAt, withEntry, slotOf, userOf, used}
 use Rattle.format.specs.Consistent.{consistent}
 use Rattle.format.specs.Notes.{isListed}
-use Rattle.names.specs.Laws.{like-intro, right-cong}
+use Rattle.facts.specs.Names.{like-intro, right-cong}
 use Rattle.rows.specs.Entries.{length-entryAt, entry-stored, entry-left}
 use Rattle.consistency.specs.Facts.{Fine, Stands, SameFile, Consistent}
 use Rattle.consistency.specs.Listed.{somewhere-listed}

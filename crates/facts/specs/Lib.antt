@@ -4,3 +4,4 @@ pub mod Marks
 pub mod Find
 pub mod Naming
 pub mod Current
+pub mod Names

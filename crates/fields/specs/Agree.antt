@@ -11,7 +11,7 @@ use Rattle.format.specs.Entries.{userOf, slotOf, empty, used, readOnly, extentO
 use Rattle.format.specs.Consistent.{numbersRight}
 use Rattle.format.specs.Fcb.{randomOf, fcbRight}
 use Rattle.consistency.specs.Facts.{SameFile}
-use Rattle.names.specs.Laws.{nameBits, like-at, like-intro, like-cong-left, like-cong-right, right-cong}
+use Rattle.facts.specs.Names.{nameBits, like-at, like-intro, like-cong-left, like-cong-right, right-cong}
 
 -- bytes a to b - 1 of r and t are the same
 abbrev pub Agree : Bytes → Bytes → ℕ → ℕ → Type 0

@@ -22,7 +22,7 @@ use Rattle.format.specs.Notes.{noteAt, withNote, recordedNote}
 use Rattle.format.specs.Fcb.{fcbRight}
 use Rattle.model.specs.Closing.{takesSlot, mergedSlot, mergedSlots, countsMore, closedCount, closedRow, closedNote, closedMap, closedFcb}
 use Rattle.consistency.specs.Facts.{Numbers, SameFile}
-use Rattle.names.specs.Laws.{right-cong}
+use Rattle.facts.specs.Names.{right-cong}
 use Rattle.fields.specs.Agree.{Agree, SameName, same-file, same-name, slot-cong, readOnly-cong, extent-cong, fcbRight-cong}
 
 -- ---- the slots taken

@@ -16,7 +16,7 @@ use Rattle.format.specs.Names.{sevenBits, nameRight}
 use Rattle.format.specs.Entries.{slotOf, extentOf}
 use Rattle.format.specs.Fcb.{crOf, fcbRight}
 use Rattle.format.specs.Consistent.{numbersRight}
-use Rattle.names.specs.Laws.{right-cong}
+use Rattle.facts.specs.Names.{right-cong}
 use Rattle.model.specs.Entering.{copied, interfaceByte, interfaceCleared, entered}
 use Rattle.fields.specs.Agree.{Agree, SameName, slot-cong, extent-cong, name-cong, numbers-cong}
 

@@ -8,7 +8,7 @@ use Rattle.format.specs.Diskette.{Bytes, Geometry, extents}
 use Rattle.format.specs.Names.{nameRight}
 use Rattle.format.specs.Entries.{exOf}
 use Rattle.consistency.specs.Facts.{Fine}
-use Rattle.names.specs.Laws.{right-cong}
+use Rattle.facts.specs.Names.{right-cong}
 use Rattle.model.specs.Entering.{madeRow, nextRow, renamedRow}
 use Rattle.fields.specs.Making.{user-made, name-made, ex-made, s2-made, rc-made, slot-made, user-next, name-next, ex-next, s2-next, rc-next, slot-next, user-renamed, name-renamed, rest-renamed, slot-renamed}
 

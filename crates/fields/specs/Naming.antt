@@ -9,7 +9,7 @@ use Rattle.format.specs.Entries.{Rows, used, named, isFile, findFile}
 use Rattle.format.specs.declared.Found.the-variants.{At}
 use Rattle.facts.specs.Find.{file-is}
 use Rattle.facts.specs.Naming.{named-user, file-named, file-user, file-like, file-extent}
-use Rattle.names.specs.Laws.{like-sym, like-trans}
+use Rattle.facts.specs.Names.{like-sym, like-trans}
 use Rattle.consistency.specs.Facts.{SameFile, Consistent}
 use Rattle.consistency.specs.Reflect.{low-used}
 

@@ -16,7 +16,7 @@ use Rattle.format.specs.Diskette.{Bytes}
 use Rattle.format.specs.Names.{nameBytes, sevenBits, nameByte, nameRight}
 use Rattle.format.specs.Entries.{used}
 use Rattle.format.specs.Consistent.{numbersRight}
-use Rattle.names.specs.Laws.{Named, right-elim, right-intro}
+use Rattle.facts.specs.Names.{Named, right-elim, right-intro}
 use Rattle.heads.specs.Bytes.{headBytes, byteFault, byteOk, fault-tells}
 
 -- the name and the numbers of a row or an FCB

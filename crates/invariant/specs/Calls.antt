@@ -16,7 +16,7 @@ use Rattle.facts.specs.Find.{no-file-says, empty-says}
 use Rattle.fields.specs.Fine.{fine-made}
 use Rattle.fields.specs.Making.{length-madeRow, user-made, name-made, slot-made, extent-made}
 use Rattle.facts.specs.Naming.{named-intro, file-intro}
-use Rattle.names.specs.Laws.{like-intro}
+use Rattle.facts.specs.Names.{like-intro}
 use Rattle.table.specs.Own.{Call, call13, call15, call16, call17, call18, call19, call20, call21, call22, call23, call32, call33, call34, call35, call36, call46, call98}
 use Rattle.table.specs.Facts.{Fits, Closes, Makes, Renames, Own}
 use Rattle.table.specs.Carried.{carriedBy}

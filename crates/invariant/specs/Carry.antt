@@ -7,7 +7,7 @@ use Rattle.lists.specs.Cases.{split, bool-cases, not-both}
 use Rattle.format.specs.Diskette.{Bytes, Geometry, Sound}
 use Rattle.format.specs.Entries.{Rows, slotOf, used, empty}
 use Rattle.format.specs.Notes.{isListed}
-use Rattle.names.specs.Laws.{like-refl, like-trans}
+use Rattle.facts.specs.Names.{like-refl, like-trans}
 use Rattle.consistency.specs.Facts.{Fine, Stands, SameFile, Consistent}
 use Rattle.consistency.specs.Listed.{listed-somewhere, somewhere-listed}
 use Rattle.consistency.specs.Reflect.{same-sym}

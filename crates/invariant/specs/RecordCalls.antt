@@ -17,7 +17,7 @@ use Rattle.model.specs.Closing.{closedImage, closedMap}
 use Rattle.model.specs.Target.{targetExtent, targetRecord, targetSlot, crAfter, presentEntry, stays, targetEntry, blockThere, plan, moved, made, nextMade, haveRead, haveWritten, writtenMap}
 use Rattle.model.specs.declared.Plan.{Plan}
 use Rattle.model.specs.Calls.{readAt, reading, read, writtenAt, writing, written}
-use Rattle.names.specs.Laws.{like-trans, like-intro}
+use Rattle.facts.specs.Names.{like-trans, like-intro}
 use Rattle.consistency.specs.Facts.{Fine}
 use Rattle.consistency.specs.Reflect.{empty-elsewhere}
 use Rattle.notes.specs.Free.{free-is, free-spare}

@@ -12,7 +12,7 @@ use Rattle.format.specs.Notes.{noteAt, freeNote, pendingFor, withNote, freshMap
 use Rattle.model.specs.Entering.{renamedRow}
 use Rattle.model.specs.Target.{placeIn}
 use Rattle.model.specs.Calls.{changedRows, erasedRow}
-use Rattle.names.specs.Laws.{like-sym, like-trans, like-intro}
+use Rattle.facts.specs.Names.{like-sym, like-trans, like-intro}
 use Rattle.consistency.specs.Facts.{Fine, SameFile}
 use Rattle.notes.specs.Changes.{length-note, note-same, note-other}
 use Rattle.notes.specs.Right.{length-fresh, fresh-at, freed-fresh}

@@ -13,7 +13,7 @@ use Rattle.lanes.specs.Lanes.{lanes, halfAt, wordAt, lanes-cong, lanes-and, lan
 use Rattle.format.specs.Diskette.{Bytes}
 use Rattle.format.specs.Names.{nameBytes, nameLike}
 use Rattle.format.specs.Entries.{userOf, exOf, extentOf}
-use Rattle.names.specs.Laws.{like-at, like-refl}
+use Rattle.facts.specs.Names.{like-at, like-refl}
 use Rattle.consistency.specs.Facts.{SameFile}
 
 abbrev pub keyCount : ℕ

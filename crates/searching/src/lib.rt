@@ -43,7 +43,7 @@ pub fn hit(user: u8, pattern: &[u8], row: &[u8]) -> bool
     if !extent_hit(pattern[11], row) {
         return false;
     }
-    names::name_like(true, pattern, 0, row, 1)
+    matching::name_like(true, pattern, 0, row, 1)
 }
 
 // The first entry from a place on that a pattern hits.

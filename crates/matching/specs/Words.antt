@@ -10,7 +10,7 @@ use Rattle.lists.specs.Below.{allBelow, all-intro}
 use Rattle.lanes.specs.Lanes.{lanes, wordAt, lanes-cong, lanes-and, lanes-same}
 use Rattle.format.specs.Diskette.{Bytes}
 use Rattle.format.specs.Names.{byteLike, nameLike}
-use Rattle.names.specs.Laws.{nameBits, like-at, same-byte}
+use Rattle.facts.specs.Names.{nameBits, like-at, same-byte}
 
 -- the low seven bits of each of eight bytes
 abbrev pub sevens : ℕ

@@ -6,11 +6,11 @@ use lib.ListN.{getD}
 use borrow.Author.Tests.{not-true, not-false}
 use Rattle.lists.specs.Below.{allBelow, all-more, all-fails, all-done}
 use Rattle.format.specs.Names.{nameBytes, byteLike, nameLike}
-use Rattle.names.specs.Words.{words-like, words-differ}
+use Rattle.matching.specs.Words.{words-like, words-differ}
 use borrow.Author.Needs.{needs}
 use native.Mathlib.Omega.{arith}
-use Rattle.names.proofs.name_same.Statement.{statement}
-use Rattle.names.proofs.name_same.Tie as tie
+use Rattle.matching.proofs.name_same.Statement.{statement}
+use Rattle.matching.proofs.name_same.Tie as tie
 
 abbrev Inv-loop : tie.InvT-loop
 Inv-loop s q r p i₀ i = (allBelow (λ (k : ℕ). byteLike false (getD s (q + k) 0) (getD r (p + k) 0)) i ≡ true) × (i ≤ nameBytes)

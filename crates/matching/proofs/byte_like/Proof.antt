@@ -2,8 +2,8 @@
 use borrow.Author.Tests.{eq-eqb, ne-eqb}
 use Rattle.lists.specs.Tests.{_and_, _or_}
 use Rattle.format.specs.Names.{byteLike}
-use Rattle.names.proofs.byte_like.Statement.{statement}
-use Rattle.names.proofs.byte_like.Tie as tie
+use Rattle.matching.proofs.byte_like.Statement.{statement}
+use Rattle.matching.proofs.byte_like.Tie as tie
 
 returns : tie.Need-returns
 unfolding byteLike _or_

@@ -8,8 +8,8 @@ use lib.ListN.{getD}
 use borrow.Author.Tests.{not-true, not-false}
 use Rattle.lists.specs.Below.{allBelow, all-none, all-more, all-fails, all-done}
 use Rattle.format.specs.Names.{nameBytes, byteLike, nameLike}
-use Rattle.names.proofs.name_like.Statement.{statement}
-use Rattle.names.proofs.name_like.Tie as tie
+use Rattle.matching.proofs.name_like.Statement.{statement}
+use Rattle.matching.proofs.name_like.Tie as tie
 
 abbrev Inv-loop : tie.InvT-loop
 Inv-loop wild s q r p i₀ i = (allBelow (λ (k : ℕ). byteLike wild (getD s (q + k) 0) (getD r (p + k) 0)) i ≡ true) × (i ≤ nameBytes)
