@@ -14,7 +14,7 @@ use Rattle.format.specs.Diskette.{Bytes, Geometry, Sound, entryBytes, slotCount
 use Rattle.format.specs.Names.{nameRight}
 use Rattle.format.specs.Entries.{entryAt, withEntry, entryPlace, empty, named}
 use Rattle.format.specs.Notes.{noteAt, pendingFor, releasedNote, releasedMap}
-use Rattle.notes.specs.FreeingLaws.{released-at}
+use Rattle.freeing.specs.Laws.{released-at}
 use Rattle.notes.specs.Numbers.{pending-not-free, pending-not-area, pending-not-recorded}
 use Rattle.notes.specs.Right.{NoteOk, ok-area, ok-recorded, ok-free, ok-pending}
 use Rattle.rows.specs.Entries.{entry-stored, entry-left, record-kept}

@@ -17,8 +17,8 @@ use Rattle.model.specs.Calls.{changedRow, changedRows, erasedRow}
 use Rattle.fields.specs.Changing.{length-changed, row-to-come, length-erasedRow}
 use Rattle.notes.specs.Numbers.{settled-not, pending-entry}
 use Rattle.notes.specs.Right.{NoteOk, ok-area, ok-recorded, ok-free, ok-pending, map-ok}
-use Rattle.notes.specs.Freeing.{unlistedMap, unheldNote, unheldMap, marksPick}
-use Rattle.notes.specs.FreeingLaws.{Freed, inEntries, entries-none, entries-kept, entries-more, entries-released, free-unheld}
+use Rattle.freeing.specs.Freeing.{unlistedMap, unheldNote, unheldMap, marksPick}
+use Rattle.freeing.specs.Laws.{Freed, inEntries, entries-none, entries-kept, entries-more, entries-released, free-unheld}
 
 -- ---- what is pending, in a right map, is pending for entries that there are
 module _ (G : Geometry) (d : Rows) (p q : ℕ → Bool) (same : (e : ℕ) → e < G .entries → p e ≡ q e) where

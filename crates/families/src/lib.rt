@@ -105,7 +105,7 @@ fn erase_entry(image: &mut [u8], map: &mut [u16], e: usize, user: u8, fcb: &[u8]
     if !entries::is_named(true, user, fcb, 1, r) {
         return 0;
     }
-    notes::free_slots(map, entries::slots(r));
+    freeing::free_slots(map, entries::slots(r));
     let at = rows::entry_place(e);
     image[at] = 0xE5;
     1
@@ -125,7 +125,7 @@ fn erase_entries(image: &mut [u8], map: &mut [u16], user: u8, fcb: &[u8])
         picked[e] = erase_entry(image, map, e, user, fcb);
         e += 1;
     }
-    notes::free_held(map, &picked);
+    freeing::free_held(map, &picked);
 }
 
 // 19: every extent that the name matches becomes empty, and the blocks of all of them free.

@@ -16,7 +16,7 @@ use Rattle.facts.specs.Names.{like-sym, like-trans, like-intro}
 use Rattle.consistency.specs.Facts.{Fine, SameFile}
 use Rattle.notes.specs.Changes.{length-note, note-same, note-other}
 use Rattle.notes.specs.Right.{length-fresh, fresh-at, freed-fresh}
-use Rattle.notes.specs.FreeingLaws.{length-released, released-at}
+use Rattle.freeing.specs.Laws.{length-released, released-at}
 use Rattle.rows.specs.Entries.{block-past, length-entryAt, entry-kept, length-withEntry, entry-stored, entry-left}
 use Rattle.disk.specs.Records.{length-withRecord}
 use Rattle.fields.specs.Agree.{isFile-cong}

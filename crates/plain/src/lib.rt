@@ -83,6 +83,6 @@ pub fn free_blocks(map: &mut [u16], session: Session) -> Answer
     ensures { λ r. ⌜ ((argument : ℕ) (image fcb buffer : Bytes) → outcome r image (now (map .exit)) fcb buffer
         ≡ ownStep eightInch argument (lend image (now (map .entry)) fcb buffer) session call98) ⌝ }
 {
-    notes::free_pending(map);
+    freeing::free_pending(map);
     answers::done(0, session)
 }

@@ -1,13 +1,13 @@
--- `notes::free_slots` meets its contract. The loop's invariant: the blocks of the slots below j are free, the other notes as they were.
+-- `freeing::free_slots` meets its contract. The loop's invariant: the blocks of the slots below j are free, the other notes as they were.
 use mathlib.Core.Path.{_≡_}
 use Prim.Native.Nat.{_-_, _≤_}
 use native.Mathlib.Omega.{arith}
 use borrow.Author.Needs.{needs}
 use Rattle.format.specs.Diskette.{eightInch, slotCount}
-use Rattle.notes.specs.Freeing.{inSlots}
-use Rattle.notes.specs.FreeingLaws.{Freed, slots-none, slots-more, slots-done}
-use Rattle.notes.proofs.free_slots.Statement.{statement}
-use Rattle.notes.proofs.free_slots.Tie as tie
+use Rattle.freeing.specs.Freeing.{inSlots}
+use Rattle.freeing.specs.Laws.{Freed, slots-none, slots-more, slots-done}
+use Rattle.freeing.proofs.free_slots.Statement.{statement}
+use Rattle.freeing.proofs.free_slots.Tie as tie
 
 abbrev Inv-loop : tie.InvT-loop
 Inv-loop map₀ slots j₀ map j = Freed (inSlots slots j) map₀ map × (j ≤ slotCount)

@@ -1,14 +1,14 @@
--- `notes::free_held` meets its contract. The loop's invariant: the notes below b are freed where they are held, the others as they were.
+-- `freeing::free_held` meets its contract. The loop's invariant: the notes below b are freed where they are held, the others as they were.
 use Prim.Native.Nat.{ℕ, _-_, _≤_}
 use native.Mathlib.Omega.{arith}
 use borrow.Author.Needs.{needs}
 use Rattle.lists.specs.Tab.{Filled, filled-none, filled-all}
 use Rattle.format.specs.Diskette.{eightInch}
 use Rattle.format.specs.Notes.{noteAt}
 use Rattle.notes.specs.Changes.{changed-note}
-use Rattle.notes.specs.Freeing.{unheldNote, unheldMap, marksPick}
-use Rattle.notes.proofs.free_held.Statement.{statement}
-use Rattle.notes.proofs.free_held.Tie as tie
+use Rattle.freeing.specs.Freeing.{unheldNote, unheldMap, marksPick}
+use Rattle.freeing.proofs.free_held.Statement.{statement}
+use Rattle.freeing.proofs.free_held.Tie as tie
 
 abbrev Inv-loop : tie.InvT-loop
 Inv-loop map₀ picked b₀ map b = Filled (λ (k : ℕ). unheldNote (marksPick picked) (noteAt map₀ k)) map₀ b map × (b ≤ eightInch .blocks)

@@ -1,4 +1,4 @@
--- `notes::held_for` meets its contract: an entry past the last has no mark, and is not picked.
+-- `freeing::held_for` meets its contract: an entry past the last has no mark, and is not picked.
 use mathlib.Core.Bool.{not}
 use mathlib.Core.Path.{_≡_, sym, ap}
 use Prim.Native.Nat.{ℕ, _-_, _/_, _≤_}
@@ -9,9 +9,9 @@ use borrow.Author.Needs.{needs}
 use borrow.Author.Tests.{le-leb, lt-leb}
 use Rattle.lists.specs.Tests.{and-then, and-fails-left, and-fails-right}
 use Rattle.format.specs.Notes.{isPending, pendingEntry, heldFor}
-use Rattle.notes.specs.Freeing.{marksPick}
-use Rattle.notes.proofs.held_for.Statement.{statement}
-use Rattle.notes.proofs.held_for.Tie as tie
+use Rattle.freeing.specs.Freeing.{marksPick}
+use Rattle.freeing.proofs.held_for.Statement.{statement}
+use Rattle.freeing.proofs.held_for.Tie as tie
 
 returns : tie.Need-returns
 unfolding heldFor isPending

@@ -1,13 +1,13 @@
--- `notes::free_pending` meets its contract. The loop's invariant: the notes below b are settled, the others as they were.
+-- `freeing::free_pending` meets its contract. The loop's invariant: the notes below b are settled, the others as they were.
 use Prim.Native.Nat.{ℕ, _-_, _≤_}
 use native.Mathlib.Omega.{arith}
 use borrow.Author.Needs.{needs}
 use Rattle.lists.specs.Tab.{Filled, filled-none, filled-all}
 use Rattle.format.specs.Diskette.{eightInch}
 use Rattle.format.specs.Notes.{noteAt, settledNote, freedMap}
 use Rattle.notes.specs.Changes.{changed-note}
-use Rattle.notes.proofs.free_pending.Statement.{statement}
-use Rattle.notes.proofs.free_pending.Tie as tie
+use Rattle.freeing.proofs.free_pending.Statement.{statement}
+use Rattle.freeing.proofs.free_pending.Tie as tie
 
 abbrev Inv-loop : tie.InvT-loop
 Inv-loop map₀ b₀ map b = Filled (λ (k : ℕ). settledNote (noteAt map₀ k)) map₀ b map × (b ≤ eightInch .blocks)

@@ -1,14 +1,14 @@
--- `notes::free_slot` meets its contract: a number past the last block changes no note.
+-- `freeing::free_slot` meets its contract: a number past the last block changes no note.
 use mathlib.Core.Path.{sym, ap, _∙_}
 use Prim.Native.Nat.{ℕ}
 use native.Mathlib.Omega.{arith}
 use borrow.Author.Needs.{needs}
 use borrow.Author.Tests.{eq-eqb, ne-eqb}
 use Rattle.format.specs.Notes.{freeNote, withNote}
 use Rattle.notes.specs.Changes.{note-out}
-use Rattle.notes.specs.Freeing.{unlistedSlot}
-use Rattle.notes.proofs.free_slot.Statement.{statement}
-use Rattle.notes.proofs.free_slot.Tie as tie
+use Rattle.freeing.specs.Freeing.{unlistedSlot}
+use Rattle.freeing.proofs.free_slot.Statement.{statement}
+use Rattle.freeing.proofs.free_slot.Tie as tie
 
 returns : tie.Need-returns
 unfolding unlistedSlot

@@ -1,8 +1,8 @@
--- `notes::settled_note` meets its contract: the code's test is the definition's.
+-- `freeing::settled_note` meets its contract: the code's test is the definition's.
 use borrow.Author.Tests.{le-leb, lt-leb}
 use Rattle.format.specs.Notes.{isPending, settledNote}
-use Rattle.notes.proofs.settled_note.Statement.{statement}
-use Rattle.notes.proofs.settled_note.Tie as tie
+use Rattle.freeing.proofs.settled_note.Statement.{statement}
+use Rattle.freeing.proofs.settled_note.Tie as tie
 
 returns : tie.Need-returns
 unfolding settledNote isPending

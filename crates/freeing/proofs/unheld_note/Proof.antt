@@ -1,8 +1,8 @@
--- `notes::unheld_note` meets its contract: the code's test is the definition's.
+-- `freeing::unheld_note` meets its contract: the code's test is the definition's.
 use borrow.Author.Needs.{needs}
-use Rattle.notes.specs.Freeing.{unheldNote}
-use Rattle.notes.proofs.unheld_note.Statement.{statement}
-use Rattle.notes.proofs.unheld_note.Tie as tie
+use Rattle.freeing.specs.Freeing.{unheldNote}
+use Rattle.freeing.proofs.unheld_note.Statement.{statement}
+use Rattle.freeing.proofs.unheld_note.Tie as tie
 
 held-for-requires : tie.Need-held-for-requires
 held-for-requires c κs = search needs

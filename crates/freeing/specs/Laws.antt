@@ -17,9 +17,9 @@ use Rattle.consistency.specs.Facts.{Stands}
 use Rattle.consistency.specs.Listed.{stands-at, stands-place, stands-listed}
 use Rattle.facts.specs.Slots.{getD-slotsOf}
 use Rattle.format.specs.Notes.{freeNote, noteAt, withNote, heldFor, listedBy, releasedNote, releasedMap}
 use Rattle.notes.specs.Numbers.{settled-not}
 use Rattle.notes.specs.Changes.{length-note, note-same, note-other}
-use Rattle.notes.specs.Freeing.{inSlots, unlistedNote, unlistedMap, unlistedSlot, unheldNote, unheldMap}
+use Rattle.freeing.specs.Freeing.{inSlots, unlistedNote, unlistedMap, unlistedSlot, unheldNote, unheldMap}
 
 -- ---- a map whose notes are as they were, but free at the blocks that pass p
 pub record Freed (p : ℕ → Bool) (old map : Bytes) : Type 0 where

@@ -1,0 +1,2 @@
+pub mod Freeing
+pub mod Laws
