@@ -26,7 +26,8 @@ use Rattle.model.specs.Calls.{entryNumber, closedAt, closed}
 use Rattle.table.specs.First.{_&_, here}
 use Rattle.table.specs.Own.{call16}
 use Rattle.facts.specs.Current.{current-says}
-use Rattle.current.specs.Current.{slotsSame, current-low}
+use Rattle.slots.specs.Slots.{slotsSame}
+use Rattle.current.specs.Current.{current-low}
 use Rattle.table.specs.OwnStep.{ownStep, refuses-own, carries-own}
 
 -- ---- slots that are the same: nothing is taken, so nothing changes

@@ -42,7 +42,7 @@ fn merged_slot(es: [u8; 16], fs: [u8; 16], j: usize) -> u8
 fn merge(es: [u8; 16], fs: [u8; 16]) -> [u8; 16]
     ensures { λ r. ⌜ r ≡ mergedSlots es fs ⌝ }
 {
-    if current::slots_same(es, fs) {
+    if slots::slots_same(es, fs) {
         return es;
     }
     let mut r = [0u8; 16];
@@ -95,7 +95,7 @@ fn record_block(map: &mut [u16], es: [u8; 16], fs: [u8; 16], j: usize)
 fn record_blocks(map: &mut [u16], es: [u8; 16], fs: [u8; 16])
     ensures { λ _. ⌜ now (map .exit) ≡ foldBelow (closedNote es fs) (now (map .entry)) slotCount ⌝ }
 {
-    if current::slots_same(es, fs) {
+    if slots::slots_same(es, fs) {
         return;
     }
     let mut j = 0;

@@ -1,29 +1,22 @@
 -- What it says that an FCB is current, as facts: its fields are in range, its entry is found, and its slots fit, slot by slot.
-use mathlib.Core.Path.{_≡_, sym, ap, _∙_}
+use mathlib.Core.Path.{_≡_, sym}
 use mathlib.Core.Bool.{Bool, true, false, cond}
-use Prim.Native.Nat.{ℕ, _+_, _-_, _≤_, _<_}
-use native.Mathlib.Nat.{zero-add}
-use lib.Dec.{eqb}
-use lib.ListN.{getD}
-use borrow.Author.Tests.{leb-true, le-leb, eqb-true, eq-eqb, ne-eqb}
-use Rattle.lists.specs.Cases.{split, bool-ext}
-use Rattle.lists.specs.Tests.{_and_, _or_, and-left, and-right, and-both, and-then, or-then, or-left, or-right, or-cases}
-use Rattle.lists.specs.Below.{allBelow, all-at, all-intro, all-cong, all-next}
-use lib.Bits.{bitOr, bitXor}
-use Rattle.lists.specs.Bits.{or-zero, xor-zero}
+use Prim.Native.Nat.{ℕ, _≤_, _<_}
+use borrow.Author.Tests.{leb-true, le-leb}
+use Rattle.lists.specs.Cases.{bool-ext}
+use Rattle.lists.specs.Tests.{_and_, and-left, and-right, and-both}
 use Rattle.format.specs.Diskette.{Bytes, Geometry, slotCount}
 use Rattle.format.specs.Names.{nameRight}
-use Rattle.format.specs.Entries.{Rows, slotsOf, slotOf, extentOf, findFile}
-use Rattle.format.specs.Notes.{pendingFor, noteAt}
-use Rattle.format.specs.Fcb.{crOf, crRight, fcbRight, slotFits, slotsFit, current}
+use Rattle.format.specs.Entries.{Rows, slotsOf, extentOf, findFile}
+use Rattle.format.specs.Fcb.{crOf, crRight, fcbRight, slotsFit, current}
 use Rattle.heads.specs.Head.{fieldsRight}
-use Rattle.facts.specs.Slots.{getD-slotsOf}
 use Rattle.facts.specs.Found.{FirstAt}
 use Rattle.facts.specs.Find.{fileTest, file-says}
 use Rattle.facts.specs.Current.{Current, current-fitting}
 use Rattle.format.specs.declared.Found.the-variants.{At, Nothing}
 use Rattle.consistency.specs.Facts.{Numbers}
 use Rattle.consistency.specs.Reflect.{numbers-elim, numbers-intro}
+use Rattle.slots.specs.Slots.{SlotOk, slots-say}
 
 -- ---- the fields
 pub record FcbOk (fcb : Bytes) : Type 0 where
@@ -50,67 +43,6 @@ fcb-fields fcb =
     bool-ext _ _
     (λ t. and-both _ _ (and-both _ _ (and-left _ _ t) (and-left _ _ (and-right _ _ t))) (and-right _ _ (and-right _ _ t)))
     (λ t. and-both _ _ (and-left _ _ (and-left _ _ t)) (and-both _ _ (and-right _ _ (and-left _ _ t)) (and-right _ _ t)))
-
--- ---- the slots
--- slot j of the FCB fits entry e, whose row is r
-pub data SlotOk (map : Bytes) (e : ℕ) (r fcb : Bytes) (j : ℕ) : Type 0 where
-  slot-same : slotOf fcb j ≡ slotOf r j → SlotOk map e r fcb j
-  slot-pending : slotOf r j ≡ 0 → noteAt map (slotOf fcb j) ≡ pendingFor e j → SlotOk map e r fcb j
-
-module _ (map : Bytes) (e : ℕ) (r fcb : Bytes) where
-  pub slot-says : (j : ℕ) → j < slotCount → slotFits map e (slotsOf r) (slotsOf fcb) j ≡ true → SlotOk map e r fcb j
-  unfolding slotFits
-  slot-says j h t =
-      let p : getD (slotsOf r) j 0 ≡ slotOf r j = getD-slotsOf r j h in
-      let q : getD (slotsOf fcb) j 0 ≡ slotOf fcb j = getD-slotsOf fcb j h in
-      split (or-cases _ _ t) (λ w. slot-same (sym q ∙ eqb-true _ _ w ∙ p))
-      (λ w. slot-pending (sym p ∙ eqb-true _ _ (and-left _ _ w)) (ap (noteAt map) (sym q) ∙ eqb-true _ _ (and-right _ _ w)))
-
-  pub slot-is : (j : ℕ) → j < slotCount → SlotOk map e r fcb j → slotFits map e (slotsOf r) (slotsOf fcb) j ≡ true
-  unfolding slotFits
-  slot-is j h (slot-same q) = or-left _ _ (eq-eqb _ _ (getD-slotsOf fcb j h ∙ q ∙ sym (getD-slotsOf r j h)))
-  slot-is j h (slot-pending z q) =
-      or-right _ _ (and-both _ _ (eq-eqb _ _ (getD-slotsOf r j h ∙ z)) (eq-eqb _ _ (ap (noteAt map) (getD-slotsOf fcb j h) ∙ q)))
-
-  pub slots-say : slotsFit map e (slotsOf r) (slotsOf fcb) ≡ true → (j : ℕ) → j < slotCount → SlotOk map e r fcb j
-  unfolding slotsFit
-  slots-say t j h = slot-says j h (all-at (slotFits map e (slotsOf r) (slotsOf fcb)) slotCount t j h)
-
-  pub slots-are : ((j : ℕ) → j < slotCount → SlotOk map e r fcb j) → slotsFit map e (slotsOf r) (slotsOf fcb) ≡ true
-  unfolding slotsFit
-  slots-are f = all-intro (slotFits map e (slotsOf r) (slotsOf fcb)) slotCount (λ j h. slot-is j h (f j h))
-
--- slots that differ, where the entry's is 0: the note of the FCB's block decides
-pub slot-by-note : (map es fs : Bytes) (e j b n p : ℕ) → (getD fs j 0 ≡ getD es j 0 → ⊥) → getD es j 0 ≡ 0
-    → b ≡ getD fs j 0 → n ≡ noteAt map b → p ≡ pendingFor e j → eqb n p ≡ slotFits map e es fs j
-unfolding slotFits
-slot-by-note map es fs e j b n p x z hb hn hp =
-    rw (hn, hp, hb) (sym (or-then _ _ (ne-eqb _ _ x) ∙ and-then _ _ (eq-eqb _ _ z)))
-
--- ---- the usual case: every slot of the FCB is the entry's
-unfoldable pub slotsSame : Bytes → Bytes → Bool
-slotsSame es fs = allBelow (λ (j : ℕ). eqb (getD fs j 0) (getD es j 0)) slotCount
-
-pub same-slots-fit : (map es fs : Bytes) (e : ℕ) → slotsSame es fs ≡ true → slotsFit map e es fs ≡ true
-unfolding slotsSame slotsFit slotFits
-same-slots-fit map es fs e t = all-intro (slotFits map e es fs) slotCount (λ j h. or-left _ _ (all-at _ slotCount t j h))
-
--- the same where the sixteen bytes stand from a place on: in slots taken out, and in rows
-unfoldable pub sameFrom : Bytes → Bytes → ℕ → Bool
-sameFrom r t at = allBelow (λ (j : ℕ). eqb (getD t (at + j) 0) (getD r (at + j) 0)) slotCount
-
-pub same-out : (es fs : Bytes) → sameFrom es fs 0 ≡ slotsSame es fs
-unfolding sameFrom slotsSame
-same-out es fs = all-cong _ _ slotCount (λ j h. rw zero-add)
-
-pub same-in : (r t : Bytes) → sameFrom r t 16 ≡ slotsSame (slotsOf r) (slotsOf t)
-unfolding sameFrom slotsSame slotOf
-same-in r t = all-cong _ _ slotCount (λ j h. rw (getD-slotsOf r j h, getD-slotsOf t j h))
-
--- a turn of the loop that or-s the bits in which bytes differ
-pub same-more : (r t : Bytes) (at d j : ℕ) → eqb d 0 ≡ allBelow (λ (k : ℕ). eqb (getD t (at + k) 0) (getD r (at + k) 0)) j
-    → eqb (bitOr d (bitXor (getD t (at + j) 0) (getD r (at + j) 0))) 0 ≡ allBelow (λ (k : ℕ). eqb (getD t (at + k) 0) (getD r (at + k) 0)) (j + 1)
-same-more r t at d j h = or-zero d _ ∙ rw (h, xor-zero (getD t (at + j) 0) (getD r (at + j) 0)) (sym (all-next _ j))
 
 -- ---- the FCB is current, and e is its entry
 module _ (G : Geometry) (d : Rows) (map : Bytes) (user : ℕ) (fcb : Bytes) where

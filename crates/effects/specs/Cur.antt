@@ -16,7 +16,8 @@ use Rattle.consistency.specs.Facts.{Consistent}
 use Rattle.invariant.specs.Close.{Held}
 use Rattle.facts.specs.Slots.{slot-for-below}
 use Rattle.facts.specs.Current.{Current, current-is, current-says}
-use Rattle.current.specs.Current.{current-file, current-slot, SlotOk, slot-same, slot-pending, slots-are}
+use Rattle.slots.specs.Slots.{SlotOk, slot-same, slot-pending, slots-are}
+use Rattle.current.specs.Current.{current-file, current-slot}
 use Rattle.notes.specs.Numbers.{pending-block}
 use Rattle.model.specs.Target.{placeIn}
 use Rattle.effects.specs.View.{View, viewOf, Names, Mine, listed, pending}

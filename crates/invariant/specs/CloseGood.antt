@@ -16,7 +16,8 @@ use Rattle.fields.specs.Images.{length-closedImage, row-closedImage, row-closed
 use Rattle.fields.specs.Naming.{file-used}
 use Rattle.fields.specs.Closing.{right-closed, numbers-closed, slot-closed-new, slot-closed-cases, file-closed, length-closedMap, note-closed-taken, note-closed-left}
 use Rattle.facts.specs.Current.{Current}
-use Rattle.current.specs.Current.{SlotOk, slot-same, slot-pending, fcb-says, current-low, current-file, current-slot}
+use Rattle.slots.specs.Slots.{SlotOk, slot-same, slot-pending}
+use Rattle.current.specs.Current.{fcb-says, current-low, current-file, current-slot}
 use Rattle.invariant.specs.Carry.{same-refl}
 use Rattle.invariant.specs.Close.{Held, ClosedTo, close-inv}
 use Rattle.invariant.specs.Good.{Good}

@@ -32,7 +32,8 @@ use Rattle.facts.specs.Naming.{named-intro, file-intro, file-user, file-like}
 use Rattle.fields.specs.Naming.{file-used}
 use Rattle.fields.specs.Target.{map-written-kept, targetSlot-below}
 use Rattle.facts.specs.Current.{Current, current-says}
-use Rattle.current.specs.Current.{SlotOk, slot-same, slot-pending, fcb-says, current-file, current-slot}
+use Rattle.slots.specs.Slots.{SlotOk, slot-same, slot-pending}
+use Rattle.current.specs.Current.{fcb-says, current-file, current-slot}
 use Rattle.table.specs.Facts.{Fits, Reads, Writes}
 use Rattle.table.specs.Plans.{Block, there, free, There, Planned, stay, move, make, planned-read, planned-write}
 use Rattle.invariant.specs.Good.{Good}

@@ -25,7 +25,8 @@ use Rattle.notes.specs.Numbers.{pending-block}
 use Rattle.notes.specs.Free.{free-is}
 use Rattle.facts.specs.Find.{file-says, empty-says}
 use Rattle.facts.specs.Current.{Current, current-says}
-use Rattle.current.specs.Current.{SlotOk, slot-same, slot-pending, fcb-says, current-slot, current-low}
+use Rattle.slots.specs.Slots.{SlotOk, slot-same, slot-pending}
+use Rattle.current.specs.Current.{fcb-says, current-slot, current-low}
 use Rattle.fields.specs.Naming.{file-used}
 use Rattle.fields.specs.Target.{record-below, crAfter-high, targetSlot-below}
 use Rattle.table.specs.First.{passed-none}

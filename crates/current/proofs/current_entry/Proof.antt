@@ -11,7 +11,8 @@ use Rattle.format.specs.Fcb.{fcbRight, current}
 use Rattle.format.specs.declared.Found.the-variants.{At, Nothing}
 use Rattle.facts.specs.Find.{file-says}
 use Rattle.facts.specs.Current.{current-wrong, current-missing}
-use Rattle.current.specs.Current.{same-in, same-slots-fit, current-by}
+use Rattle.slots.specs.Slots.{same-in, same-slots-fit}
+use Rattle.current.specs.Current.{current-by}
 use Rattle.current.proofs.current_entry.Statement.{statement}
 use Rattle.current.proofs.current_entry.Tie as tie
 

@@ -1,4 +1,4 @@
--- `current::slots_fit` meets its contract. The loop's invariant: the slots below j fit.
+-- `slots::slots_fit` meets its contract. The loop's invariant: the slots below j fit.
 use mathlib.Core.Bool.{true}
 use mathlib.Core.Path.{_≡_, sym, _∙_}
 use Prim.Native.Nat.{_-_, _≤_}
@@ -8,8 +8,8 @@ use borrow.Author.Tests.{not-true, not-false}
 use Rattle.lists.specs.Below.{allBelow, all-none, all-more, all-fails, all-done}
 use Rattle.format.specs.Diskette.{slotCount}
 use Rattle.format.specs.Fcb.{slotFits, slotsFit}
-use Rattle.current.proofs.slots_fit.Statement.{statement}
-use Rattle.current.proofs.slots_fit.Tie as tie
+use Rattle.slots.proofs.slots_fit.Statement.{statement}
+use Rattle.slots.proofs.slots_fit.Tie as tie
 
 abbrev Inv-loop : tie.InvT-loop
 Inv-loop map e es fs j₀ j = (allBelow (slotFits map e es fs) j ≡ true) × (j ≤ slotCount)

@@ -1,9 +1,9 @@
 -- The sixteen slots taken out stand from 0 on.
 use mathlib.Core.Path.{_∙_}
 use borrow.Author.Needs.{needs}
-use Rattle.current.specs.Current.{same-out}
-use Rattle.current.proofs.slots_same.Statement.{statement}
-use Rattle.current.proofs.slots_same.Tie as tie
+use Rattle.slots.specs.Slots.{same-out}
+use Rattle.slots.proofs.slots_same.Statement.{statement}
+use Rattle.slots.proofs.slots_same.Tie as tie
 
 slice-aggregate-same-from : tie.Need-slice-aggregate-same-from
 slice-aggregate-same-from c = search needs

@@ -1,4 +1,4 @@
--- `current::same_from` meets its contract. The invariant: no bit differs exactly where the first j bytes are the same.
+-- `slots::same_from` meets its contract. The invariant: no bit differs exactly where the first j bytes are the same.
 use mathlib.Core.Path.{_≡_, sym}
 use Prim.Native.Nat.{ℕ, _+_, _-_, _≤_}
 use native.Mathlib.Omega.{arith}
@@ -6,9 +6,9 @@ use lib.Dec.{eqb}
 use lib.ListN.{getD}
 use Rattle.lists.specs.Below.{allBelow, all-none}
 use Rattle.format.specs.Diskette.{slotCount}
-use Rattle.current.specs.Current.{sameFrom, same-more}
-use Rattle.current.proofs.same_from.Statement.{statement}
-use Rattle.current.proofs.same_from.Tie as tie
+use Rattle.slots.specs.Slots.{sameFrom, same-more}
+use Rattle.slots.proofs.same_from.Statement.{statement}
+use Rattle.slots.proofs.same_from.Tie as tie
 
 abbrev Inv-loop : tie.InvT-loop
 Inv-loop r t at differ₀ j₀ differ j = (eqb differ 0 ≡ allBelow (λ (k : ℕ). eqb (getD t (at + k) 0) (getD r (at + k) 0)) j) × (j ≤ slotCount)

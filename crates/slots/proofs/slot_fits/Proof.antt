@@ -1,12 +1,12 @@
--- `current::slot_fits` meets its contract: the tests stand in the definition's order, and the last one compares the note.
+-- `slots::slot_fits` meets its contract: the tests stand in the definition's order, and the last one compares the note.
 use mathlib.Core.Path.{sym, _∙_}
 use borrow.Author.Needs.{needs}
 use borrow.Author.Tests.{eq-eqb, ne-eqb}
 use Rattle.lists.specs.Tests.{and-fails-left, or-then, or-left}
 use Rattle.format.specs.Fcb.{slotFits}
-use Rattle.current.specs.Current.{slot-by-note}
-use Rattle.current.proofs.slot_fits.Statement.{statement}
-use Rattle.current.proofs.slot_fits.Tie as tie
+use Rattle.slots.specs.Slots.{slot-by-note}
+use Rattle.slots.proofs.slot_fits.Statement.{statement}
+use Rattle.slots.proofs.slot_fits.Tie as tie
 
 array-read-if1 : tie.Need-array-read-if1
 array-read-if1 c = search needs
