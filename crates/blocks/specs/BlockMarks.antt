@@ -22,7 +22,8 @@ use Rattle.format.specs.Consistent.{slotRight, slotsRight, slotsInAll, listed, 
 use Rattle.format.specs.Notes.{isListed}
 use Rattle.facts.specs.Marks.{markCount, Marked}
 use Rattle.consistency.specs.Listed.{listed-used, listed-unused}
-use Rattle.blocks.specs.Runs.{numberFree, markNumber, markRun, runFree}
+use Rattle.marks.specs.Numbers.{startMarks, numberFree, markNumber}
+use Rattle.blocks.specs.Runs.{markRun, runFree}
 
 -- no block past the directory has this number
 unfoldable pub barred : Geometry → ℕ → Bool
@@ -32,10 +33,6 @@ barred G b = ltb b (G .area) or leb (G .blocks) b
 pub record BlockMarks (G : Geometry) (d : Rows) (x : ℕ) (l : Bytes) : Type 0 where
   pub long : length l ≡ markCount
   pub seen : Seen (barred G) (listed d) x l
-
--- the marks before the first slot
-unfoldable pub startMarks : Geometry → Bytes → Bytes
-startMarks G l = splice (splice (splice l 0 (copies markCount 0)) 1 (copies (G .area - 1) 1)) (G .blocks) (copies (markCount - G .blocks) 1)
 
 -- the first j slots of a row marked, and whether each slot may list what it lists
 unfoldable pub markSlots : Bytes → Bytes → ℕ → Bytes

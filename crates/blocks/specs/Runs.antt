@@ -17,13 +17,7 @@ use Rattle.lists.specs.Seen.{set-none, set-keeps-none}
 use Rattle.lists.specs.Bits.{or-zero, or-none}
 use Rattle.lanes.specs.Lanes.{halfAt, wordAt, half-zero, zero-half, word-zero, zero-word}
 use Rattle.format.specs.Diskette.{Bytes}
-
--- b has no mark; and b marked
-unfoldable pub numberFree : Bytes → ℕ → Bool
-numberFree l b = eqb (getD l b 0) 0
-
-unfoldable pub markNumber : Bytes → ℕ → Bytes
-markNumber l b = set l b b
+use Rattle.marks.specs.Numbers.{numberFree, markNumber}
 
 -- the n numbers of r from `at` on marked, and whether each was free as its turn came
 unfoldable pub markRun : Bytes → Bytes → ℕ → ℕ → Bytes

@@ -1,36 +1,11 @@
-// The block numbers that slots list: one mark each, so that a number out of range or listed before is seen when it comes.
+// The blocks that the slots of a row list: their numbers are taken among the marks, and whether each was free is seen.
 ghost use mathlib.Core.Path.{_≡_};
 ghost use Prim.Native.Nat.{_+_, _*_, _≤_, _<_};
 ghost use lib.ListN.{getD, length};
-ghost use Rattle.format.specs.Diskette.{eightInch, entryBytes, slotCount};
+ghost use Rattle.format.specs.Diskette.{entryBytes, slotCount};
 ghost use Rattle.facts.specs.Marks.{markCount};
-ghost use Rattle.blocks.specs.Runs.{markNumber, Taken, restZero};
-ghost use Rattle.blocks.specs.BlockMarks.{startMarks, markSlots, slotsFree};
-use format::AREA_BLOCKS;
-use format::BLOCKS;
-use format::MARKS;
-
-// Marks the numbers that are no block's past the directory: no slot may list them.
-pub fn start_marks(marks: &mut [u8])
-    requires { ⌜ length (now marks) ≡ markCount ⌝ }
-    ensures { λ _. ⌜ now (marks .exit) ≡ startMarks eightInch (now (marks .entry)) ⌝ }
-{
-    lists::fill(marks, 0, MARKS, 0);
-    lists::fill(marks, 1, AREA_BLOCKS - 1, 1);
-    lists::fill(marks, BLOCKS, MARKS - BLOCKS, 1);
-}
-
-// Takes the number's place among the marks; the answer is the mark that stood there, 0 where the number was free. A slot of 0 lists
-// nothing: its mark is 0 and stays so, and no test is needed.
-fn take_number(marks: &mut [u8], b: u8) -> u8
-    requires { ⌜ length (now marks) ≡ markCount ⌝ }
-    ensures { λ old. ⌜ (old ≡ getD (now (marks .entry)) b 0) × (now (marks .exit) ≡ markNumber (now (marks .entry)) b) ⌝ }
-{
-    let at = lists::wide(b);
-    let old = marks[at];
-    marks[at] = b;
-    old
-}
+ghost use Rattle.blocks.specs.Runs.{Taken, restZero};
+ghost use Rattle.blocks.specs.BlockMarks.{markSlots, slotsFree};
 
 // Takes the four numbers of a row from `at` on; the answer is the marks that they met or-ed together, so 0 where each was free.
 fn take_four(marks: &mut [u8], r: &[u8], at: usize) -> u8
@@ -40,7 +15,7 @@ fn take_four(marks: &mut [u8], r: &[u8], at: usize) -> u8
     let mut met: u8 = 0;
     let mut j = 0;
     while j < 4 {
-        met = met | take_number(marks, r[at + j]);
+        met = met | marks::take_number(marks, r[at + j]);
         j += 1;
     }
     met

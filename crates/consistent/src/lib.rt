@@ -65,7 +65,7 @@ pub fn is_consistent(image: &[u8], marks: &mut [u8], chain: &mut [u8]) -> bool
         × (b ≡ true → Marked eightInch (entryAt eightInch (now (image .entry))) (now (marks .exit))
         × Indexed eightInch (entryAt eightInch (now (image .entry))) (now (chain .exit))) ⌝ }
 {
-    blocks::start_marks(marks);
+    marks::start_marks(marks);
     chains::start(chain);
     let mut d = 0;
     while d < DIRECTORY_RECORDS {

@@ -2,16 +2,14 @@
 use mathlib.Core.Path.{_≡_, refl, sym}
 use mathlib.Core.Bool.{Bool, true, false, not, cond}
 use mathlib.Core.List.{List, [], _∷_}
-use Prim.Native.Nat.{ℕ, _-_, _<_}
+use Prim.Native.Nat.{ℕ, _<_}
 use lib.Dec.{eqb, leb, ltb}
 use lib.ListN.{getD}
-use lib.Bits.{bitAnd, bitOr}
+use lib.Bits.{bitAnd}
 use Rattle.lists.specs.Tests.{_and_, _or_}
 use Rattle.lists.specs.Below.{allBelow, all-at}
 use Rattle.format.specs.Names.{sevenBits, nameByte}
-
-abbrev pub headBytes : ℕ
-headBytes = 16
+use Rattle.faults.specs.Faults.{headBytes, faultOf}
 
 -- ---- the tables, one number a byte: the bits that count, the lowest and the highest that they may make, and one between that they
 -- may not. 255 is barred where none is: it is too high anyway, or nothing counts
@@ -26,10 +24,6 @@ highest = 15 ∷ 126 ∷ 126 ∷ 126 ∷ 126 ∷ 126 ∷ 126 ∷ 126 ∷ 126 ∷
 
 unfoldable pub barred : List ℕ
 barred = 255 ∷ 63 ∷ 63 ∷ 63 ∷ 63 ∷ 63 ∷ 63 ∷ 63 ∷ 63 ∷ 63 ∷ 63 ∷ 63 ∷ 255 ∷ 255 ∷ 255 ∷ 255 ∷ []
-
--- what is wrong with a number: how far it is too high, or too low, or that it is barred
-unfoldable pub faultOf : ℕ → ℕ → ℕ → ℕ → ℕ
-faultOf x low high bar = bitOr (bitOr (x - high) (low - x)) (cond (eqb x bar) 1 0)
 
 -- what is wrong with byte i of a head, where it is b
 unfoldable pub byteFault : ℕ → ℕ → ℕ

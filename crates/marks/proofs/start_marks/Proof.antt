@@ -1,13 +1,13 @@
 -- The three runs of marks, one after the other.
-use Rattle.blocks.specs.BlockMarks.{startMarks}
+use Rattle.marks.specs.Numbers.{startMarks}
 use Rattle.facts.specs.Marks.{markCount}
 use Rattle.format.specs.Diskette.{Bytes, eightInch}
 use Rattle.lists.specs.Splice.{splice, copies}
 use Prim.Native.Nat.{_-_}
 use mathlib.Core.Path.{ap, _∙_}
 use borrow.Author.Needs.{needs}
-use Rattle.blocks.proofs.start_marks.Statement.{statement}
-use Rattle.blocks.proofs.start_marks.Tie as tie
+use Rattle.marks.proofs.start_marks.Statement.{statement}
+use Rattle.marks.proofs.start_marks.Tie as tie
 
 fill-requires : tie.Need-fill-requires
 fill-requires c κs = search needs

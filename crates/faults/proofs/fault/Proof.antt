@@ -1,9 +1,9 @@
 -- The three parts of a fault, or-ed.
 use mathlib.Core.Path.{refl}
-use Rattle.heads.specs.Bytes.{faultOf}
+use Rattle.faults.specs.Faults.{faultOf}
 use borrow.Author.Needs.{needs}
-use Rattle.heads.proofs.fault.Statement.{statement}
-use Rattle.heads.proofs.fault.Tie as tie
+use Rattle.faults.proofs.fault.Statement.{statement}
+use Rattle.faults.proofs.fault.Tie as tie
 
 above-requires : tie.Need-above-requires
 above-requires c κs = search needs

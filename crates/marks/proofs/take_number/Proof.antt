@@ -1,9 +1,9 @@
 -- A number has its place in the marks, since there is one for each byte.
-use Rattle.blocks.specs.Runs.{markNumber}
+use Rattle.marks.specs.Numbers.{markNumber}
 use mathlib.Core.Path.{_≡_}
 use borrow.Author.Needs.{needs}
-use Rattle.blocks.proofs.take_number.Statement.{statement}
-use Rattle.blocks.proofs.take_number.Tie as tie
+use Rattle.marks.proofs.take_number.Statement.{statement}
+use Rattle.marks.proofs.take_number.Tie as tie
 
 wide-requires : tie.Need-wide-requires
 wide-requires c κs = search needs

@@ -4,11 +4,11 @@ use Prim.Native.Nat.{ℕ, _-_, _≤_}
 use lib.ListN.{getD, length, length-set}
 use lib.Bits.{bitAnd}
 use Rattle.lists.specs.Tab.{Filled, filled-none, filled-more, filled-all}
-use Rattle.heads.specs.Bytes.{headBytes, faultOf}
+use Rattle.faults.specs.Faults.{headBytes, faultOf}
 use borrow.Author.Needs.{needs}
 use native.Mathlib.Omega.{arith}
-use Rattle.heads.proofs.find_faults.Statement.{statement}
-use Rattle.heads.proofs.find_faults.Tie as tie
+use Rattle.faults.proofs.find_faults.Statement.{statement}
+use Rattle.faults.proofs.find_faults.Tie as tie
 
 abbrev Inv-loop : tie.InvT-loop
 Inv-loop r counted lowest highest barred out₀ i₀ out i = Filled (λ (k : ℕ). faultOf (bitAnd (getD r k 0) (getD counted k 0)) (getD lowest k 0) (getD highest k 0) (getD barred k 0)) out₀ i out × (i ≤ headBytes) × (length out ≡ headBytes)

@@ -1,8 +1,8 @@
 -- The test decides the choice.
 use mathlib.Core.Path.{refl}
 use borrow.Author.Tests.{eq-eqb, ne-eqb}
-use Rattle.heads.proofs.same.Statement.{statement}
-use Rattle.heads.proofs.same.Tie as tie
+use Rattle.faults.proofs.same.Statement.{statement}
+use Rattle.faults.proofs.same.Tie as tie
 
 returns : tie.Need-returns
 returns c = rw (eq-eqb _ _ (c .if1 .taken)) refl
