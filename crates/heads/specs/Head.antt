@@ -18,7 +18,7 @@ use Rattle.format.specs.Entries.{used}
 use Rattle.format.specs.Consistent.{numbersRight}
 use Rattle.facts.specs.Names.{Named, right-elim, right-intro}
 use Rattle.faults.specs.Faults.{headBytes}
-use Rattle.heads.specs.Bytes.{byteFault, byteOk, fault-tells}
+use Rattle.faults.specs.Bytes.{byteFault, byteOk, fault-tells}
 
 -- the name and the numbers of a row or an FCB
 unfoldable pub fieldsRight : Bytes → Bool

@@ -10,7 +10,7 @@ ghost use Rattle.heads.specs.Head.{fieldsRight, rowRight, headFault};
 use faults::HEAD_BYTES;
 
 // What each byte may be, from the user to rc: the bits that count, the lowest and the highest number that they may make, and one
-// between that they may not. specs/Bytes.antt shows that these are the rules.
+// between that they may not. The specs of `faults` show that these are the rules.
 const COUNTED: [u8; HEAD_BYTES] = [
     255,
     127,

@@ -1,4 +1,4 @@
--- What the marks of a directory tell of fresh notes and of right ones.
+-- What the marks of a directory tell of right notes, and what a map without differences from the fresh one is.
 use mathlib.Core.Path.{_≡_, sym, subst, _∙_}
 use mathlib.Core.Bool.{Bool, true, false, not, cond}
 use Prim.Native.Nat.{ℕ, _+_, _≤_, _<_}
@@ -14,11 +14,8 @@ use Rattle.format.specs.Diskette.{Bytes, Geometry}
 use Rattle.format.specs.Entries.{Rows}
 use Rattle.facts.specs.Marks.{Marked}
 use Rattle.format.specs.Notes.{freeNote, areaNote, recordedNote, noteAt, isListed, heldByUsed, noteRight, mapRight, freshNote}
+use Rattle.fresh.specs.Note.{toldNote, fresh-area, fresh-told}
 use Rattle.notes.specs.Right.{NoteOk, ok-map, fresh-ok}
-
--- the note that a mark tells of a block past the directory: the fresh one, where the marks are the directory's
-unfoldable pub toldNote : ℕ → ℕ
-toldNote mark = cond (eqb mark 0) freeNote recordedNote
 
 -- block b is past the directory, and its note is not the one that its mark tells
 unfoldable pub differs : Geometry → Bytes → Bytes → ℕ → Bool
@@ -33,10 +30,6 @@ areaRight G map = allBelow (λ (b : ℕ). eqb (noteAt map b) areaNote) (G .area)
 
 -- ---- one block
 module _ (G : Geometry) (d : Rows) (b : ℕ) where
-  pub fresh-area : b < G .area → freshNote G d b ≡ areaNote
-  unfolding freshNote
-  fresh-area h = rw (lt-ltb b (G .area) h)
-
   pub right-area : (n : ℕ) → b < G .area → noteRight G d b n ≡ eqb n areaNote
   unfolding noteRight
   right-area n h = rw (lt-ltb b (G .area) h)
@@ -47,13 +40,6 @@ module _ (G : Geometry) (d : Rows) (b : ℕ) where
 
     unmarked-spare : getD marks b 0 ≡ 0 → isListed G d b ≡ false
     unmarked-spare z = not-true _ (sym (m .mark b past below) ∙ eq-eqb _ _ z)
-
-    pub fresh-told : freshNote G d b ≡ toldNote (getD marks b 0)
-    unfolding freshNote toldNote
-    fresh-told =
-        split (bool-cases (isListed G d b))
-        (λ y. rw (le-ltb b (G .area) past, m .mark b past below, y))
-        (λ y. rw (le-ltb b (G .area) past, m .mark b past below, y))
 
     pub right-recorded : (n : ℕ) → (getD marks b 0 ≡ 0 → ⊥) → noteRight G d b n ≡ eqb n recordedNote
     unfolding noteRight

@@ -1,4 +1,4 @@
-// The map against the directory: the fresh map of what is listed, and whether a map is right.
+// The map against the directory: whether it is right.
 ghost use mathlib.Core.Path.{_≡_};
 ghost use mathlib.Core.Bool.{not, cond};
 ghost use Prim.Native.Nat.{_<_};
@@ -7,41 +7,9 @@ ghost use lib.ListN.{length};
 ghost use Rattle.format.specs.Diskette.{eightInch, imageBytes};
 ghost use Rattle.format.specs.Entries.{Rows, entryAt};
 ghost use Rattle.facts.specs.Marks.{Marked, markCount};
-ghost use Rattle.format.specs.Notes.{freshNote, freshMap, heldByUsed, noteRight, mapRight};
-ghost use Rattle.maps.specs.Told.{toldNote, differenceCount, areaRight};
-
-// The fresh note of a block past the directory, which its mark tells.
-fn told_note(mark: u8) -> u16
-    ensures { λ r. ⌜ r ≡ toldNote mark ⌝ }
-{
-    if mark == 0 {
-        return notes::FREE;
-    }
-    notes::RECORDED
-}
-
-// The fresh note of block b.
-fn fresh_note(b: usize, marks: &[u8]) -> u16
-    requires { ⌜ (length (now marks) ≡ markCount) × (b < eightInch .blocks) ⌝ }
-    ensures { λ r. ⌜ ((d : Rows) → Marked eightInch d (now (marks .entry)) → r ≡ freshNote eightInch d b) ⌝ }
-{
-    if b < format::AREA_BLOCKS {
-        return notes::AREA;
-    }
-    told_note(marks[b])
-}
-
-// The fresh map of the directory whose listed blocks are marked.
-pub fn make_fresh(map: &mut [u16], marks: &[u8])
-    requires { ⌜ (length (now map) ≡ eightInch .blocks) × (length (now marks) ≡ markCount) ⌝ }
-    ensures { λ _. ⌜ ((d : Rows) → Marked eightInch d (now (marks .entry)) → now (map .exit) ≡ freshMap eightInch d) ⌝ }
-{
-    let mut b = 0;
-    while b < format::BLOCKS {
-        notes::set_note(map, b, fresh_note(b, marks));
-        b += 1;
-    }
-}
+ghost use Rattle.format.specs.Notes.{heldByUsed, noteRight, mapRight};
+ghost use Rattle.fresh.specs.Note.{toldNote};
+ghost use Rattle.maps.specs.Told.{differenceCount, areaRight};
 
 // Whether a note is pending for a used entry.
 fn held_by_used(n: u16, image: &[u8]) -> bool
@@ -111,7 +79,7 @@ fn area_right(map: &[u16]) -> bool
 fn difference(n: u16, mark: u8) -> u16
     ensures { λ r. ⌜ r ≡ cond (not (eqb n (toldNote mark))) 1 0 ⌝ }
 {
-    if n != told_note(mark) {
+    if n != fresh::told_note(mark) {
         return 1;
     }
     0

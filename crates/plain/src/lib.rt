@@ -22,7 +22,7 @@ pub fn log_in(map: &mut [u16], marks: &[u8], session: Session) -> Answer
         → outcome r image (now (map .exit)) fcb buffer
         ≡ ownStep eightInch argument (lend image (now (map .entry)) fcb buffer) session call13) ⌝ }
 {
-    maps::make_fresh(map, marks);
+    fresh::make_fresh(map, marks);
     answers::done(0, session)
 }
 

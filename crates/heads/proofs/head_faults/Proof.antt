@@ -1,5 +1,5 @@
 -- The tables are those of the definitions.
-use Rattle.heads.specs.Bytes.{byteFault, counted, lowest, highest, barred}
+use Rattle.faults.specs.Bytes.{byteFault, counted, lowest, highest, barred}
 use Rattle.heads.specs.Head.{headFault}
 use borrow.Author.Needs.{needs}
 use Rattle.heads.proofs.head_faults.Statement.{statement}

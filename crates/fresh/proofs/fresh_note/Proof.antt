@@ -2,9 +2,9 @@
 use mathlib.Core.Path.{sym, _∙_}
 use borrow.Author.Needs.{needs}
 use Rattle.format.specs.Diskette.{eightInch}
-use Rattle.maps.specs.Told.{fresh-area, fresh-told}
-use Rattle.maps.proofs.fresh_note.Statement.{statement}
-use Rattle.maps.proofs.fresh_note.Tie as tie
+use Rattle.fresh.specs.Note.{fresh-area, fresh-told}
+use Rattle.fresh.proofs.fresh_note.Statement.{statement}
+use Rattle.fresh.proofs.fresh_note.Tie as tie
 
 returns : tie.Need-returns
 returns c = λ d m. sym (fresh-area eightInch d _ (c .if1 .taken))

@@ -1,8 +1,8 @@
 -- `maps::told_note` meets its contract: the test is the definition's.
 use borrow.Author.Tests.{eq-eqb, ne-eqb}
-use Rattle.maps.specs.Told.{toldNote}
-use Rattle.maps.proofs.told_note.Statement.{statement}
-use Rattle.maps.proofs.told_note.Tie as tie
+use Rattle.fresh.specs.Note.{toldNote}
+use Rattle.fresh.proofs.told_note.Statement.{statement}
+use Rattle.fresh.proofs.told_note.Tie as tie
 
 returns : tie.Need-returns
 unfolding toldNote

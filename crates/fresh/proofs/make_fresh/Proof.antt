@@ -1,4 +1,4 @@
--- `maps::make_fresh` meets its contract. The loop's invariant, for each directory so marked: the notes below b are fresh ones.
+-- `fresh::make_fresh` meets its contract. The loop's invariant, for each directory so marked: the notes below b are fresh ones.
 use mathlib.Core.Path.{_≡_, refl}
 use Prim.Native.Nat.{_-_, _≤_}
 use native.Mathlib.Omega.{arith}
@@ -10,8 +10,8 @@ use Rattle.format.specs.Entries.{Rows}
 use Rattle.facts.specs.Marks.{Marked}
 use Rattle.format.specs.Notes.{freshNote, freshMap}
 use Rattle.notes.specs.Changes.{filled-note}
-use Rattle.maps.proofs.make_fresh.Statement.{statement}
-use Rattle.maps.proofs.make_fresh.Tie as tie
+use Rattle.fresh.proofs.make_fresh.Statement.{statement}
+use Rattle.fresh.proofs.make_fresh.Tie as tie
 
 abbrev Inv-loop : tie.InvT-loop
 Inv-loop map₀ marks b₀ map b =
