@@ -1,6 +1,6 @@
 -- The loop's invariant: no entry below e is named and read-only.
 use mathlib.Core.Path.{_≡_, sym}
-use mathlib.Core.Bool.{Bool, false}
+use mathlib.Core.Bool.{Bool, true, false}
 use Prim.Native.Nat.{ℕ, _-_, _≤_}
 use native.Mathlib.Omega.{arith}
 use borrow.Author.Needs.{needs}
@@ -39,7 +39,8 @@ unfolding anyReadOnly
 returns c =
     let l = c .before .before .before .before in
     let m = l .before .before .before in
-    λ map buffer. sym (any-at (test m) (eightInch .entries) (l .loop .e) (omega arith) (cc))
+    let t : test m (l .loop .e) ≡ true = rw (c .before .guards .ensures, c .before .before .row .ensures .0) at (c .if1 .taken) in
+    λ map buffer. sym (any-at (test m) (eightInch .entries) (l .loop .e) (omega arith) t)
 
 add-e : tie.Need-add-e Inv-loop μ-loop
 add-e c = omega arith
@@ -51,7 +52,8 @@ loop-again : tie.Need-loop-again Inv-loop μ-loop
 loop-again c =
     let l = c .before .before .before .before in
     let m = l .before .before .before in
-    (any-more (test m) (l .loop .e) (l .loop .inv .0) (cc), omega arith)
+    let t : test m (l .loop .e) ≡ false = rw (c .before .guards .ensures, c .before .before .row .ensures .0) at (c .if1 .left) in
+    (any-more (test m) (l .loop .e) (l .loop .inv .0) t, omega arith)
 
 returns-2 : tie.Need-returns-2 Inv-loop μ-loop
 unfolding anyReadOnly

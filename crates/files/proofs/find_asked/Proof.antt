@@ -15,7 +15,7 @@ find-file-requires c κs = search needs
 
 returns : tie.Need-returns
 unfolding askedEntry
-returns c = λ map buffer. cc
+returns c = λ map buffer. rw (c .find-file .ensures, c .before .wide .ensures .0)
 
 pub find-asked-spec : {M : Type 1} → statement M
 find-asked-spec =

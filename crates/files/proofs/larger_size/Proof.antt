@@ -18,7 +18,8 @@ is-named-requires : tie.Need-is-named-requires
 is-named-requires c κs = search needs
 
 returns : tie.Need-returns
-returns c = let z : c .before .is-named .result ≡ false = not-true _ (c .if1 .taken) in sym (larger-miss eightInch _ _ _ _ (cc))
+returns c = let z : c .before .is-named .result ≡ false = not-true _ (c .if1 .taken) in
+    sym (larger-miss eightInch _ _ _ _ (rw (c .before .is-named .ensures, c .before .before .row .ensures .0) at z))
 
 size-of-requires : tie.Need-size-of-requires
 size-of-requires c κs = search needs
@@ -26,14 +27,14 @@ size-of-requires c κs = search needs
 returns-2 : tie.Need-returns-2
 returns-2 c = let s = c .before .before .before .before .before .before .before in
     let z : c .before .before .before .is-named .result ≡ true = not-false _ (c .before .before .if1 .left) in
-    let q : sizeOf eightInch (entryAt eightInch (s .args .image .now) (s .args .e)) ≡ c .before .size-of .result = cc in
-    sym (larger-hit eightInch _ _ _ _ (cc) ∙ omega arith)
+    let q : sizeOf eightInch (entryAt eightInch (s .args .image .now) (s .args .e)) ≡ c .before .size-of .result = sym (rw (c .before .before .before .before .row .ensures .0) at (c .before .size-of .ensures)) in
+    sym (larger-hit eightInch _ _ _ _ (rw (c .before .before .before .is-named .ensures, c .before .before .before .before .row .ensures .0) at z) ∙ omega arith)
 
 returns-3 : tie.Need-returns-3
 returns-3 c = let s = c .before .before .before .before .before .before .before in
     let z : c .before .before .before .is-named .result ≡ true = not-false _ (c .before .before .if1 .left) in
-    let q : sizeOf eightInch (entryAt eightInch (s .args .image .now) (s .args .e)) ≡ c .before .size-of .result = cc in
-    sym (larger-hit eightInch _ _ _ _ (cc) ∙ omega arith)
+    let q : sizeOf eightInch (entryAt eightInch (s .args .image .now) (s .args .e)) ≡ c .before .size-of .result = sym (rw (c .before .before .before .before .row .ensures .0) at (c .before .size-of .ensures)) in
+    sym (larger-hit eightInch _ _ _ _ (rw (c .before .before .before .is-named .ensures, c .before .before .before .before .row .ensures .0) at z) ∙ omega arith)
 
 pub larger-size-spec : {M : Type 1} → statement M
 larger-size-spec =

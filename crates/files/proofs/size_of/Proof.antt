@@ -21,7 +21,7 @@ add-result c = search needs
 
 returns : tie.Need-returns
 unfolding sizeOf
-returns c = cc
+returns c = rw (c .wide .ensures .0, c .before .count-in .ensures, c .before .before .extent .ensures .0)
 
 pub size-of-spec : {M : Type 1} → statement M
 size-of-spec =

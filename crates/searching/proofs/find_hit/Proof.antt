@@ -1,6 +1,6 @@
 -- The loop's invariant: what is first from e on is first from the start on, since no entry passed before e.
 use mathlib.Core.Path.{_≡_, refl, _∙_}
-use mathlib.Core.Bool.{Bool}
+use mathlib.Core.Bool.{Bool, true, false}
 use Prim.Native.Nat.{ℕ, _-_}
 use native.Mathlib.Omega.{arith}
 use borrow.Author.Needs.{needs}
@@ -39,7 +39,8 @@ unfolding findHit
 returns c =
     let l = c .before .before .before .before in
     let m = l .before .before .before in
-    look-hit (test m) (m .args .from) (eightInch .entries) (l .loop .e) (l .loop .inv) (omega arith) (cc)
+    let t : test m (l .loop .e) ≡ true = rw (c .before .hit .ensures, c .before .before .row .ensures .0) at (c .if1 .taken) in
+    look-hit (test m) (m .args .from) (eightInch .entries) (l .loop .e) (l .loop .inv) (omega arith) t
 
 add-e : tie.Need-add-e Inv-loop μ-loop
 add-e c = omega arith
@@ -51,7 +52,8 @@ loop-again : tie.Need-loop-again Inv-loop μ-loop
 loop-again c =
     let l = c .before .before .before .before in
     let m = l .before .before .before in
-    first-turn (test m) (l .loop .e) (eightInch .entries) (omega arith) (cc) ∙ l .loop .inv
+    let t : test m (l .loop .e) ≡ false = rw (c .before .hit .ensures, c .before .before .row .ensures .0) at (c .if1 .left) in
+    first-turn (test m) (l .loop .e) (eightInch .entries) (omega arith) t ∙ l .loop .inv
 
 returns-2 : tie.Need-returns-2 Inv-loop μ-loop
 unfolding findHit
