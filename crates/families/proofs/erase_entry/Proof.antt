@@ -27,7 +27,7 @@ unfolding changedRow
 returns c =
     let s = c .before .before .before .before .before .before .before in
     let z : c .before .is-named .result ≡ false = not-true _ (c .if1 .taken) in
-    let f : named true (s .args .user) (s .args .fcb .now) 1 (entryAt eightInch (s .args .image .now) (s .args .e)) ≡ false = cc in
+    let f : named true (s .args .user) (s .args .fcb .now) 1 (entryAt eightInch (s .args .image .now) (s .args .e)) ≡ false = rw (c .before .is-named .ensures, c .before .before .row .ensures .0) at z in
     record { image = rw f; notes = rw f; marked = rw f }
 
 slots-requires : tie.Need-slots-requires
@@ -54,12 +54,12 @@ returns-2 c =
     let u = c .before .before .before .before .before .before in
     let s = u .before .before .before .before .before .before .before in
     let z : u .before .is-named .result ≡ true = not-false _ (u .if1 .left) in
-    let t : named true (s .args .user) (s .args .fcb .now) 1 (entryAt eightInch (s .args .image .now) (s .args .e)) ≡ true = cc in
+    let t : named true (s .args .user) (s .args .fcb .now) 1 (entryAt eightInch (s .args .image .now) (s .args .e)) ≡ true = rw (u .before .is-named .ensures, u .before .before .row .ensures .0) at z in
     let m = s .args .image .now in
     record {
       image = rw t (ap (λ (k : ℕ). set m k 229) (c .entry-place .ensures .0)
           ∙ sym (erased-in-place eight-sound m (s .pre .0) (s .args .e) (s .pre .2)));
-      notes = rw t (cc);
+      notes = rw (t, ← u .before .before .row .ensures .0, ← c .before .before .before .before .slots .ensures) (c .before .before .before .free-slots .ensures);
       marked = rw t;
     }
 

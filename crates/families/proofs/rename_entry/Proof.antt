@@ -30,7 +30,8 @@ returns : tie.Need-returns
 unfolding changedRow
 returns c =
     let s = c .before .before .before .before .before .before .before .before .before .before .before .before .before in
-    let t : named false (s .args .user) (s .args .fcb .now) 1 (entryAt eightInch (s .args .image .now) (s .args .e)) ≡ true = cc in rw t (cc)
+    let t : named false (s .args .user) (s .args .fcb .now) 1 (entryAt eightInch (s .args .image .now) (s .args .e)) ≡ true = rw (c .before .before .before .before .before .before .before .before .is-named .ensures, c .before .before .before .before .before .before .before .before .before .row .ensures .0) at (c .before .before .before .before .before .before .before .if1 .taken) in
+    rw (t, ← c .before .before .before .before .before .copy-row .ensures, ← c .before .before .before .renamed-row .ensures) (c .before .before .store-row .ensures)
 
 same-length-2 : tie.Need-same-length-2
 same-length-2 c = search needs
@@ -39,7 +40,7 @@ returns-2 : tie.Need-returns-2
 unfolding changedRow
 returns-2 c =
     let s = c .before .before .before .before .before .before in
-    let f : named false (s .args .user) (s .args .fcb .now) 1 (entryAt eightInch (s .args .image .now) (s .args .e)) ≡ false = cc in rw f
+    let f : named false (s .args .user) (s .args .fcb .now) 1 (entryAt eightInch (s .args .image .now) (s .args .e)) ≡ false = rw (c .before .is-named .ensures, c .before .before .row .ensures .0) at (c .if1 .left) in rw f
 
 pub rename-entry-spec : {M : Type 1} → statement M
 rename-entry-spec =
