@@ -16,7 +16,7 @@ use Rattle.facts.specs.Names.{like-sym, like-trans}
 use Rattle.facts.specs.Find.{fileTest, file-is, no-file-is}
 use Rattle.facts.specs.Naming.{file-user, file-like, file-extent}
 use Rattle.consistency.specs.Reflect.{same-elim, same-intro, same-used-right, alone-elim}
-use Rattle.keys.specs.Key.{keyCount, keyOf, fileKey, key-same, key-below, key-asked}
+use Rattle.keys.specs.Key.{keyCount, keyOf, fileKey, key-same, key-asked}
 use Rattle.chains.specs.Chain.{keyIn, hasKey, Chained, Indexed, key-used, key-tells}
 
 -- the walk over the entries below n has come to the number f: none from there on passes, and the entry there has the key

@@ -1,6 +1,6 @@
 -- The key of a row: a number below 256 made of user, seven-bit name and extent, so that rows of one file have one key. Where two
 -- rows' keys differ they need no comparison.
-use mathlib.Core.Path.{_≡_, refl, ap, sym, _∙_}
+use mathlib.Core.Path.{_≡_, refl, sym, _∙_}
 use mathlib.Core.Bool.{true, false}
 use mathlib.Core.List.{[], _∷_}
 use Prim.Native.Nat.{ℕ, zero, suc, _+_, _-_, _*_, _/_, _%_, _<_}

@@ -6,7 +6,7 @@ use native.Mathlib.Omega.{arith}
 use lib.Dec.{eqb, leb}
 use lib.ListN.{getD}
 use borrow.Author.Tests.{lt-ltb, le-ltb, le-leb, lt-leb, eq-eqb, ne-eqb, eqb-true, not-true, not-false}
-use Rattle.lists.specs.Cases.{split, bool-cases, lt-or-le, not-both, refute}
+use Rattle.lists.specs.Cases.{split, lt-or-le, not-both, refute}
 use Rattle.lists.specs.Tests.{_and_, _or_, and-then, and-fails-left}
 use Rattle.lists.specs.Below.{allBelow, all-at, all-intro}
 use Rattle.lists.specs.Count.{countBelow, count-empty, count-next, count-zero}

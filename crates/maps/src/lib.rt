@@ -5,7 +5,7 @@ ghost use Prim.Native.Nat.{_<_};
 ghost use lib.Dec.{eqb};
 ghost use lib.ListN.{length};
 ghost use Rattle.format.specs.Diskette.{eightInch, imageBytes};
-ghost use Rattle.format.specs.Entries.{Rows, entryAt};
+ghost use Rattle.format.specs.Entries.{entryAt};
 ghost use Rattle.facts.specs.Marks.{Marked, markCount};
 ghost use Rattle.format.specs.Notes.{heldByUsed, noteRight, mapRight};
 ghost use Rattle.fresh.specs.Note.{toldNote};

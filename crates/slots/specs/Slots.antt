@@ -7,7 +7,7 @@ use lib.Dec.{eqb}
 use lib.ListN.{getD}
 use borrow.Author.Tests.{eqb-true, eq-eqb, ne-eqb}
 use Rattle.lists.specs.Cases.{split}
-use Rattle.lists.specs.Tests.{_and_, and-left, and-right, and-both, and-then, or-then, or-left, or-right, or-cases}
+use Rattle.lists.specs.Tests.{and-left, and-right, and-both, and-then, or-then, or-left, or-right, or-cases}
 use Rattle.lists.specs.Below.{allBelow, all-at, all-intro, all-cong, all-next}
 use lib.Bits.{bitOr, bitXor}
 use Rattle.lists.specs.Bits.{or-zero, xor-zero}

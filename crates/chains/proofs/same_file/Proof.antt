@@ -1,7 +1,6 @@
 -- Both rows are used, so that the look-up of one by the other decides.
 use Rattle.chains.specs.Walk.{file-same}
 use Rattle.format.specs.Diskette.{eightInch}
-use Rattle.format.specs.Entries.{used}
 use mathlib.Core.Path.{_∙_}
 use borrow.Author.Needs.{needs}
 use Rattle.chains.proofs.same_file.Statement.{statement}

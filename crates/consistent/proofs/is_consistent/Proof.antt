@@ -13,7 +13,7 @@ use borrow.Author.Tests.{not-true, not-false}
 use lib.ListN.{length}
 use Prim.Native.Nat.{ℕ, _+_, _*_, _-_, _≤_}
 use mathlib.Core.Bool.{Bool, true}
-use mathlib.Core.Path.{_≡_, refl, sym, _∙_}
+use mathlib.Core.Path.{_≡_, sym, _∙_}
 use borrow.Author.Needs.{needs}
 use native.Mathlib.Omega.{arith}
 use Rattle.consistent.proofs.is_consistent.Statement.{statement}

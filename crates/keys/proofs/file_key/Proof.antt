@@ -1,6 +1,5 @@
 -- The words of the name, masked, are the parts of what is asked for.
-use mathlib.Core.Path.{_≡_, refl, sym, _∙_}
-use Prim.Native.Nat.{_≤_}
+use mathlib.Core.Path.{_≡_, refl, _∙_}
 use lib.Bits.{bitAnd, and-mask, and-le-r}
 use Rattle.keys.specs.Key.{fileKey, lowAsked, highAsked, seven-part, four-part}
 use native.Mathlib.Omega.{arith}

@@ -1,5 +1,4 @@
 -- The byte is one of a name, or not.
-use mathlib.Core.Bool.{not}
 use native.Mathlib.Omega.{arith}
 use borrow.Author.Needs.{needs}
 use Rattle.names.proofs.name_fault.Statement.{statement}

@@ -4,7 +4,7 @@ use Rattle.format.specs.Diskette.{Bytes, entryBytes, recordBytes}
 use Rattle.format.specs.Entries.{empty}
 use Rattle.lists.specs.Below.{allBelow, all-none, all-more, all-fails, all-done}
 use borrow.Author.Tests.{eq-eqb, ne-eqb}
-use Prim.Native.Nat.{ℕ, _+_, _*_, _-_, _/_, _%_, _≤_}
+use Prim.Native.Nat.{ℕ, _+_, _-_, _/_, _%_, _≤_}
 use mathlib.Core.Bool.{Bool, true}
 use mathlib.Core.Path.{_≡_, refl, sym, _∙_}
 use native.Mathlib.Omega.{arith}
