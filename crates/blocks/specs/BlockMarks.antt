@@ -1,6 +1,6 @@
--- The marks of blocks: not 0 at each number that no slot may list from now on. That is the number of no block past the directory,
--- barred from the start, or of a block that a slot listed before. So one look at the mark of a slot's number decides whether the
--- number is in range and stands there for the first time. A slot of 0 lists nothing; its mark is 0 and stays so.
+-- What the marks say: a mark is not 0 where no block past the directory has the number, barred from the start, or a slot listed it
+-- before. So one look at the mark of a slot's number decides whether the number is in range and stands there for the first time. A slot
+-- of 0 lists nothing; its mark is 0 and stays so.
 use mathlib.Core.Path.{_≡_, refl, ap, sym, _∙_}
 use mathlib.Core.Logic.{_⊎_, inl, inr}
 use mathlib.Core.Bool.{Bool, true, false, not}

@@ -112,7 +112,7 @@ module _ (G : Geometry) (d : Rows) where
       let u : used (d e) ≡ false = empty-unused (d e) n in
       record { blocks = marks-skip G d e marks u (p .blocks); chained = chained-skip G d e chain u (p .chained) }
 
-  -- entries in a row that are empty
+  -- entries one after the other that are empty
   module _ (n : ℕ) where
     pub fits-empty : (k : ℕ) → ((i : ℕ) → i < k → empty (d (n + i)) ≡ true) → allBelow (λ (i : ℕ). entryFits G d (n + i)) k ≡ true
     fits-empty k h = all-intro _ k (λ i l. empty-fits G d (n + i) (h i l))

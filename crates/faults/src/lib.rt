@@ -38,8 +38,8 @@ fn fault(x: u8, lowest: u8, highest: u8, barred: u8) -> u8
     above(x, highest) | above(lowest, x) | same(x, barred)
 }
 
-// What is wrong with each byte of a head, as the tables say. They are lent, not named: so all bytes are treated alike, and a compiler takes them
-// together.
+// What is wrong with each byte of a head, as the tables say. They are lent, not named: so all bytes are treated alike, and a compiler
+// takes them together.
 pub fn find_faults(
     r: &[u8],
     counted: &[u8],

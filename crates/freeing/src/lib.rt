@@ -4,6 +4,7 @@ ghost use lib.ListN.{length};
 ghost use Rattle.format.specs.Diskette.{eightInch};
 ghost use Rattle.format.specs.Notes.{settledNote, freedMap, heldFor};
 ghost use Rattle.freeing.specs.Freeing.{unlistedSlot, unlistedMap, unheldNote, unheldMap, marksPick};
+use format::Found;
 
 // The note without what is pending.
 fn settled_note(n: u16) -> u16
@@ -33,13 +34,9 @@ fn held_for(n: u16, marks: &[u8]) -> bool
     requires { ⌜ length (now marks) ≡ eightInch .entries ⌝ }
     ensures { λ r. ⌜ r ≡ heldFor (marksPick (now (marks .entry))) n ⌝ }
 {
-    if (n as usize) < notes::PENDING {
+    let Found::At(e) = notes::holder(n) else {
         return false;
-    }
-    let e = (n as usize - notes::PENDING) / notes::PLACES;
-    if format::ENTRIES <= e {
-        return false;
-    }
+    };
     marks[e] != 0
 }
 

@@ -10,19 +10,16 @@ ghost use Rattle.facts.specs.Marks.{Marked, markCount};
 ghost use Rattle.format.specs.Notes.{heldByUsed, noteRight, mapRight};
 ghost use Rattle.fresh.specs.Note.{toldNote};
 ghost use Rattle.maps.specs.Told.{differenceCount, areaRight};
+use format::Found;
 
 // Whether a note is pending for a used entry.
 fn held_by_used(n: u16, image: &[u8]) -> bool
     requires { ⌜ length (now image) ≡ imageBytes eightInch ⌝ }
     ensures { λ r. ⌜ r ≡ heldByUsed eightInch (entryAt eightInch (now (image .entry))) n ⌝ }
 {
-    if (n as usize) < notes::PENDING {
+    let Found::At(e) = notes::holder(n) else {
         return false;
-    }
-    let e = (n as usize - notes::PENDING) / notes::PLACES;
-    if format::ENTRIES <= e {
-        return false;
-    }
+    };
     rows::row(image, e)[0] <= 15
 }
 

@@ -1,4 +1,5 @@
 pub mod Numbers
+pub mod Holder
 pub mod Changes
 pub mod Right
 pub mod Free

@@ -6,6 +6,7 @@ ghost use lib.Dec.{eqb};
 ghost use lib.ListN.{length};
 ghost use Rattle.format.specs.Diskette.{eightInch, slotCount};
 ghost use Rattle.format.specs.Notes.{freeNote, noteAt, pendingFor, withNote, findFree, freeCount};
+ghost use Rattle.notes.specs.Holder.{holderOf};
 use format::Found;
 
 // The numbers of notes. From PENDING on, each entry has PLACES of them, one for each of its slots.
@@ -17,7 +18,7 @@ pub const RECORDED: u16 = 2;
 
 pub const PENDING: usize = 16;
 
-pub const PLACES: usize = 16;
+const PLACES: usize = 16;
 
 // The note of a block that is pending for slot j of entry e.
 pub fn pending_note(e: usize, j: usize) -> u16
@@ -25,6 +26,20 @@ pub fn pending_note(e: usize, j: usize) -> u16
     ensures { λ r. ⌜ r ≡ pendingFor e j ⌝ }
 {
     (PENDING + PLACES * e + j) as u16
+}
+
+// The entry for which a note is pending.
+pub fn holder(n: u16) -> Found
+    ensures { λ r. ⌜ r ≡ holderOf eightInch n ⌝ }
+{
+    if (n as usize) < PENDING {
+        return Found::Nothing;
+    }
+    let e = (n as usize - PENDING) / PLACES;
+    if format::ENTRIES <= e {
+        return Found::Nothing;
+    }
+    Found::At(e)
 }
 
 // The note of a block: 0 for a number past the last block.

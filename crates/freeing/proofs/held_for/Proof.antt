@@ -1,39 +1,47 @@
--- `freeing::held_for` meets its contract: an entry past the last has no mark, and is not picked.
-use mathlib.Core.Bool.{not}
-use mathlib.Core.Path.{_≡_, sym, ap}
-use Prim.Native.Nat.{ℕ, _-_, _/_, _≤_}
+-- An entry past the last has no mark, and is not picked; of another its mark decides.
+use mathlib.Core.Bool.{not, false}
+use mathlib.Core.Path.{_≡_, sym, ap, _∙_}
+use Prim.Native.Nat.{ℕ, _≤_}
 use native.Mathlib.Omega.{arith}
 use lib.Dec.{eqb}
-use lib.ListN.{length, getD, List·getD-eq-default}
+use lib.ListN.{length, List·getD-eq-default}
 use borrow.Author.Needs.{needs}
-use borrow.Author.Tests.{le-leb, lt-leb}
-use Rattle.lists.specs.Tests.{and-then, and-fails-left, and-fails-right}
-use Rattle.format.specs.Notes.{isPending, pendingEntry, heldFor}
+use Rattle.format.specs.Diskette.{Bytes, eightInch}
+use Rattle.notes.specs.Holder.{holder-low, held-at, held-none}
 use Rattle.freeing.specs.Freeing.{marksPick}
 use Rattle.freeing.proofs.held_for.Statement.{statement}
 use Rattle.freeing.proofs.held_for.Tie as tie
 
+holder-requires : tie.Need-holder-requires
+holder-requires c κs = search needs
+
+enum-known-e : tie.Need-enum-known-e
+enum-known-e c = search needs
+
+enum-told : tie.Need-enum-told
+enum-told c = search needs
+
+none-past : (marks : Bytes) → length marks ≡ eightInch .entries → (e : ℕ) → eightInch .entries ≤ e → marksPick marks e ≡ false
+unfolding marksPick
+none-past marks l e h = ap (λ (x : ℕ). not (eqb x 0)) (List·getD-eq-default marks 0 (omega arith))
+
 returns : tie.Need-returns
-unfolding heldFor isPending
-returns c = sym (and-fails-left _ _ (lt-leb _ _ (c .if1 .taken)))
-
-sub-e : tie.Need-sub-e
-sub-e c = search needs
-
-returns-2 : tie.Need-returns-2
-unfolding heldFor isPending marksPick pendingEntry
-returns-2 c =
-    let a = c .before .before .args in
-    let h : length (a .marks .now) ≤ (a .n - 16) / 16 = omega arith in
-    let z : getD (a .marks .now) ((a .n - 16) / 16) 0 ≡ 0 = List·getD-eq-default (a .marks .now) 0 h in
-    sym (and-fails-right _ _ (ap (λ (x : ℕ). not (eqb x 0)) z))
+returns c =
+    let s = c .before .before .before .before in
+    sym (held-none eightInch (s .args .n) (marksPick (s .args .marks .now)) (none-past (s .args .marks .now) (s .pre))
+    (sym (c .before .before .holder .ensures) ∙ c .enum-told .given .1))
 
 shared-slice-read-result : tie.Need-shared-slice-read-result
-shared-slice-read-result c = search needs
+shared-slice-read-result c =
+    let s = c .before .before .before .before .before .before in let f = c .before .before in
+    omega (arith, s .pre, holder-low eightInch (s .args .n) (f .e .given .0 .0) (sym (f .before .before .holder .ensures) ∙ f .e .given .1))
 
-returns-3 : tie.Need-returns-3
-unfolding heldFor isPending marksPick pendingEntry
-returns-3 c = sym (and-then _ _ (le-leb _ _ (c .before .before .if1 .left)))
+returns-2 : tie.Need-returns-2
+unfolding marksPick
+returns-2 c =
+    let s = c .before .before .before .before .before .before in let f = c .before .before in
+    sym (held-at eightInch (s .args .n) (marksPick (s .args .marks .now)) (f .e .given .0 .0) (sym (f .before .before .holder .ensures) ∙ f .e .given .1))
 
 pub held-for-spec : {M : Type 1} → statement M
-held-for-spec = tie.close (tie.spec returns sub-e returns-2 shared-slice-read-result returns-3)
+held-for-spec =
+    tie.close (tie.spec holder-requires enum-known-e enum-told returns shared-slice-read-result returns-2)

@@ -1,36 +1,59 @@
--- `maps::held_by_used` meets its contract: the tests are the definition's, and byte 0 of the entry's row tells its user.
-use mathlib.Core.Path.{sym, ap, _∙_}
+-- An entry past the last is not used; of another, byte 0 of its row tells its user.
+use mathlib.Core.Bool.{Bool}
+use mathlib.Core.Path.{_≡_, sym, ap, _∙_}
+use Prim.Native.Nat.{ℕ, _<_}
+use lib.Dec.{ltb}
 use borrow.Author.Needs.{needs}
-use borrow.Author.Tests.{le-leb, lt-leb, lt-ltb, le-ltb}
-use Rattle.lists.specs.Tests.{and-then, and-fails-left, and-fails-right}
-use Rattle.format.specs.Entries.{used}
-use Rattle.format.specs.Notes.{isPending, pendingEntry, heldByUsed}
+use borrow.Author.Tests.{lt-ltb, le-ltb}
+use Rattle.lists.specs.Tests.{_and_, and-then, and-fails-left}
+use Rattle.format.specs.Diskette.{Bytes, eightInch}
+use Rattle.format.specs.Entries.{entryAt, used}
+use Rattle.format.specs.Notes.{heldFor, heldByUsed}
+use Rattle.notes.specs.Holder.{holderOf, holder-low, held-at, held-none}
+use Rattle.format.specs.declared.Found.the-variants.{At}
 use Rattle.maps.proofs.held_by_used.Statement.{statement}
 use Rattle.maps.proofs.held_by_used.Tie as tie
 
+-- the test of the entry
+abbrev usedIn : Bytes → ℕ → Bool
+usedIn image e = ltb e (eightInch .entries) and used (entryAt eightInch image e)
+
+holder-requires : tie.Need-holder-requires
+holder-requires c κs = search needs
+
+enum-known-e : tie.Need-enum-known-e
+enum-known-e c = search needs
+
+enum-told : tie.Need-enum-told
+enum-told c = search needs
+
 returns : tie.Need-returns
-unfolding heldByUsed isPending
-returns c = sym (and-fails-left _ _ (lt-leb _ _ (c .if1 .taken)))
+unfolding heldByUsed heldFor
+returns c =
+    let s = c .before .before .before .before in
+    sym (held-none eightInch (s .args .n) (usedIn (s .args .image .now)) (λ e h. and-fails-left _ _ (le-ltb _ _ h))
+    (sym (c .before .before .holder .ensures) ∙ c .enum-told .given .1))
 
-sub-e : tie.Need-sub-e
-sub-e c = search needs
+-- what is known once an entry is answered
+known : (c : tie.After-known-told) → holderOf eightInch (c .before .before .before .before .before .args .n) ≡ At (c .before .e .given .0 .0)
+known c = sym (c .before .before .before .holder .ensures) ∙ c .before .e .given .1
 
-returns-2 : tie.Need-returns-2
-unfolding heldByUsed pendingEntry
-returns-2 c = sym (and-fails-right _ _ (and-fails-left _ _ (le-ltb _ _ (c .if2 .taken))))
+low : (c : tie.After-known-told) → c .before .e .given .0 .0 < eightInch .entries
+low c = holder-low eightInch (c .before .before .before .before .before .args .n) (c .before .e .given .0 .0) (known c)
 
 row-requires : tie.Need-row-requires
-row-requires c κs = search needs
+row-requires c κs = let l = low c in search needs
 
 shared-slice-read-result : tie.Need-shared-slice-read-result
 shared-slice-read-result c = search needs
 
-returns-3 : tie.Need-returns-3
-unfolding heldByUsed isPending pendingEntry used
-returns-3 c =
+returns-2 : tie.Need-returns-2
+unfolding heldByUsed heldFor used
+returns-2 c =
+    let k = c .before .before in let s = k .before .before .before .before .before in let e = k .before .e .given .0 .0 in
     ap used (c .before .row .ensures .0)
-    ∙ sym (and-then _ _ (le-leb _ _ (c .before .before .before .if1 .left)) ∙ and-then _ _ (lt-ltb _ _ (c .before .before .if2 .left)))
+    ∙ sym (held-at eightInch (s .args .n) (usedIn (s .args .image .now)) e (known k) ∙ and-then _ _ (lt-ltb _ _ (low k)))
 
 pub held-by-used-spec : {M : Type 1} → statement M
 held-by-used-spec =
-    tie.close (tie.spec returns sub-e returns-2 row-requires shared-slice-read-result returns-3)
+    tie.close (tie.spec holder-requires enum-known-e enum-told returns row-requires shared-slice-read-result returns-2)
