@@ -5,7 +5,7 @@ use Prim.Native.Nat.{ℕ, _≤_}
 use lib.Dec.{eqb, leb}
 use lib.ListN.{length, getD}
 use borrow.Author.Tests.{eqb-true, eq-eqb, leb-true, le-leb}
-use Rattle.lists.specs.Tests.{_and_, _or_, and-left, and-right, and-then, or-then, or-left}
+use Rattle.lists.specs.Tests.{_or_, and-left, and-right, and-then, or-then, or-left}
 use Rattle.format.specs.Diskette.{Geometry, imageBytes, recordBytes}
 use Rattle.format.specs.Fcb.{fcbBytes}
 use Rattle.model.specs.declared.Session.{Session}

@@ -1,7 +1,5 @@
 // What every call is asked for first: a number that is listed, and lengths and parameters in range.
 ghost use mathlib.Core.Path.{_≡_};
-ghost use Prim.Native.Nat.{_≤_};
-ghost use lib.ListN.{length};
 ghost use Rattle.format.specs.Diskette.{eightInch};
 ghost use Rattle.model.specs.Lent.{lend};
 ghost use Rattle.model.specs.Table.{usesFcb, isCall, lengthsRight, parametersRight};

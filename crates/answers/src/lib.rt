@@ -1,6 +1,5 @@
 // How a call ends: the session's changes, and the answer of a code.
 ghost use mathlib.Core.Path.{_≡_};
-ghost use Prim.Native.Nat.{_<_};
 ghost use Rattle.model.specs.Lent.{ended, searching, withUser, answerOf};
 ghost use Rattle.model.specs.Step.{refusedSession};
 use model::Answer;

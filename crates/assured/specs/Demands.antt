@@ -6,7 +6,7 @@ use Prim.Native.Nat.{ℕ, _+_, _*_, _<_}
 use lib.ListN.{length}
 use borrow.Author.Tests.{eq-eqb, ne-eqb}
 use Rattle.lists.specs.Cases.{split}
-use Rattle.lists.specs.Tests.{_and_, _or_, and-both}
+use Rattle.lists.specs.Tests.{_or_, and-both}
 use Rattle.lists.specs.Splice.{copies, splice}
 use Rattle.format.specs.Diskette.{Bytes, eightInch, recordBytes, extents, extentRecords}
 use Rattle.format.specs.Fcb.{fcbBytes}

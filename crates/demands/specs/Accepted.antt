@@ -7,7 +7,7 @@ use native.Mathlib.Omega.{arith}
 use lib.Dec.{eqb}
 use borrow.Author.Tests.{eq-eqb, ne-eqb}
 use Rattle.lists.specs.Cases.{split, not-both, clash, cond-either}
-use Rattle.lists.specs.Tests.{_and_, _or_, and-both, and-then, and-fails-left}
+use Rattle.lists.specs.Tests.{_or_, and-both, and-then, and-fails-left}
 use Rattle.format.specs.Diskette.{Geometry}
 use Rattle.format.specs.declared.Found.{Found}
 use Rattle.model.specs.declared.Asked.{Asked}

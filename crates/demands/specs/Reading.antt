@@ -6,7 +6,7 @@ use native.Mathlib.Omega.{arith}
 use lib.ListN.{length, getD}
 use borrow.Author.Tests.{eq-eqb, ne-eqb, lt-ltb}
 use Rattle.lists.specs.Cases.{not-both}
-use Rattle.lists.specs.Tests.{_and_, _or_, and-both}
+use Rattle.lists.specs.Tests.{_or_, and-both}
 use Rattle.lists.specs.Splice.{splice}
 use Rattle.format.specs.Diskette.{Bytes, Geometry, Sound, recordAt, slotCount, extents, extentRecords}
 use Rattle.format.specs.Entries.{slotOf, slotFor, rcOf, extentOf}

@@ -9,7 +9,7 @@ use lib.Dec.{eqb}
 use lib.ListN.{length}
 use borrow.Author.Tests.{eq-eqb}
 use Rattle.lists.specs.Cases.{split, bool-cases, not-both, clash}
-use Rattle.lists.specs.Tests.{_and_, _or_, and-both, or-left}
+use Rattle.lists.specs.Tests.{_or_, and-both, or-left}
 use Rattle.format.specs.Diskette.{Bytes, Geometry, Sound}
 use Rattle.format.specs.Entries.{slotOf, named, findEmpty}
 use Rattle.format.specs.Notes.{noteAt, freshMap, freedMap}

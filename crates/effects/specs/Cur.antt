@@ -6,7 +6,6 @@ use Prim.Native.Nat.{ℕ, _%_, _≤_, _<_}
 use native.Mathlib.Nat.{mod-lt}
 use lib.ListN.{length}
 use Rattle.lists.specs.Cases.{split}
-use Rattle.lists.specs.Tests.{_and_}
 use Rattle.format.specs.Diskette.{Bytes, Geometry, Sound, slotCount, extentRecords}
 use Rattle.format.specs.Entries.{entryAt, slotOf, slotFor, rcOf, used, extentOf, named, isFile}
 use Rattle.format.specs.Notes.{noteAt}

@@ -7,7 +7,7 @@ use lib.Dec.{eqb}
 use lib.ListN.{length}
 use borrow.Author.Tests.{eq-eqb, ne-eqb, leb-true}
 use Rattle.lists.specs.Cases.{split, bool-cases, eq-or-ne, refute, cond-either}
-use Rattle.lists.specs.Tests.{_and_, _or_, and-then}
+use Rattle.lists.specs.Tests.{_or_, and-then}
 use Rattle.lists.specs.Below.{anyBelow, any-cong}
 use Rattle.format.specs.Diskette.{Bytes, Geometry, slotCount}
 use Rattle.format.specs.Entries.{Rows, slotsOf, used}

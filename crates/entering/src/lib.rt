@@ -4,7 +4,7 @@ ghost use Prim.Native.Nat.{_+_, _*_, _/_, _%_, _≤_, _<_};
 ghost use lib.ListN.{length};
 ghost use Rattle.lists.specs.Splice.{splice};
 ghost use Rattle.format.specs.Fcb.{fcbBytes};
-ghost use Rattle.model.specs.Entering.{copied, interfaceCleared, entered, madeRow, nextRow, renamedRow, renamedByte, threeBytes};
+ghost use Rattle.model.specs.Entering.{copied, interfaceCleared, entered, madeRow, nextRow, renamedRow, threeBytes};
 
 // FCB bytes 1 to 31 become the row's.
 pub fn copy_fields(fcb: &mut [u8], row: [u8; 32])

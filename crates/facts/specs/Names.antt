@@ -7,7 +7,7 @@ use native.Mathlib.Omega.{arith}
 use lib.Dec.{eqb}
 use lib.ListN.{getD}
 use borrow.Author.Tests.{eqb-true, eqb-false, eq-eqb, ne-eqb, not-true}
-use Rattle.lists.specs.Tests.{_and_, _or_, and-left, and-right, and-both, or-right, or-first}
+use Rattle.lists.specs.Tests.{_and_, and-left, and-right, and-both, or-right, or-first}
 use Rattle.lists.specs.Below.{all-at, all-intro, all-cong}
 use Rattle.format.specs.Diskette.{Bytes}
 use Rattle.format.specs.Names.{nameBytes, sevenBits, nameByte, nameRight, byteLike, nameLike}

@@ -3,7 +3,7 @@ use mathlib.Core.Path.{_≡_}
 use mathlib.Core.Bool.{Bool, true, false}
 use Prim.Native.Nat.{ℕ}
 use borrow.Author.Tests.{eqb-true, eq-eqb}
-use Rattle.lists.specs.Tests.{_and_, and-left, and-right, and-both}
+use Rattle.lists.specs.Tests.{and-left, and-right, and-both}
 use Rattle.format.specs.Diskette.{Bytes, Geometry}
 use Rattle.format.specs.Names.{nameLike}
 use Rattle.format.specs.Entries.{userOf, extentOf, covers, named, isFile}

@@ -4,7 +4,6 @@ use mathlib.Core.Bool.{Bool, false}
 use Prim.Native.Nat.{ℕ, _+_, _≤_, _<_}
 use native.Mathlib.Omega.{arith}
 use lib.ListN.{getD}
-use Rattle.lists.specs.Tests.{_and_}
 use Rattle.format.specs.Diskette.{Bytes, Geometry, slotCount}
 use Rattle.format.specs.Names.{nameBytes, sevenBits}
 use Rattle.format.specs.Entries.{userOf, slotOf, empty, used, readOnly, extentOf, covers, named, isFile}

@@ -9,7 +9,7 @@ use lib.ListN.{length, getD, set, length-set}
 use lib.Seq.{getD-set-same, getD-set-other, ext-getD}
 use borrow.Author.Tests.{eqb-true, eqb-false, eq-eqb, ne-eqb, ltb-true, ltb-false, not-true}
 use Rattle.lists.specs.Cases.{split, bool-cases, eq-or-ne, not-both}
-use Rattle.lists.specs.Tests.{_and_, _or_, and-left, and-right, and-both, and-then, and-fails-left, and-fails-right, cond-or}
+use Rattle.lists.specs.Tests.{_and_, and-left, and-right, and-both, and-then, and-fails-left, and-fails-right, cond-or}
 use Rattle.lists.specs.Below.{anyBelow, any-at, any-some}
 use Rattle.lists.specs.Splice.{length-splice, getD-splice-in, getD-splice-out}
 use Rattle.lists.specs.Tab.{length-tab, getD-tab}

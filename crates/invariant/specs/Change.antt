@@ -7,7 +7,7 @@ use native.Mathlib.Omega.{arith}
 use lib.Dec.{eqb}
 use borrow.Author.Tests.{eqb-true, eqb-false, eq-eqb, ne-eqb, not-true}
 use Rattle.lists.specs.Cases.{split, bool-cases, not-both, refute}
-use Rattle.lists.specs.Tests.{_and_, _or_, and-left, and-right, and-both, and-then, and-fails-left, or-left, or-right, or-then}
+use Rattle.lists.specs.Tests.{_and_, and-left, and-right, and-both, and-then, and-fails-left, or-left, or-right, or-then}
 use Rattle.lists.specs.Below.{Some, any-some, any-at}
 use Rattle.format.specs.Diskette.{Bytes, Geometry, Sound, slotCount}
 use Rattle.format.specs.Names.{nameLike}

@@ -3,7 +3,7 @@ use mathlib.Core.Bool.{Bool, cond, not}
 use Prim.Native.Nat.{ℕ}
 use lib.Dec.{eqb, ltb}
 use lib.ListN.{getD, set}
-use Rattle.lists.specs.Tests.{_and_, _or_}
+use Rattle.lists.specs.Tests.{_and_}
 use Rattle.lists.specs.Splice.{splice}
 use Rattle.lists.specs.Tab.{tab}
 use Rattle.lists.specs.Fold.{foldBelow}

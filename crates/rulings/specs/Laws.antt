@@ -6,7 +6,7 @@ use Prim.Native.Nat.{ℕ, _≤_, _<_}
 use lib.Dec.{eqb, leb, ltb}
 use borrow.Author.Tests.{eq-eqb, ne-eqb, lt-ltb, le-ltb, not-true}
 use Rattle.lists.specs.Cases.{split, bool-cases}
-use Rattle.lists.specs.Tests.{_and_, and-right, and-fails-left, and-fails-right, and-both, or-left, or-then}
+use Rattle.lists.specs.Tests.{and-right, and-fails-left, and-fails-right, and-both, or-left, or-then}
 use Rattle.format.specs.Diskette.{Bytes, Geometry, extents}
 use Rattle.format.specs.Entries.{Rows, extentOf, readOnly, findFile, findEmpty}
 use Rattle.format.specs.Notes.{findFree}

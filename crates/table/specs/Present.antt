@@ -6,7 +6,7 @@ use native.Mathlib.Omega.{arith}
 use lib.Dec.{eqb, ltb}
 use borrow.Author.Tests.{eqb-true, leb-true, ne-eqb, ltb-true}
 use Rattle.lists.specs.Cases.{split, bool-cases}
-use Rattle.lists.specs.Tests.{_and_, and-left, and-right, or-then}
+use Rattle.lists.specs.Tests.{and-left, and-right, or-then}
 use Rattle.lists.specs.Below.{all-at}
 use Rattle.format.specs.Diskette.{Bytes, Geometry, extents}
 use Rattle.format.specs.Entries.{entryAt, userOf, exOf, s2Of, empty, extentOf, findFile}
