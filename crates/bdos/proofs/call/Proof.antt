@@ -11,7 +11,7 @@ use Rattle.table.specs.Facts.{Ready}
 use Rattle.table.specs.Reflect.{fits-of, ready-of}
 use Rattle.table.specs.OwnStep.{own-at, step-own}
 use Rattle.table.specs.Early.{unlisted-step, parameter-step, disk-step}
-use Rattle.bdos.specs.Numbers.{call-own}
+use Rattle.dispatch.specs.Numbers.{call-own}
 use Rattle.bdos.proofs.call.Statement.{statement}
 use Rattle.bdos.proofs.call.Tie as tie
 

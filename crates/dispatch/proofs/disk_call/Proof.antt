@@ -1,9 +1,9 @@
--- `bdos::disk_call` meets its contract: what neither reads nor writes a record is a call on files.
+-- `dispatch::disk_call` meets its contract: what neither reads nor writes a record is a call on files.
 use mathlib.Core.Path.{sym, _∙_}
 use borrow.Author.Needs.{needs}
-use Rattle.bdos.specs.Numbers.{one-two, one-outside}
-use Rattle.bdos.proofs.disk_call.Statement.{statement}
-use Rattle.bdos.proofs.disk_call.Tie as tie
+use Rattle.dispatch.specs.Numbers.{one-two, one-outside}
+use Rattle.dispatch.proofs.disk_call.Statement.{statement}
+use Rattle.dispatch.proofs.disk_call.Tie as tie
 
 is-read-requires : tie.Need-is-read-requires
 is-read-requires c κs = search needs

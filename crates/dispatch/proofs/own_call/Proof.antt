@@ -1,12 +1,12 @@
--- `bdos::own_call` meets its contract: each test leaves one number less, and what a call's own function promises is what its number asks.
+-- `dispatch::own_call` meets its contract: each test leaves one number less, and what a call's own function promises is what its number asks.
 use mathlib.Core.Path.{_∙_}
 use borrow.Author.Needs.{needs}
 use Rattle.format.specs.Diskette.{eightInch}
 use Rattle.table.specs.Own.{call17, call18, call32, call46, call98}
 use Rattle.table.specs.OwnStep.{own-at}
-use Rattle.bdos.specs.Numbers.{one-rest, not-log-in}
-use Rattle.bdos.proofs.own_call.Statement.{statement}
-use Rattle.bdos.proofs.own_call.Tie as tie
+use Rattle.dispatch.specs.Numbers.{one-rest, not-log-in}
+use Rattle.dispatch.proofs.own_call.Statement.{statement}
+use Rattle.dispatch.proofs.own_call.Tie as tie
 
 search-first-requires : tie.Need-search-first-requires
 search-first-requires c κs = search needs

@@ -1,13 +1,13 @@
--- `bdos::file_call` meets its contract: each test leaves one number less, and what a call's own function promises is what its number asks.
+-- `dispatch::file_call` meets its contract: each test leaves one number less, and what a call's own function promises is what its number asks.
 use mathlib.Core.Path.{_∙_}
 use native.Mathlib.Omega.{arith}
 use borrow.Author.Needs.{needs}
 use Rattle.format.specs.Diskette.{eightInch}
 use Rattle.table.specs.Own.{call15, call16, call19, call22, call23, call35, call36}
 use Rattle.table.specs.OwnStep.{own-at, own-number}
-use Rattle.bdos.specs.Numbers.{one-rest, one-left}
-use Rattle.bdos.proofs.file_call.Statement.{statement}
-use Rattle.bdos.proofs.file_call.Tie as tie
+use Rattle.dispatch.specs.Numbers.{one-rest, one-left}
+use Rattle.dispatch.proofs.file_call.Statement.{statement}
+use Rattle.dispatch.proofs.file_call.Tie as tie
 
 open-file-requires : tie.Need-open-file-requires
 open-file-requires c κs = search needs
