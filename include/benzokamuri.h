@@ -82,10 +82,12 @@ typedef struct {
  *   A, H       calls               meaning
  *   255, 255                       There is no call with this number.
  *   255, 4                         A buffer has a wrong length, the session's
- *                                  user is over 15, its search place is over
- *                                  64, or byte 0 of the FCB is over 1.
- *   255, 1                         The directory of the image is not
- *                                  consistent, or the map does not fit it.
+ *                                  user is over 15, its search place is over 64,
+ *                                  or the call uses the FCB and byte 0 of it is
+ *                                  over 1.
+ *   255, 1                         The directory of the image is not consistent,
+ *                                  or the map does not fit it (13 takes any map,
+ *                                  and makes it fit).
  *   6, 0       33 34               The random record number is over 262,143.
  *   9, 0       20 21 33 34         The FCB is not current: the file has changed
  *                                  since it was opened, or was never opened.
@@ -95,8 +97,9 @@ typedef struct {
  *                                  or its cr is over 128.
  *   255, 0     32                  The argument is neither 255 nor a user
  *                                  number from 0 to 15.
- *   255, 9     15 17 19 22 23 35   A name has a byte that names may not have,
- *                                  or the extent in byte 12 is over 31.
+ *   255, 9     15 17 19 22 23 35   A name has a byte that names may not have
+ *                                  (3FH is for 17 and 19), or in 15, 17 or 22
+ *                                  byte 12 is over 31 (17 takes 3FH too).
  *   255, 0     15 17 19 23 35      This user has no such file.
  *   255, 0     18                  No search is on.
  *   255, 0     18                  Nothing more matches.

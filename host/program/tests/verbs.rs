@@ -447,7 +447,7 @@ entry 2, byte 12 (ex) is 28H: 0 to 31 is due (byte 6732 of the image)
     );
     assert_eq!(
         ran.err,
-        "benzokamuri: bad.img: 2 faults: 255, 1: The directory of the image is not consistent, or the map does not fit it.\n"
+        "benzokamuri: bad.img: 2 faults: 255, 1: The directory of the image is not consistent, or the map does not fit it (13 takes any map, and makes it fit).\n"
     );
     let said = folder.refused("ls bad.img");
     assert!(said.contains("255, 1"), "{said}");
