@@ -16,6 +16,7 @@ use Rattle.model.specs.declared.Session.{Session}
 use Rattle.model.specs.declared.Answer.{Answer}
 use Rattle.model.specs.declared.Code.{Code}
 use Rattle.model.specs.Lent.{Lent, lend, Outcome}
+use Rattle.model.specs.Naming.{names}
 use Rattle.model.specs.Entering.{threeBytes}
 use Rattle.model.specs.Target.{targetExtent, targetRecord}
 use Rattle.model.specs.Table.{oneOf}
@@ -23,10 +24,12 @@ use Rattle.model.specs.Step.{refused, effect, step}
 use Rattle.table.specs.First.{_&_}
 use Rattle.table.specs.Own.{at-one}
 use Rattle.table.specs.Total.{ask, RefusedBy, CarriedOut, eight-total}
+use Rattle.effects.specs.Where.{Frame}
 use Rattle.effects.specs.Book.{Book, nothingHeld, acceptedAnswer}
 use Rattle.demands.specs.Runs.{Request, Disk, outcomeOf, left, accepts, after, run, bookRun}
 use Rattle.demands.specs.NothingLost.{NothingLost}
-use Rattle.demands.specs.Reading.{atRecord}
+use Rattle.demands.specs.StepOk.{MayWrite, step-ok}
+use Rattle.demands.specs.Reading.{Gives, atRecord}
 use Rattle.demands.specs.ReadBack.{AllLeaveAlone, readFcb, wrote}
 use Rattle.demands.specs.Eight.{eight-nothing-lost, eight-read-back}
 
@@ -45,6 +48,10 @@ bookFrom d q qs = bookRun eightInch (after eightInch d q) qs nothingHeld
 abbrev pub LeftAlone : Disk → Request → List Request → Type 0
 LeftAlone d w qs = AllLeaveAlone eightInch (outcomeOf eightInch d w .lent .fcb) (after eightInch d w) qs
 
+-- an FCB with r0 to r2 set to record r of extent x
+abbrev pub targetSet : Bytes → ℕ → ℕ → Bytes
+targetSet fcb x r = splice fcb 33 (threeBytes (extentRecords * x + r))
+
 -- ---- demand 1: an outcome is a refusal with the code of the first row of the table that holds, or the call was carried out
 pub data Told (asked : Asked) (l : Lent) (s : Session) (o : Outcome) : Type 0 where
   told-refused : (c : Code) → RefusedBy eightInch asked l s c → o ≡ refused c s l → Told asked l s o
@@ -53,6 +60,15 @@ pub data Told (asked : Asked) (l : Lent) (s : Session) (o : Outcome) : Type 0 wh
 pub told : (asked : Asked) (l : Lent) (s : Session) (o : Outcome) → o ≡ step eightInch asked l s → Told asked l s o
 told asked l s o m =
     split (eight-total asked l s) (λ r. told-refused (r .0) (r .1) (m ∙ r .1 .is)) (λ c. told-carried c (m ∙ c .is))
+
+-- ---- demand 3, byte by byte: each byte of the image stays, or lies in an entry of a file that the call names, in an empty entry that
+-- became such a file's, or in the one record that the call wrote
+abbrev pub Framed : Asked → Lent → Session → Outcome → Type 0
+Framed asked l s o =
+    Frame eightInch (l .image) (o .lent .image) (names (asked .number) (s .user) (l .fcb)) (MayWrite eightInch (asked .number) l s o)
+
+pub framed : (asked : Asked) (l : Lent) (s : Session) (o : Outcome) → o ≡ step eightInch asked l s → Framed asked l s o
+framed asked l s o m = subst (Framed asked l s) (sym m) (step-ok eight-sound asked l s .frame)
 
 -- ---- answers that say that a call was accepted
 log-in-accepted : (a : Answer) → a .h ≡ 0 → (a .a ≡ 255 → ⊥) → acceptedAnswer 13 a ≡ true
@@ -104,13 +120,13 @@ module _ (d : Disk) (q : Request) (o : Outcome) (f b : Bytes) (meets : o ≡ ste
     -- call 33 through the FCB handed back, with r0 to r2 set to the record
     pub reads-again : (qs : List Request) → LeftAlone d q qs → (e : Disk) → e ≡ run eightInch (left o) qs
         → (x r : ℕ) → x ≡ targetExtent (q .asked .number) (q .fcb) → r ≡ targetRecord (q .asked .number) (q .fcb)
-        → (g back : Bytes) → g ≡ splice (o .lent .fcb) 33 (threeBytes (extentRecords * x + r)) → length back ≡ recordBytes
-        → (p : Outcome) → p ≡ step eightInch (ask 33 0) (lend (e .image) (e .map) g back) (e .session) → p .lent .buffer ≡ q .buffer
+        → (back : Bytes) → length back ≡ recordBytes
+        → (p : Outcome) → p ≡ step eightInch (ask 33 0) (lend (e .image) (e .map) (targetSet (o .lent .fcb) x r) back) (e .session) → Gives p (q .buffer)
     unfolding readFcb atRecord outcomeOf
-    reads-again qs alone e made x r ext rec g back is long p m =
+    reads-again qs alone e made x r ext rec back long p m =
         let f : Bytes = readFcb eightInch d q in
-        let same : g ≡ f = is ∙ (rw (ext, rec, met)) in
+        let same : targetSet (o .lent .fcb) x r ≡ f = rw (ext, rec, met) in
         let all : p ≡ outcomeOf eightInch (run eightInch (after eightInch d q) qs) (request (ask 33 0) f back) =
         m ∙ ap (λ (y : Bytes). step eightInch (ask 33 0) (lend (e .image) (e .map) y back) (e .session)) same
         ∙ ap (λ (y : Disk). outcomeOf eightInch y (request (ask 33 0) f back)) (met-run qs e made) in
-        ap (λ (y : Outcome). y .lent .buffer) all ∙ eight-read-back d q writes accepted qs alone (ask 33 0) refl back long .is-buffer
+        subst (λ (y : Outcome). Gives y (q .buffer)) (sym all) (eight-read-back d q writes accepted qs alone (ask 33 0) refl back long)

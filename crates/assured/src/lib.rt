@@ -2,19 +2,22 @@
 ghost use mathlib.Core.Path.{_≡_};
 ghost use mathlib.Core.Bool.{true};
 ghost use mathlib.Core.List.{[], _∷_};
-ghost use Prim.Native.Nat.{_+_, _*_, _≤_};
+ghost use Prim.Native.Nat.{_+_, _*_, _≤_, _<_};
 ghost use lib.ListN.{length};
-ghost use Rattle.format.specs.Diskette.{eightInch, recordBytes};
+ghost use Rattle.format.specs.Diskette.{eightInch, recordBytes, extents, extentRecords};
 ghost use Rattle.format.specs.Fcb.{fcbBytes};
 ghost use Rattle.model.specs.Lent.{lend, outcome};
 ghost use Rattle.model.specs.Table.{oneOf};
+ghost use Rattle.model.specs.Step.{step};
+ghost use Rattle.table.specs.Total.{ask};
 ghost use Rattle.demands.specs.Runs.{after, run};
 ghost use Rattle.demands.specs.NothingLost.{NothingLost};
 ghost use Rattle.assured.specs.Script.{callBytes, requestAt, requests, diskOf};
-ghost use Rattle.assured.specs.Demands.{Told, request, logIn, bookFrom, LeftAlone};
+ghost use Rattle.assured.specs.Demands.{Told, Framed, request, logIn, bookFrom, LeftAlone, targetSet};
 use model::Answer;
 use model::Asked;
 use model::Session;
+use targets::Target;
 
 // The bytes of a call in a script: its number, its argument, its FCB and its buffer.
 const CALL_BYTES: usize = 166;
@@ -25,7 +28,14 @@ pub struct Ran {
     pub session: Session,
 }
 
-// Demand 1, of `call` itself: it is refused, by the first row of the table that holds and with nothing changed, or carried out.
+// What a write and a read after it come to: whether the write was accepted, and what the last call made answered.
+pub struct ReadBack {
+    pub accepted: bool,
+    pub answer: Answer,
+}
+
+// Demand 1, of `call` itself: it is refused, by the first row of the table that holds and with nothing changed, or carried out. And of
+// demand 3 what it says of one call: no byte changes but in the entries of the files that it names and in the record that it writes.
 pub fn one_call(
     asked: Asked,
     image: &mut [u8],
@@ -35,6 +45,8 @@ pub fn one_call(
     session: Session,
 ) -> Answer
     ensures { λ r. ⌜ Told asked (lend (now (image .entry)) (now (map .entry)) (now (fcb .entry)) (now (buffer .entry))) session
+        (outcome r (now (image .exit)) (now (map .exit)) (now (fcb .exit)) (now (buffer .exit)))
+        × Framed asked (lend (now (image .entry)) (now (map .entry)) (now (fcb .entry)) (now (buffer .entry))) session
         (outcome r (now (image .exit)) (now (map .exit)) (now (fcb .exit)) (now (buffer .exit))) ⌝ }
 {
     bdos::call(asked, image, map, fcb, buffer, session)
@@ -123,8 +135,31 @@ pub fn log_in_and_run(
     }
 }
 
+// Call 33 through an FCB, r0 to r2 set to the record of a target.
+fn read_again(
+    target: Target,
+    image: &mut [u8],
+    map: &mut [u16],
+    fcb: &mut [u8],
+    back: &mut [u8],
+    session: Session,
+) -> Answer
+    requires { ⌜ (length (now fcb) ≡ fcbBytes) × (target .extent < extents) × (target .at < extentRecords) ⌝ }
+    ensures { λ r. ⌜ outcome r (now (image .exit)) (now (map .exit)) (now (fcb .exit)) (now (back .exit))
+        ≡ step eightInch (ask 33 0) (lend (now (image .entry)) (now (map .entry)) (targetSet (now (fcb .entry)) (target .extent) (target .at))
+        (now (back .entry))) session ⌝ }
+{
+    let at = format::EXTENT_RECORDS * target.extent + target.at;
+    entering::put_three(fcb, 33, at);
+    let asked = Asked {
+        number: 33,
+        argument: 0,
+    };
+    bdos::call(asked, image, map, fcb, back, session)
+}
+
 // Demand 2, of `call` itself: a write that is accepted, then the first n calls of any script that leave its file alone, and call 33
-// gives the bytes that were written. The answer is whether the write was accepted.
+// is accepted and gives the bytes that were written.
 pub fn write_and_read(
     asked: Asked,
     script: &[u8],
@@ -135,27 +170,30 @@ pub fn write_and_read(
     written: &mut [u8],
     back: &mut [u8],
     session: Session,
-) -> bool
+) -> ReadBack
     requires { ⌜ (oneOf (asked .number) (21 ∷ 34 ∷ []) ≡ true) × (callBytes * n ≤ length (now script))
         × (length (now fcb) ≡ fcbBytes) × (length (now back) ≡ recordBytes) ⌝ }
-    ensures { λ r. ⌜ (r ≡ true → LeftAlone (diskOf (now (image .entry)) (now (map .entry)) session)
-        (request asked (now (fcb .entry)) (now (written .entry))) (requests (now (script .entry)) n) → now (back .exit) ≡ now (written .entry)) ⌝ }
+    ensures { λ r. ⌜ (r .accepted ≡ true → LeftAlone (diskOf (now (image .entry)) (now (map .entry)) session)
+        (request asked (now (fcb .entry)) (now (written .entry))) (requests (now (script .entry)) n)
+        → (r .answer .a ≡ 0) × (r .answer .h ≡ 0) × (now (back .exit) ≡ now (written .entry))) ⌝ }
 {
     let target = targets::target_of(asked.number, fcb);
     let w = bdos::call(asked, image, map, fcb, written, session);
     if w.h != 0 {
-        return false;
+        return ReadBack {
+            accepted: false,
+            answer: w,
+        };
     }
     if w.a != 0 {
-        return false;
+        return ReadBack {
+            accepted: false,
+            answer: w,
+        };
     }
     let s = run_calls(script, n, image, map, w.session);
-    let at = format::EXTENT_RECORDS * target.extent + target.at;
-    entering::put_three(fcb, 33, at);
-    let read = Asked {
-        number: 33,
-        argument: 0,
-    };
-    bdos::call(read, image, map, fcb, back, s);
-    true
+    ReadBack {
+        accepted: true,
+        answer: read_again(target, image, map, fcb, back, s),
+    }
 }

@@ -40,10 +40,6 @@ pub fn current_entry(image: &[u8], map: &[u16], chain: &[u8], user: u8, fcb: &[u
         return Found::Nothing;
     };
     let row = rows::row(image, e);
-    // as a rule the slots are simply the entry's own
-    if slots::same_from(row, fcb, 16) {
-        return Found::At(e);
-    }
     if !slots::slots_fit(map, e, entries::slots(row), entries::slots(fcb)) {
         return Found::Nothing;
     }

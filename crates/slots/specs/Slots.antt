@@ -60,19 +60,7 @@ pub same-slots-fit : (map es fs : Bytes) (e : ℕ) → slotsSame es fs ≡ true 
 unfolding slotsSame slotsFit slotFits
 same-slots-fit map es fs e t = all-intro (slotFits map e es fs) slotCount (λ j h. or-left _ _ (all-at _ slotCount t j h))
 
--- the same where the sixteen bytes stand from a place on: in slots taken out, and in rows
-unfoldable pub sameFrom : Bytes → Bytes → ℕ → Bool
-sameFrom r t at = allBelow (λ (j : ℕ). eqb (getD t (at + j) 0) (getD r (at + j) 0)) slotCount
-
-pub same-out : (es fs : Bytes) → sameFrom es fs 0 ≡ slotsSame es fs
-unfolding sameFrom slotsSame
-same-out es fs = all-cong _ _ slotCount (λ j h. rw zero-add)
-
-pub same-in : (r t : Bytes) → sameFrom r t 16 ≡ slotsSame (slotsOf r) (slotsOf t)
-unfolding sameFrom slotsSame slotOf
-same-in r t = all-cong _ _ slotCount (λ j h. rw (getD-slotsOf r j h, getD-slotsOf t j h))
-
--- a turn of the loop that or-s the bits in which bytes differ
-pub same-more : (r t : Bytes) (at d j : ℕ) → eqb d 0 ≡ allBelow (λ (k : ℕ). eqb (getD t (at + k) 0) (getD r (at + k) 0)) j
-    → eqb (bitOr d (bitXor (getD t (at + j) 0) (getD r (at + j) 0))) 0 ≡ allBelow (λ (k : ℕ). eqb (getD t (at + k) 0) (getD r (at + k) 0)) (j + 1)
-same-more r t at d j h = or-zero d _ ∙ rw (h, xor-zero (getD t (at + j) 0) (getD r (at + j) 0)) (sym (all-next _ j))
+-- a turn of the loop that or-s the bits in which slots differ
+pub same-more : (es fs : Bytes) (d j : ℕ) → eqb d 0 ≡ allBelow (λ (k : ℕ). eqb (getD fs k 0) (getD es k 0)) j
+    → eqb (bitOr d (bitXor (getD fs j 0) (getD es j 0))) 0 ≡ allBelow (λ (k : ℕ). eqb (getD fs k 0) (getD es k 0)) (j + 1)
+same-more es fs d j h = or-zero d _ ∙ rw (h, xor-zero (getD fs j 0) (getD es j 0)) (sym (all-next _ j))

@@ -4,7 +4,7 @@ ghost use Prim.Native.Nat.{_+_, _≤_, _<_};
 ghost use lib.ListN.{length};
 ghost use Rattle.format.specs.Diskette.{eightInch, slotCount};
 ghost use Rattle.format.specs.Fcb.{slotFits, slotsFit};
-ghost use Rattle.slots.specs.Slots.{sameFrom, slotsSame};
+ghost use Rattle.slots.specs.Slots.{slotsSame};
 
 // Whether slot j of an FCB is entry e's, or holds a block that is pending for it where the entry has none.
 fn slot_fits(map: &[u16], e: usize, es: [u8; 16], fs: [u8; 16], j: usize) -> bool
@@ -20,16 +20,16 @@ fn slot_fits(map: &[u16], e: usize, es: [u8; 16], fs: [u8; 16], j: usize) -> boo
     notes::note_at(map, lists::wide(fs[j])) == notes::pending_note(e, j)
 }
 
-// Whether the sixteen bytes from `at` on are the same in both: the bits in which they differ are or-ed together. Both are lent, not
-// copied, so that a compiler takes the sixteen at once.
-pub fn same_from(r: &[u8], t: &[u8], at: usize) -> bool
-    requires { ⌜ (at + slotCount ≤ length (now r)) × (at + slotCount ≤ length (now t)) ⌝ }
-    ensures { λ b. ⌜ b ≡ sameFrom (now (r .entry)) (now (t .entry)) at ⌝ }
+// Whether sixteen slots are the same in both: the bits in which they differ are or-ed together. Both are lent, so that a compiler takes
+// the sixteen at once.
+fn same(es: &[u8], fs: &[u8]) -> bool
+    requires { ⌜ (slotCount ≤ length (now es)) × (slotCount ≤ length (now fs)) ⌝ }
+    ensures { λ r. ⌜ r ≡ slotsSame (now (es .entry)) (now (fs .entry)) ⌝ }
 {
     let mut differ: u8 = 0;
     let mut j = 0;
     while j < format::SLOTS {
-        differ = differ | t[at + j] ^ r[at + j];
+        differ = differ | fs[j] ^ es[j];
         j += 1;
     }
     differ == 0
@@ -39,7 +39,7 @@ pub fn same_from(r: &[u8], t: &[u8], at: usize) -> bool
 pub fn slots_same(es: [u8; 16], fs: [u8; 16]) -> bool
     ensures { λ r. ⌜ r ≡ slotsSame es fs ⌝ }
 {
-    same_from(&es, &fs, 0)
+    same(&es, &fs)
 }
 
 // Whether every slot of an FCB fits entry e.
@@ -47,6 +47,10 @@ pub fn slots_fit(map: &[u16], e: usize, es: [u8; 16], fs: [u8; 16]) -> bool
     requires { ⌜ e < eightInch .entries ⌝ }
     ensures { λ r. ⌜ r ≡ slotsFit (now (map .entry)) e es fs ⌝ }
 {
+    // as a rule they are simply the entry's own
+    if slots_same(es, fs) {
+        return true;
+    }
     let mut j = 0;
     while j < format::SLOTS {
         if !slot_fits(map, e, es, fs, j) {

@@ -1,6 +1,6 @@
--- `assured::one_call` meets its contract: what is the step of the model is one or the other.
+-- `assured::one_call` meets its contract: what is the step of the model is one or the other, and keeps the frame.
 use borrow.Author.Needs.{needs}
-use Rattle.assured.specs.Demands.{told}
+use Rattle.assured.specs.Demands.{told, framed}
 use Rattle.assured.proofs.one_call.Statement.{statement}
 use Rattle.assured.proofs.one_call.Tie as tie
 
@@ -20,7 +20,9 @@ same-length-4 : tie.Need-same-length-4
 same-length-4 c = search needs
 
 returns : tie.Need-returns
-returns c = told _ _ _ _ (c .before .before .before .before .before .before .before .before .call .ensures)
+returns c =
+    let meets = c .before .before .before .before .before .before .before .before .call .ensures in
+    (told _ _ _ _ meets, framed _ _ _ _ meets)
 
 pub one-call-spec : {M : Type 1} → statement M
 one-call-spec =

@@ -11,7 +11,6 @@ use Rattle.format.specs.Fcb.{fcbRight, current}
 use Rattle.format.specs.declared.Found.the-variants.{At, Nothing}
 use Rattle.facts.specs.Find.{file-says}
 use Rattle.facts.specs.Current.{current-wrong, current-missing}
-use Rattle.slots.specs.Slots.{same-in, same-slots-fit}
 use Rattle.current.specs.Current.{current-by}
 use Rattle.current.proofs.current_entry.Statement.{statement}
 use Rattle.current.proofs.current_entry.Tie as tie
@@ -65,18 +64,6 @@ low c =
 row-requires : tie.Need-row-requires
 row-requires c κs = let l = low c in search needs
 
-same-from-requires : tie.Need-same-from-requires
-same-from-requires c κs = search needs
-
--- slots that are the entry's own fit
-returns-3 : tie.Need-returns-3
-returns-3 c =
-    let k = c .before .before .before in let a = k .before .before .before .before .before .before .before .before .before .before .before .args in
-    let r = c .before .before .row in let d = entryAt eightInch (a .image .now) in let e = k .before .e .given .0 .0 in
-    let same = sym (same-in (r .result .now) (a .fcb .now)) ∙ sym (c .before .same-from .ensures) ∙ c .if2 .taken in
-    current-by eightInch d (a .map .now) (a .user) (a .fcb .now) e _ _ true (known k .0) (known k .1)
-    (ap slotsOf (r .ensures .0)) refl (sym (same-slots-fit (a .map .now) _ _ e same))
-
 slots-requires : tie.Need-slots-requires
 slots-requires c κs = search needs
 
@@ -84,25 +71,25 @@ slots-requires-2 : tie.Need-slots-requires-2
 slots-requires-2 c κs = search needs
 
 slots-fit-requires : tie.Need-slots-fit-requires
-slots-fit-requires c κs = let l = low (c .before .before .before .before .before) in search needs
+slots-fit-requires c κs = let l = low (c .before .before .before) in search needs
 
--- and else the answer goes by whether they fit one by one
+-- the answer goes by whether the slots fit
 fitted : (c : tie.After-slots-fit) →
-    let a = c .before .before .before .before .before .before .before .before .before .before .before .before .before .before .before .before .before .args in
-    cond (c .slots-fit .result) (At (c .before .before .before .before .before .before .before .e .given .0 .0)) Nothing
+    let a = c .before .before .before .before .before .before .before .before .before .before .before .before .before .before .before .args in
+    cond (c .slots-fit .result) (At (c .before .before .before .before .before .e .given .0 .0)) Nothing
     ≡ current eightInch (entryAt eightInch (a .image .now)) (a .map .now) (a .user) (a .fcb .now)
 fitted c =
-    let a = c .before .before .before .before .before .before .before .before .before .before .before .before .before .before .before .before .before .args in
-    let k = c .before .before .before .before .before .before in
+    let a = c .before .before .before .before .before .before .before .before .before .before .before .before .before .before .before .args in
+    let k = c .before .before .before .before in
     current-by eightInch (entryAt eightInch (a .image .now)) (a .map .now) (a .user) (a .fcb .now) (k .before .e .given .0 .0)
     (c .before .before .slots .result) (c .before .slots2 .result) (c .slots-fit .result) (known k .0) (known k .1)
-    (c .before .before .slots .ensures ∙ ap slotsOf (c .before .before .before .before .before .row .ensures .0)) (c .before .slots2 .ensures) (c .slots-fit .ensures)
+    (c .before .before .slots .ensures ∙ ap slotsOf (c .before .before .before .row .ensures .0)) (c .before .slots2 .ensures) (c .slots-fit .ensures)
+
+returns-3 : tie.Need-returns-3
+returns-3 c = let t : c .before .slots-fit .result ≡ false = not-true _ (c .if2 .taken) in rw t at (fitted (c .before))
 
 returns-4 : tie.Need-returns-4
-returns-4 c = let t : c .before .slots-fit .result ≡ false = not-true _ (c .if3 .taken) in rw t at (fitted (c .before))
-
-returns-5 : tie.Need-returns-5
-returns-5 c = let t : c .before .slots-fit .result ≡ true = not-false _ (c .if3 .left) in rw t at (fitted (c .before))
+returns-4 c = let t : c .before .slots-fit .result ≡ true = not-false _ (c .if2 .left) in rw t at (fitted (c .before))
 
 pub current-entry-spec : {M : Type 1} → statement M
 current-entry-spec =
@@ -116,10 +103,8 @@ current-entry-spec =
     enum-told
     returns-2
     row-requires
-    same-from-requires
-    returns-3
     slots-requires
     slots-requires-2
     slots-fit-requires
-    returns-4
-    returns-5)
+    returns-3
+    returns-4)

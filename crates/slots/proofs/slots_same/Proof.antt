@@ -1,27 +1,25 @@
--- The sixteen slots taken out stand from 0 on.
-use mathlib.Core.Path.{_∙_}
+-- `slots::slots_same` meets its contract: the sixteen are lent as they are.
 use borrow.Author.Needs.{needs}
-use Rattle.slots.specs.Slots.{same-out}
 use Rattle.slots.proofs.slots_same.Statement.{statement}
 use Rattle.slots.proofs.slots_same.Tie as tie
 
-slice-aggregate-same-from : tie.Need-slice-aggregate-same-from
-slice-aggregate-same-from c = search needs
+slice-aggregate-same : tie.Need-slice-aggregate-same
+slice-aggregate-same c = search needs
 
-slice-aggregate-same-from-2 : tie.Need-slice-aggregate-same-from-2
-slice-aggregate-same-from-2 c = search needs
+slice-aggregate-same-2 : tie.Need-slice-aggregate-same-2
+slice-aggregate-same-2 c = search needs
 
-same-from-requires : tie.Need-same-from-requires
-same-from-requires c κs = search needs
+same-requires : tie.Need-same-requires
+same-requires c κs = search needs
 
 returns : tie.Need-returns
-returns c = c .same-from .ensures ∙ same-out _ _
+returns c = c .same .ensures
 
 pub slots-same-spec : {M : Type 1} → statement M
 slots-same-spec =
     tie.close
     (tie.spec
-    slice-aggregate-same-from
-    slice-aggregate-same-from-2
-    same-from-requires
+    slice-aggregate-same
+    slice-aggregate-same-2
+    same-requires
     returns)

@@ -1,32 +1,26 @@
--- `slots::same_from` meets its contract. The invariant: no bit differs exactly where the first j bytes are the same.
+-- `slots::same` meets its contract. The invariant: no bit differs exactly where the first j slots are the same.
 use mathlib.Core.Path.{_≡_, sym}
-use Prim.Native.Nat.{ℕ, _+_, _-_, _≤_}
+use Prim.Native.Nat.{ℕ, _-_, _≤_}
 use native.Mathlib.Omega.{arith}
 use lib.Dec.{eqb}
 use lib.ListN.{getD}
 use Rattle.lists.specs.Below.{allBelow, all-none}
 use Rattle.format.specs.Diskette.{slotCount}
-use Rattle.slots.specs.Slots.{sameFrom, same-more}
-use Rattle.slots.proofs.same_from.Statement.{statement}
-use Rattle.slots.proofs.same_from.Tie as tie
+use Rattle.slots.specs.Slots.{slotsSame, same-more}
+use Rattle.slots.proofs.same.Statement.{statement}
+use Rattle.slots.proofs.same.Tie as tie
 
 abbrev Inv-loop : tie.InvT-loop
-Inv-loop r t at differ₀ j₀ differ j = (eqb differ 0 ≡ allBelow (λ (k : ℕ). eqb (getD t (at + k) 0) (getD r (at + k) 0)) j) × (j ≤ slotCount)
+Inv-loop es fs differ₀ j₀ differ j = (eqb differ 0 ≡ allBelow (λ (k : ℕ). eqb (getD fs k 0) (getD es k 0)) j) × (j ≤ slotCount)
 
 abbrev μ-loop : tie.MeasureT-loop
-μ-loop r t at differ₀ j₀ differ j = slotCount - j
+μ-loop es fs differ₀ j₀ differ j = slotCount - j
 
 loop-holds : tie.Need-loop-holds Inv-loop μ-loop
 loop-holds c = (sym (all-none _), omega arith)
 
-add-differ : tie.Need-add-differ Inv-loop μ-loop
-add-differ c = omega arith
-
 shared-slice-read-differ : tie.Need-shared-slice-read-differ Inv-loop μ-loop
 shared-slice-read-differ c = omega arith
-
-add-differ-2 : tie.Need-add-differ-2 Inv-loop μ-loop
-add-differ-2 c = omega arith
 
 shared-slice-read-differ-2 : tie.Need-shared-slice-read-differ-2 Inv-loop μ-loop
 shared-slice-read-differ-2 c = omega arith
@@ -38,22 +32,20 @@ loop-less : tie.Need-loop-less Inv-loop μ-loop
 loop-less c = omega arith
 
 loop-again : tie.Need-loop-again Inv-loop μ-loop
-loop-again c = let l = c .before .before .before .loop in let a = c .before .before .before .before .args in (same-more (a .r .now) (a .t .now) (a .at) (l .differ) (l .j) (l .inv .0), omega arith)
+loop-again c = let l = c .before .before .before .loop in let a = c .before .before .before .before .args in (same-more (a .es .now) (a .fs .now) (l .differ) (l .j) (l .inv .0), omega arith)
 
 returns : tie.Need-returns Inv-loop μ-loop
-unfolding sameFrom
+unfolding slotsSame
 returns c = let l = c .before .loop in let q : l .j ≡ slotCount = omega arith in rw q at (l .inv .0)
 
-pub same-from-spec : {M : Type 1} → statement M
-same-from-spec =
+pub same-spec : {M : Type 1} → statement M
+same-spec =
     tie.close
     (tie.spec
     Inv-loop
     μ-loop
     loop-holds
-    add-differ
     shared-slice-read-differ
-    add-differ-2
     shared-slice-read-differ-2
     add-j
     loop-less
