@@ -18,8 +18,11 @@ Inv-loop map e es fs j₀ j = (allBelow (slotFits map e es fs) j ≡ true) × (j
 abbrev μ-loop : tie.MeasureT-loop
 μ-loop map e es fs j₀ j = slotCount - j
 
-returns : tie.Need-returns
-returns c = let a = c .before .before .args in sym (same-slots-fit (a .map .now) (a .es) (a .fs) (a .e) (sym (c .before .slots-same .ensures) ∙ c .if1 .taken))
+slots-same-requires : tie.Need-slots-same-requires Inv-loop μ-loop
+slots-same-requires c κs = search needs
+
+returns : tie.Need-returns Inv-loop μ-loop
+returns c = let a = c .before .before .before .args in sym (same-slots-fit (a .map .now) (a .es) (a .fs) (a .e) (sym (c .before .slots-same .ensures) ∙ c .if1 .taken))
 
 loop-holds : tie.Need-loop-holds Inv-loop μ-loop
 loop-holds c = (all-none _, omega arith)
@@ -54,6 +57,7 @@ slots-fit-spec =
     (tie.spec
     Inv-loop
     μ-loop
+    slots-same-requires
     returns
     loop-holds
     slot-fits-requires
