@@ -1,5 +1,6 @@
 // How a call ends: the session's changes, and the answer of a code.
 ghost use mathlib.Core.Path.{_≡_};
+ghost use Rattle.model.specs.Codes.{aOf, hOf};
 ghost use Rattle.model.specs.Lent.{ended, searching, withUser, answerOf};
 ghost use Rattle.model.specs.Step.{refusedSession};
 use model::Answer;
@@ -35,87 +36,46 @@ pub fn set_user(s: Session, user: u8) -> Session
     t
 }
 
-// A and H of a code.
+// A of a code.
+fn a_of(code: Code) -> u8
+    ensures { λ a. ⌜ a ≡ aOf code ⌝ }
+{
+    match code {
+        Code::Accepted(a) => a,
+        Code::BadRecord => 6,
+        Code::NotCurrent => 9,
+        Code::NotClosed => 3,
+        Code::NoExtent => 4,
+        Code::NoRecord => 1,
+        Code::NoEntry => 5,
+        Code::DiskFull => 2,
+        _ => 255,
+    }
+}
+
+// H of a code.
+fn h_of(code: Code) -> u8
+    ensures { λ h. ⌜ h ≡ hOf code ⌝ }
+{
+    match code {
+        Code::NotListed => 255,
+        Code::BadParameter => 4,
+        Code::BadDisk => 1,
+        Code::BadName => 9,
+        Code::ReadOnly => 3,
+        Code::Exists => 8,
+        _ => 0,
+    }
+}
+
+// The answer of a code.
 pub fn answer(code: Code, session: Session) -> Answer
     ensures { λ r. ⌜ r ≡ answerOf code session ⌝ }
 {
-    match code {
-        Code::Accepted(a) => Answer { a, h: 0, session },
-        Code::NotListed => Answer {
-            a: 255,
-            h: 255,
-            session,
-        },
-        Code::BadParameter => Answer {
-            a: 255,
-            h: 4,
-            session,
-        },
-        Code::BadDisk => Answer {
-            a: 255,
-            h: 1,
-            session,
-        },
-        Code::BadRecord => Answer {
-            a: 6,
-            h: 0,
-            session,
-        },
-        Code::NotCurrent => Answer {
-            a: 9,
-            h: 0,
-            session,
-        },
-        Code::Failed => Answer {
-            a: 255,
-            h: 0,
-            session,
-        },
-        Code::BadName => Answer {
-            a: 255,
-            h: 9,
-            session,
-        },
-        Code::SearchOver => Answer {
-            a: 255,
-            h: 0,
-            session,
-        },
-        Code::ReadOnly => Answer {
-            a: 255,
-            h: 3,
-            session,
-        },
-        Code::Exists => Answer {
-            a: 255,
-            h: 8,
-            session,
-        },
-        Code::NotClosed => Answer {
-            a: 3,
-            h: 0,
-            session,
-        },
-        Code::NoExtent => Answer {
-            a: 4,
-            h: 0,
-            session,
-        },
-        Code::NoRecord => Answer {
-            a: 1,
-            h: 0,
-            session,
-        },
-        Code::NoEntry => Answer {
-            a: 5,
-            h: 0,
-            session,
-        },
-        Code::DiskFull => Answer {
-            a: 2,
-            h: 0,
-            session,
-        },
+    Answer {
+        a: a_of(code),
+        h: h_of(code),
+        session,
     }
 }
 
