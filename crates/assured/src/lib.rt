@@ -10,17 +10,17 @@ ghost use Rattle.model.specs.Lent.{lend, outcome};
 ghost use Rattle.model.specs.Table.{oneOf};
 ghost use Rattle.model.specs.Step.{step};
 ghost use Rattle.table.specs.Total.{ask};
+ghost use Rattle.effects.specs.Book.{acceptedAnswer};
 ghost use Rattle.demands.specs.Runs.{after, run};
-ghost use Rattle.demands.specs.NothingLost.{NothingLost};
 ghost use Rattle.assured.specs.Script.{callBytes, requestAt, requests, diskOf};
-ghost use Rattle.assured.specs.Demands.{Told, Framed, request, logIn, bookFrom, LeftAlone, targetSet};
+ghost use Rattle.assured.specs.Demands.{request, targetSet, Told, Framed, LoggedIn, ReadsBack};
 use model::Answer;
 use model::Asked;
 use model::Session;
 use targets::Target;
 
 // The bytes of a call in a script: its number, its argument, its FCB and its buffer.
-const CALL_BYTES: usize = 166;
+const CALL_BYTES: usize = 2 + format::FCB_BYTES + format::RECORD_BYTES;
 
 // What a run comes to: whether its first call was accepted, and the session that it left.
 pub struct Ran {
@@ -50,6 +50,35 @@ pub fn one_call(
         (outcome r (now (image .exit)) (now (map .exit)) (now (fcb .exit)) (now (buffer .exit))) ⌝ }
 {
     bdos::call(asked, image, map, fcb, buffer, session)
+}
+
+// Whether a call moves a record: 20, 21, 33 and 34.
+fn moves_record(number: u8) -> bool
+    ensures { λ r. ⌜ r ≡ oneOf number (20 ∷ 21 ∷ 33 ∷ 34 ∷ []) ⌝ }
+{
+    if number == 20 {
+        return true;
+    }
+    if number == 21 {
+        return true;
+    }
+    if number == 33 {
+        return true;
+    }
+    number == 34
+}
+
+// Whether an answer to a call says that it was accepted.
+fn accepted(number: u8, answer: Answer) -> bool
+    ensures { λ r. ⌜ r ≡ acceptedAnswer number answer ⌝ }
+{
+    if answer.h != 0 {
+        return false;
+    }
+    if moves_record(number) {
+        return answer.a == 0;
+    }
+    answer.a != 255
 }
 
 // One call of a script.
@@ -98,7 +127,7 @@ pub fn run_calls(
     s
 }
 
-// Demand 3, of `call` itself: a log-in that is accepted, then the first n calls of any script, and nothing is lost.
+// Demand 3, of `call` itself: a log-in and, where it is accepted, the first n calls of any script, and nothing is lost.
 pub fn log_in_and_run(
     script: &[u8],
     n: usize,
@@ -107,8 +136,8 @@ pub fn log_in_and_run(
     session: Session,
 ) -> Ran
     requires { ⌜ callBytes * n ≤ length (now script) ⌝ }
-    ensures { λ r. ⌜ (r .accepted ≡ true → NothingLost eightInch (diskOf (now (image .exit)) (now (map .exit)) (r .session))
-        (bookFrom (diskOf (now (image .entry)) (now (map .entry)) session) logIn (requests (now (script .entry)) n))) ⌝ }
+    ensures { λ r. ⌜ LoggedIn (diskOf (now (image .entry)) (now (map .entry)) session) (requests (now (script .entry)) n)
+        (r .accepted) (diskOf (now (image .exit)) (now (map .exit)) (r .session)) ⌝ }
 {
     let mut fcb = [0u8; format::FCB_BYTES];
     let mut buffer = [0u8; format::RECORD_BYTES];
@@ -116,22 +145,16 @@ pub fn log_in_and_run(
         number: 13,
         argument: 0,
     };
-    let a = bdos::call(asked, image, map, &mut fcb, &mut buffer, session);
-    if a.h != 0 {
+    let login = bdos::call(asked, image, map, &mut fcb, &mut buffer, session);
+    if !accepted(13, login) {
         return Ran {
             accepted: false,
-            session,
-        };
-    }
-    if a.a == 255 {
-        return Ran {
-            accepted: false,
-            session,
+            session: login.session,
         };
     }
     Ran {
         accepted: true,
-        session: run_calls(script, n, image, map, a.session),
+        session: run_calls(script, n, image, map, login.session),
     }
 }
 
@@ -158,8 +181,8 @@ fn read_again(
     bdos::call(asked, image, map, fcb, back, session)
 }
 
-// Demand 2, of `call` itself: a write that is accepted, then the first n calls of any script that leave its file alone, and call 33
-// is accepted and gives the bytes that were written.
+// Demand 2, of `call` itself: a write and, where it is accepted, the first n calls of any script and call 33 for the record written.
+// Where these calls leave the file alone, 33 is accepted and gives the bytes that were written.
 pub fn write_and_read(
     asked: Asked,
     script: &[u8],
@@ -173,25 +196,19 @@ pub fn write_and_read(
 ) -> ReadBack
     requires { ⌜ (oneOf (asked .number) (21 ∷ 34 ∷ []) ≡ true) × (callBytes * n ≤ length (now script))
         × (length (now fcb) ≡ fcbBytes) × (length (now back) ≡ recordBytes) ⌝ }
-    ensures { λ r. ⌜ (r .accepted ≡ true → LeftAlone (diskOf (now (image .entry)) (now (map .entry)) session)
-        (request asked (now (fcb .entry)) (now (written .entry))) (requests (now (script .entry)) n)
-        → (r .answer .a ≡ 0) × (r .answer .h ≡ 0) × (now (back .exit) ≡ now (written .entry))) ⌝ }
+    ensures { λ r. ⌜ ReadsBack (diskOf (now (image .entry)) (now (map .entry)) session)
+        (request asked (now (fcb .entry)) (now (written .entry))) (requests (now (script .entry)) n) (now (back .entry))
+        r (now (image .exit)) (now (map .exit)) (now (fcb .exit)) (now (written .exit)) (now (back .exit)) ⌝ }
 {
     let target = targets::target_of(asked.number, fcb);
-    let w = bdos::call(asked, image, map, fcb, written, session);
-    if w.h != 0 {
+    let write = bdos::call(asked, image, map, fcb, written, session);
+    if !accepted(asked.number, write) {
         return ReadBack {
             accepted: false,
-            answer: w,
+            answer: write,
         };
     }
-    if w.a != 0 {
-        return ReadBack {
-            accepted: false,
-            answer: w,
-        };
-    }
-    let s = run_calls(script, n, image, map, w.session);
+    let s = run_calls(script, n, image, map, write.session);
     ReadBack {
         accepted: true,
         answer: read_again(target, image, map, fcb, back, s),

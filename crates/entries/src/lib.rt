@@ -1,11 +1,11 @@
-// What an entry says, and an FCB in the same bytes: its slots, its extent, whether it is asked for; and the look-ups of entries by it.
+// What an entry says, and an FCB in the same bytes: its slots, its extent, its t1', whether it is asked for; and the look-ups of entries by it.
 ghost use mathlib.Core.Path.{_≡_};
 ghost use Prim.Native.Nat.{_+_, _≤_, _<_};
 ghost use lib.ListN.{length};
-ghost use Rattle.format.specs.Diskette.{eightInch, imageBytes, entryBytes, slotCount};
+ghost use Rattle.format.specs.Diskette.{eightInch, imageBytes, entryBytes, extentRecords, slotCount};
 ghost use Rattle.format.specs.Names.{nameBytes};
 ghost use Rattle.format.specs.Consistent.{extentRight};
-ghost use Rattle.format.specs.Entries.{entryAt, slotsOf, extentOf, covers, countIn, slotFor, named, isFile, findNamed, findEmpty};
+ghost use Rattle.format.specs.Entries.{entryAt, slotsOf, extentOf, covers, countIn, slotFor, readOnly, named, isFile, findNamed, findEmpty};
 use format::ENTRIES;
 use format::Found;
 
@@ -45,7 +45,7 @@ pub fn count_in(r: &[u8], ext: usize) -> u8
 
 // The slot that holds record k of an extent.
 pub fn slot_for(ext: usize, k: usize) -> usize
-    requires { ⌜ k < 128 ⌝ }
+    requires { ⌜ k < extentRecords ⌝ }
     ensures { λ j. ⌜ (j ≡ slotFor eightInch ext k) × (j < slotCount) ⌝ }
 {
     k / format::RECORDS_PER_BLOCK
@@ -60,6 +60,14 @@ pub fn extent_right(r: &[u8]) -> bool
         return false;
     }
     r[14] <= 63
+}
+
+// Whether a row's t1' is set: the file is read-only.
+pub fn is_read_only(r: &[u8]) -> bool
+    requires { ⌜ entryBytes ≤ length (now r) ⌝ }
+    ensures { λ b. ⌜ b ≡ readOnly (now (r .entry)) ⌝ }
+{
+    128 <= r[9]
 }
 
 // Whether a row is the user's, and its name is what the name in s at q asks for.
@@ -81,10 +89,7 @@ pub fn is_file(user: u8, s: &[u8], q: usize, ext: usize, r: &[u8]) -> bool
     requires { ⌜ (q + nameBytes ≤ length (now s)) × (entryBytes ≤ length (now r)) ⌝ }
     ensures { λ b. ⌜ b ≡ isFile eightInch user (now (s .entry)) q ext (now (r .entry)) ⌝ }
 {
-    if r[0] != user {
-        return false;
-    }
-    if !matching::name_same(s, q, r, 1) {
+    if !is_named(false, user, s, q, r) {
         return false;
     }
     covers_extent(r, ext)

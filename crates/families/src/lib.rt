@@ -26,7 +26,7 @@ fn guards(wild: bool, user: u8, fcb: &[u8], r: &[u8]) -> bool
     requires { ⌜ (length (now fcb) ≡ fcbBytes) × (entryBytes ≤ length (now r)) ⌝ }
     ensures { λ b. ⌜ b ≡ (named wild user (now (fcb .entry)) 1 (now (r .entry)) and readOnly (now (r .entry))) ⌝ }
 {
-    if r[9] < 128 {
+    if !entries::is_read_only(r) {
         return false;
     }
     entries::is_named(wild, user, fcb, 1, r)

@@ -72,26 +72,18 @@ pub fn rule_read(
     read_to(image, fcb, e, t, extent, j, at)
 }
 
-// Whether a row's t1' is set.
-fn is_read_only(r: &[u8]) -> bool
-    requires { ⌜ entryBytes ≤ length (now r) ⌝ }
-    ensures { λ b. ⌜ b ≡ readOnly (now (r .entry)) ⌝ }
-{
-    128 <= r[9]
-}
-
 // Whether t1' is set in the FCB's entry or in the target's.
 fn is_guarded(image: &[u8], e: usize, target: Found) -> bool
     requires { ⌜ (length (now image) ≡ imageBytes eightInch) × (e < eightInch .entries) × Among (eightInch .entries) target ⌝ }
     ensures { λ r. ⌜ r ≡ guarded (entryAt eightInch (now (image .entry))) e target ⌝ }
 {
-    if is_read_only(rows::row(image, e)) {
+    if entries::is_read_only(rows::row(image, e)) {
         return true;
     }
     let Found::At(t) = target else {
         return false;
     };
-    is_read_only(rows::row(image, t))
+    entries::is_read_only(rows::row(image, t))
 }
 
 // The block for a slot: its own, or the first free one where it has none.

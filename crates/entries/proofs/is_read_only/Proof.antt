@@ -2,8 +2,8 @@
 use mathlib.Core.Path.{refl}
 use Rattle.format.specs.Entries.{readOnly}
 use borrow.Author.Needs.{needs}
-use Rattle.rulings.proofs.is_read_only.Statement.{statement}
-use Rattle.rulings.proofs.is_read_only.Tie as tie
+use Rattle.entries.proofs.is_read_only.Statement.{statement}
+use Rattle.entries.proofs.is_read_only.Tie as tie
 
 shared-slice-read-result : tie.Need-shared-slice-read-result
 shared-slice-read-result c = search needs
