@@ -146,15 +146,16 @@ pub fn log_in_and_run(
         argument: 0,
     };
     let login = bdos::call(asked, image, map, &mut fcb, &mut buffer, session);
+    let s = login.session;
     if !accepted(13, login) {
         return Ran {
             accepted: false,
-            session: login.session,
+            session: s,
         };
     }
     Ran {
         accepted: true,
-        session: run_calls(script, n, image, map, login.session),
+        session: run_calls(script, n, image, map, s),
     }
 }
 
