@@ -294,3 +294,36 @@ fn step() {
         std::process::exit(99);
     }
 }
+
+#[cfg(test)]
+mod tests {
+    use super::*;
+
+    #[test]
+    fn a_folder_that_can_not_be_synced_is_worth_a_remark() {
+        // Files can't be made in it, and it can't be synced.
+        let Some(other) = File::open("/proc/self")
+            .ok()
+            .filter(|file| file.sync_all().is_err())
+        else {
+            println!("skipped: there is no folder that can't be synced");
+            return;
+        };
+        let name = format!("benzokamuri-{}", std::process::id());
+        let path = std::env::temp_dir().join(name);
+        let mut ready = Ready::at(&path, b"new", false).unwrap();
+        ready.folder = other;
+        let (mut out, mut err) = (Vec::new(), Vec::new());
+        let mut desk = Desk {
+            out: &mut out,
+            err: &mut err,
+            colours: false,
+        };
+        assert!(ready.take_place(&mut desk).is_ok());
+        assert_eq!(fs::read(&path).unwrap(), b"new");
+        fs::remove_file(&path).unwrap();
+        let said = String::from_utf8(err).unwrap();
+        assert!(said.contains(" is saved, but "), "{said}");
+        assert!(out.is_empty());
+    }
+}
