@@ -80,9 +80,13 @@ impl Held {
             file,
             protected: None,
         };
-        match held.lock()? {
-            true => Ok(held),
-            false => Err(ErrorKind::AlreadyExists.into()),
+        match held.lock() {
+            Ok(true) => Ok(held),
+            Ok(false) => Err(ErrorKind::AlreadyExists.into()),
+            Err(error) => {
+                let _ = fs::remove_file(path);
+                Err(error)
+            }
         }
     }
 
@@ -203,6 +207,13 @@ impl Ready {
         ready.made = !there;
         ready.held = Some(held);
         Ok(ready)
+    }
+
+    /// Gives the lock back. Of files that are made ready together two may be
+    /// the same one, by links, and would wait for each other.
+    pub fn unlocked(mut self) -> Ready {
+        self.held = None;
+        self
     }
 
     /// Takes the file's place.

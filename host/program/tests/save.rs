@@ -365,6 +365,21 @@ fn an_image_made_twice_at_the_same_time_is_made_once() {
     }
 }
 
+#[test]
+fn two_files_that_are_one_by_links_do_not_wait_for_each_other() {
+    let folder = Folder::new();
+    folder.done("new disk.img");
+    folder.write("file", b"1");
+    folder.done("put disk.img file one");
+    folder.done("put disk.img file two");
+    symlink("file", folder.at("ONE")).unwrap();
+    symlink("file", folder.at("TWO")).unwrap();
+    let ran = ran_soon(folder.command().args(["get", "-f", "disk.img", "*.*"]));
+    assert_eq!((ran.status, ran.err.as_str()), (Some(0), ""));
+    assert_eq!(folder.read("file").len(), 128);
+    assert_eq!(folder.names(), ["ONE", "TWO", "disk.img", "file"]);
+}
+
 /// What is put may come from a program that changes the image itself.
 #[test]
 fn an_image_is_not_held_while_standard_input_is_read() {

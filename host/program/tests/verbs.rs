@@ -486,7 +486,9 @@ fn help_for_everything() {
         assert_eq!(folder.done(&format!("{verb} --help")), help);
         assert_eq!(folder.done(&format!("{verb} some.img -h")), help);
     }
-    assert!(folder.done("help names").contains("%25"));
+    let names = folder.done("help names");
+    assert!(names.contains("%25") && names.contains("%2F"), "{names}");
+    assert!(names.lines().all(|line| line.len() <= 80), "{names}");
     let codes = folder.done("help codes");
     assert_eq!(codes.lines().count(), 1 + 22, "a heading and the cases");
     assert!(folder.done("--version").contains("interface 1"));

@@ -81,7 +81,7 @@ fn run(mut words: Words, desk: &mut Desk) -> Result<(), Trouble> {
     let mut ready = Vec::new();
     for (path, bytes) in copies {
         match path {
-            Some(path) => ready.push(Ready::at(&path, &bytes, replace)?),
+            Some(path) => ready.push(Ready::at(&path, &bytes, replace)?.unlocked()),
             None => desk.out.write_all(&bytes)?,
         }
     }
