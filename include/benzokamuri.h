@@ -11,12 +11,14 @@
  *   static uint16_t map[BENZO_MAP_LEN];
  *   benzo_session session = {0};
  *
+ *   memset(image, 0xE5, sizeof image);
  *   benzo_asked log_in = {BENZO_LOG_IN, 0};
  *   benzo_answer answer = benzo_call(log_in, image, sizeof image, map, BENZO_MAP_LEN,
  *                                    fcb, sizeof fcb, buffer, sizeof buffer, session);
  *   session = answer.session;
  *
- * An image that is all E5H is an empty disk.
+ * An image that is all E5H is an empty disk. One that is all zeros is not
+ * consistent, and is refused with 255, 1.
  */
 #ifndef BENZOKAMURI_H
 #define BENZOKAMURI_H
@@ -130,8 +132,9 @@ typedef struct {
 /* Makes one call.
  *
  * Each pointer has to be good for reading and writing as many bytes, or notes,
- * as the length behind it says, even where that length is a wrong one. The four
- * buffers must not overlap. They are the caller's again when the call returns.
+ * as the length behind it says, even where that length is a wrong one. NULL with
+ * length 0 is such a pointer, and is answered with 255, 4 by every listed call.
+ * The four buffers must not overlap. They are the caller's again when the call returns.
  * Calls over different buffers may run at the same time. */
 benzo_answer benzo_call(benzo_asked asked,
                         uint8_t *image, size_t image_len,

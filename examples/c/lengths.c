@@ -1,6 +1,7 @@
 /* Every call with every length wrong in turn. Each buffer is exactly as long as
  * the call is told, so that a memory checker sees the first byte beyond it. A
- * wrong length is answered with 255, 4, and nothing changes. */
+ * wrong length is answered with 255, 4, and nothing changes. Where nothing is
+ * lent, the pointer is NULL. */
 #include <stdio.h>
 #include <stdlib.h>
 #include <string.h>
@@ -18,9 +19,11 @@ static void lend(uint8_t number, const size_t *length, uint8_t filling) {
     uint8_t *lent[4];
     int changed = 0;
     for (int i = 0; i < 4; i++) {
+        lent[i] = NULL;
+        if (length[i] == 0) continue;
         lent[i] = malloc(length[i] * width[i]);
-        if (lent[i] == NULL && length[i] > 0) exit(2);
-        if (length[i] > 0) memset(lent[i], filling, length[i] * width[i]);
+        if (lent[i] == NULL) exit(2);
+        memset(lent[i], filling, length[i] * width[i]);
     }
     benzo_asked asked = {number, 0};
     benzo_session session = {0};

@@ -30,16 +30,22 @@ fn main() {
     }
 }
 
-/// Where the archive is: named by the environment, or where `rt staticlib
-/// benzokamuri` writes it.
+/// Where the archive is: named by the environment, or the newer of the one
+/// that `make lib` wrote and the one that `rt staticlib benzokamuri` wrote.
 fn archive() -> PathBuf {
-    match env::var_os(ELSEWHERE) {
-        Some(path) => PathBuf::from(path),
-        None => {
-            let here = env::var_os("CARGO_MANIFEST_DIR").expect("cargo names the crate's folder");
-            let repository = Path::new(&here).join("../..");
-            let repository = repository.canonicalize().unwrap_or(repository);
-            repository.join("target/staticlib/libbenzokamuri.a")
-        }
+    if let Some(path) = env::var_os(ELSEWHERE) {
+        return PathBuf::from(path);
+    }
+    let here = env::var_os("CARGO_MANIFEST_DIR").expect("cargo names the crate's folder");
+    let repository = Path::new(&here).join("../..");
+    let repository = repository.canonicalize().unwrap_or(repository);
+    let [proved, made] = ["target/staticlib", "build/lib"]
+        .map(|folder| repository.join(folder).join("libbenzokamuri.a"));
+    let written = |path: &Path| path.metadata().and_then(|file| file.modified()).ok();
+    // One that is not there counts as the oldest, and build/lib is named where
+    // neither is.
+    match written(&proved) > written(&made) {
+        true => proved,
+        false => made,
     }
 }

@@ -20,6 +20,15 @@ pub struct Disk {
     pub buffer: Buffer,
 }
 
+/// Without image, map and buffer, which would fill pages.
+impl fmt::Debug for Disk {
+    fn fmt(&self, f: &mut fmt::Formatter) -> fmt::Result {
+        let mut shown = f.debug_struct("Disk");
+        shown.field("session", &self.session);
+        shown.finish_non_exhaustive()
+    }
+}
+
 /// A directory entry that a search found.
 #[derive(Clone, Copy, Debug, PartialEq, Eq)]
 pub struct Found {
@@ -268,5 +277,35 @@ impl Disk {
     /// Call 98: frees the blocks that are pending.
     pub fn free_blocks(&mut self) -> Result<(), Code> {
         self.call_without_fcb(Call::FreeBlocks).map(|_| ())
+    }
+}
+
+#[cfg(test)]
+mod tests {
+    use super::*;
+
+    #[test]
+    fn a_disk_is_shown_in_short() {
+        let shown = format!("{:?}", Disk::erased());
+        assert!(shown.starts_with("Disk { session: Session { user: 0, "));
+        assert!(shown.ends_with(", .. }") && shown.len() < 200, "{shown}");
+        assert_eq!(
+            Disk::new(vec![]).unwrap_err(),
+            NoDisk::WrongLength(WrongLength { found: 0 })
+        );
+    }
+
+    #[test]
+    fn records_that_no_file_has_are_refused_as_such() {
+        let mut disk = Disk::erased();
+        let mut fcb = Fcb::named("A".parse().unwrap());
+        disk.make(&mut fcb).unwrap();
+        disk.write_next(&mut fcb).unwrap();
+        for record in [262_144, 0xFF_FFFF, 0x100_0000, 0x100_0001, u32::MAX] {
+            fcb.set_random(record);
+            assert_eq!(disk.read_random(&mut fcb), Err(Code::TooFar), "{record}");
+        }
+        fcb.set_random(0);
+        assert_eq!(disk.read_random(&mut fcb), Ok(()));
     }
 }

@@ -99,8 +99,10 @@ impl Fcb {
         u32::from_le_bytes([r0, r1, r2, 0])
     }
 
-    /// Sets the random record number; what is over 24 bits is left out.
+    /// Sets the random record number. What is over 24 bits becomes the largest
+    /// number that they hold, which calls 33 and 34 refuse as they would it.
     pub fn set_random(&mut self, record: u32) {
+        let record = record.min(0xFF_FFFF);
         self.0[at::RANDOM].copy_from_slice(&record.to_le_bytes()[..3]);
     }
 }

@@ -12,9 +12,10 @@ use std::str::FromStr;
 /// In a pattern, 3FH stands for anything.
 const ANY: u8 = 0x3F;
 
-/// Characters that end a name when CP/M reads one, and those that mean
-/// something here. They are written with `%`.
-const PUNCTUATION: &[u8] = b"<>.,;:=?*[]|%";
+/// Characters that end a name when CP/M reads one, those that mean something
+/// here, and the one that parts folders on the host, where a name on the disk
+/// becomes the name of a file. They are written with `%`.
+const PUNCTUATION: &[u8] = b"<>.,;:=?*[]|%/";
 
 /// Bytes of the name without its type.
 const NAME_BYTES: usize = 8;
@@ -246,7 +247,8 @@ mod tests {
         assert_eq!(name("a b"), Err(BadName::Character(' ')));
         assert_eq!(name("ü"), Err(BadName::Character('ü')));
         assert_eq!(name("0:a"), Err(BadName::Character(':')));
-        for bad in ["%", "%4", "%zz", "%3f", "%7F", "%1f", "%20", "%+1"] {
+        assert_eq!(name("i/o.asm"), Err(BadName::Character('/')));
+        for bad in ["%", "%4", "%zz", "%3f", "%7F", "%1f", "%00", "%20", "%+1"] {
             assert_eq!(name(bad), Err(BadName::Percent), "{bad}");
         }
         assert_eq!(name("a?"), Err(BadName::IsPattern));
@@ -276,8 +278,38 @@ mod tests {
             let name = Name::of(&bytes).unwrap();
             assert_eq!(name.to_string().parse(), Ok(name));
         }
+        assert_eq!(pattern("%2f*.%2F"), Ok(*b"/???????/  "));
         assert_eq!(pattern("A????????"), Err(BadName::NameTooLong));
         assert_eq!(Pattern::EVERY.to_string(), "????????.???");
+    }
+
+    /// So a file that is named after one on the disk lies in the folder that
+    /// it was to be put into.
+    #[test]
+    fn what_is_written_is_one_file_in_a_folder() {
+        let one_file = |bytes: &[u8; 11]| {
+            let text = Name::of(bytes).unwrap().to_string();
+            let path = std::path::Path::new(&text);
+            assert_eq!(path.file_name(), Some(path.as_os_str()), "{text}");
+            assert!(!text.starts_with('.') && !text.contains('\0'), "{text}");
+        };
+        for byte in (0x21..=0x7E).filter(|&byte| byte != ANY) {
+            one_file(&[byte; 11]);
+            one_file(&[
+                byte, b' ', b' ', b' ', b' ', b' ', b' ', b' ', b' ', b' ', b' ',
+            ]);
+            one_file(&[
+                byte, byte, b' ', b' ', b' ', b' ', b' ', b' ', b' ', b' ', byte,
+            ]);
+        }
+        for (bytes, text) in [
+            (b"/X         ", "%2FX"),
+            (b"I/O     ASM", "I%2FO.ASM"),
+            (b"..         ", "%2E%2E"),
+            (b"../     /..", "%2E%2E%2F.%2F%2E%2E"),
+        ] {
+            assert_eq!(Name::of(bytes).unwrap().to_string(), text);
+        }
     }
 
     #[test]

@@ -13,21 +13,44 @@ fn block(language: &str) -> String {
     block.to_string()
 }
 
-/// It stands in a function here, as it would in a program.
-#[test]
-fn the_c_compiles() {
-    let shown = block("c");
+/// The example in the header's first comment.
+fn header_block() -> String {
+    let header = std::fs::read_to_string(common::repository().join("include/benzokamuri.h"));
+    let header = header.expect("there is a header");
+    let shown = header
+        .lines()
+        .skip_while(|line| !line.starts_with(" *   "))
+        .take_while(|line| line.starts_with(" *   ") || *line == " *")
+        .filter_map(|line| line.strip_prefix(" *   "));
+    shown.collect::<Vec<_>>().join("\n")
+}
+
+/// Compiles what stands in a function as it would in a program, and runs it:
+/// its log-in has to be accepted.
+fn log_in_is_accepted(shown: &str, name: &str) {
     let (includes, rest): (Vec<&str>, Vec<&str>) =
         shown.lines().partition(|line| line.starts_with("#include"));
     let program = format!(
-        "{}\nint main(void) {{\n{}\nreturn session.user;\n}}\n",
+        "{}\n#include <stdio.h>\nint main(void) {{\n{}\n\
+         printf(\"%d, %d; user %d\\n\", answer.a, answer.h, session.user);\nreturn 0;\n}}\n",
         includes.join("\n"),
         rest.join("\n")
     );
-    let path = std::path::Path::new(env!("CARGO_TARGET_TMPDIR")).join("readme.c");
+    let path = std::path::Path::new(env!("CARGO_TARGET_TMPDIR")).join(name);
     std::fs::write(&path, program).expect("it can be written");
     let path = path.to_str().expect("a path that is text");
-    assert_eq!(common::compile(path).run(), "");
+    assert_eq!(common::compile(path).run(), "0, 0; user 0\n");
+}
+
+#[test]
+fn the_c_is_compiled_and_accepted() {
+    log_in_is_accepted(&block("c"), "readme.c");
+}
+
+#[test]
+fn the_c_of_the_header_is_compiled_and_accepted() {
+    let includes = "#include <string.h>\n#include \"benzokamuri.h\"\n";
+    log_in_is_accepted(&format!("{includes}{}", header_block()), "header.c");
 }
 
 /// The library's first page is compiled and run by its own test.

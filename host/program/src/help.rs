@@ -10,8 +10,10 @@ use std::io::Write;
 const NAMES: &str = "\
 Names are those of CP/M: up to eight characters, a dot, and a type of up to
 three. Small letters are made capitals. Characters that CP/M gives a meaning,
-< > . , ; : = ? * [ ] |, spaces and small letters can be written as % and two
-hexadecimal digits: %61.TXT is the file whose name is a small a. % itself is %25.
+< > . , ; : = ? * [ ] |, those that have one here, / and %, spaces and small
+letters are written as % and two hexadecimal digits: %61.TXT is the file whose
+name is a small a, I%2FO.ASM has a / in it, and % itself is %25. `ls` shows
+names so, and `get` gives the files that it writes such names.
 
 In a pattern ? stands for any character or none at the end, and * fills up the
 name or the type with ?: *.TXT is every file of type TXT, *.* is every file, and

@@ -15,6 +15,7 @@ mod help;
 mod hex;
 pub mod layout;
 pub mod picture;
+pub mod saving;
 mod state;
 pub mod store;
 pub mod trouble;
@@ -22,7 +23,8 @@ mod verbs;
 mod words;
 
 use std::ffi::OsString;
-use std::io::Write;
+use std::fmt;
+use std::io::{self, ErrorKind, Write};
 use trouble::Trouble;
 use words::{Shape, Words};
 
@@ -34,6 +36,50 @@ pub struct Desk<'a> {
     pub err: &'a mut dyn Write,
     /// Whether `out` shows colours.
     pub colours: bool,
+}
+
+impl Desk<'_> {
+    /// Says what is worth a remark. That nobody reads it is no reason to stop.
+    fn remark(&mut self, what: fmt::Arguments) {
+        let _ = writeln!(self.err, "benzokamuri: {what}");
+    }
+}
+
+/// What may lose its reader, as before `head`. The rest is then dropped, and
+/// the verb comes to the end that it would have come to.
+struct Heard<'a> {
+    out: &'a mut dyn Write,
+    lost: bool,
+}
+
+impl Heard<'_> {
+    fn unless_lost<T>(&mut self, printed: io::Result<T>, instead: T) -> io::Result<T> {
+        match printed {
+            Err(error) if error.kind() == ErrorKind::BrokenPipe => {
+                self.lost = true;
+                Ok(instead)
+            }
+            printed => printed,
+        }
+    }
+}
+
+impl Write for Heard<'_> {
+    fn write(&mut self, bytes: &[u8]) -> io::Result<usize> {
+        if self.lost {
+            return Ok(bytes.len());
+        }
+        let printed = self.out.write(bytes);
+        self.unless_lost(printed, bytes.len())
+    }
+
+    fn flush(&mut self) -> io::Result<()> {
+        if self.lost {
+            return Ok(());
+        }
+        let flushed = self.out.flush();
+        self.unless_lost(flushed, ())
+    }
 }
 
 /// A verb of the program.
@@ -52,28 +98,34 @@ struct Verb {
 /// Runs a command line, without the program's own name, and gives the exit
 /// status.
 pub fn run(words: &[OsString], desk: &mut Desk) -> u8 {
-    let done = obey(words, desk).and_then(|()| Ok(desk.out.flush()?));
+    let desk = &mut Desk {
+        out: &mut Heard {
+            out: desk.out,
+            lost: false,
+        },
+        err: desk.err,
+        colours: desk.colours,
+    };
+    let mut verb = None;
+    let done = obey(words, &mut verb, desk).and_then(|()| Ok(desk.out.flush()?));
     let Err(trouble) = done else {
         return trouble::DONE;
     };
-    if !matches!(trouble, Trouble::Unheard) {
-        // Nobody is left to be told where this fails.
-        let _ = desk.out.flush();
-        let _ = writeln!(desk.err, "benzokamuri: {trouble}");
-    }
+    // Nobody is left to be told where this fails.
+    let _ = desk.out.flush();
+    desk.remark(format_args!("{trouble}"));
     if let Trouble::Usage(_) = trouble {
-        let _ = writeln!(desk.err, "{}", help::hint(verb_of(words)));
+        let _ = writeln!(desk.err, "{}", help::hint(verb));
     }
     trouble.status()
 }
 
-/// The verb of a command line, if it has one.
-fn verb_of(words: &[OsString]) -> Option<&'static Verb> {
-    let named = |verb: &&Verb| words.iter().any(|word| word == verb.name);
-    verbs::ALL.iter().find(named)
-}
-
-fn obey(words: &[OsString], desk: &mut Desk) -> Result<(), Trouble> {
+/// Obeys a command line, and says which verb it has as soon as that is known.
+fn obey(
+    words: &[OsString],
+    found: &mut Option<&'static Verb>,
+    desk: &mut Desk,
+) -> Result<(), Trouble> {
     // `-u` may stand before the verb too.
     let before_verb = Shape {
         flags: &["--version"],
@@ -109,6 +161,7 @@ fn obey(words: &[OsString], desk: &mut Desk) -> Result<(), Trouble> {
         let name = name.display();
         return Err(Trouble::usage(format!("there is no verb {name}")));
     };
+    *found = Some(verb);
     if first.help() {
         return help::verb(verb, desk);
     }

@@ -22,6 +22,9 @@ pub struct State {
 }
 
 impl State {
+    /// No text of it has more bytes.
+    pub const MOST: usize = 4_096;
+
     /// What is to be kept of a disk.
     pub fn of(disk: &Disk, fcb: Fcb) -> State {
         State {
@@ -112,6 +115,7 @@ mod tests {
             buffer: std::array::from_fn(|i| 255 - i as u8),
         };
         let text = state.written();
+        assert!(text.len() + 5 * MAP_LEN < State::MOST);
         assert_eq!(State::read(&text), Some(state));
         assert_eq!(State::read(""), None);
         assert_eq!(State::read(&text.replace("state 1", "state 2")), None);

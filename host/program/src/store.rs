@@ -1,13 +1,14 @@
-//! Images as files: read whole, checked for their length, and saved so that
-//! the file is the old image or the new one, never a part of either.
+//! Images as files: read whole, and checked for their length.
 
 use crate::layout::{place, Row, AREA, BLOCKS, BLOCK_RECORDS, ERASED};
+use crate::saving::{self, Held, Ready};
 use crate::trouble::Trouble;
+use crate::Desk;
 use benzokamuri::{Code, Disk, Image, NoDisk, WrongLength, BUFFER_LEN, ENTRIES, IMAGE_LEN};
 use std::ffi::OsStr;
 use std::fmt;
-use std::fs::{self, File, OpenOptions};
-use std::io::{self, Write};
+use std::fs::File;
+use std::io;
 use std::path::{Path, PathBuf};
 
 /// An image file, with what was read from it.
@@ -19,15 +20,27 @@ pub struct ImageFile {
     length: usize,
 }
 
-/// How images are saved in pieces, so that a test can end it in between.
-const PIECE: usize = 4_096;
-
 impl ImageFile {
-    /// Reads an image file. What is neither an image nor the beginning of one
-    /// is refused.
+    /// Reads an image file to look at it. What is neither an image nor the
+    /// beginning of one is refused.
     pub fn read(path: &OsStr) -> Result<ImageFile, Trouble> {
-        let path = PathBuf::from(path);
-        let bytes = read(&path).map_err(|error| Trouble::file(path.display(), &error))?;
+        let path = Path::new(path);
+        let file = saving::open(path).map_err(|error| Trouble::file(path.display(), &error))?;
+        ImageFile::of(path, &file)
+    }
+
+    /// Reads an image file to change it. Nobody else can until what is held
+    /// is let go.
+    pub fn hold(path: &OsStr) -> Result<(ImageFile, Held), Trouble> {
+        let path = Path::new(path);
+        let held = Held::of(path).map_err(|error| Trouble::file(path.display(), &error))?;
+        let image = ImageFile::of(path, held.file())?;
+        Ok((image, held))
+    }
+
+    fn of(path: &Path, file: &File) -> Result<ImageFile, Trouble> {
+        let path = path.to_path_buf();
+        let bytes = read(file).map_err(|error| Trouble::file(path.display(), &error))?;
         match bytes.and_then(|bytes| Ok((bytes.len(), filled_up(bytes)?))) {
             Ok((length, image)) => Ok(ImageFile {
                 path,
@@ -75,12 +88,30 @@ impl ImageFile {
         Ok(disk)
     }
 
-    /// Saves a disk's image where it is not the one that was read.
-    pub fn save(&self, disk: &Disk) -> Result<(), Trouble> {
-        if disk.image() == self.image() {
-            return Ok(());
+    /// Saves a disk's image, and what goes with it, where there is such a
+    /// thing. An image that is still the one that was read is left alone.
+    pub fn save(
+        &self,
+        held: &Held,
+        disk: &Disk,
+        beside: Option<(&Path, &str)>,
+        desk: &mut Desk,
+    ) -> Result<(), Trouble> {
+        let changed = disk.image() != self.image();
+        let image = changed.then(|| held.ready(disk.image())).transpose()?;
+        let beside = beside.map(|(path, text)| Ready::at(path, text.as_bytes(), true));
+        // Whatever can fail has been done for both by now, but for the renames.
+        for ready in [image, beside.transpose()?].into_iter().flatten() {
+            ready.take_place(desk)?;
         }
-        save(&self.path, disk.image())
+        if changed && self.lacks() > 0 {
+            desk.remark(format_args!(
+                "{}: saved at its full length, {} bytes more than it had",
+                self.name(),
+                self.lacks()
+            ));
+        }
+        Ok(())
     }
 }
 
@@ -112,13 +143,14 @@ impl fmt::Display for NoImage {
 }
 
 /// A file's bytes, unless there are too many for an image.
-fn read(path: &Path) -> io::Result<Result<Vec<u8>, NoImage>> {
-    let length = fs::metadata(path)?.len();
+fn read(file: &File) -> io::Result<Result<Vec<u8>, NoImage>> {
+    let length = file.metadata()?.len();
     if length > IMAGE_LEN as u64 {
         let found = usize::try_from(length).unwrap_or(usize::MAX);
         return Ok(Err(NoImage::with(found)));
     }
-    fs::read(path).map(Ok)
+    // Not all that a system shows as files have a length that can be trusted.
+    saving::read_at_most(file, IMAGE_LEN + 1).map(Ok)
 }
 
 /// An image from a file's bytes. Tools that write a sector at a time leave
@@ -170,100 +202,6 @@ fn listed_end(image: &Image) -> usize {
         })
     });
     counted.max().unwrap_or(0)
-}
-
-/// Saves an image or what goes with one: a temporary file in the same folder
-/// is written and made to last, takes the old one's place, and the folder is
-/// made to last.
-pub fn save(path: &Path, bytes: &[u8]) -> Result<(), Trouble> {
-    let saved = replace(path, bytes, &mut EndAt::from_environment());
-    saved.map_err(|error| Trouble::file(format!("{} can't be saved", path.display()), &error))
-}
-
-fn replace(path: &Path, bytes: &[u8], end: &mut EndAt) -> io::Result<()> {
-    // A link stays a link, and what it leads to is replaced.
-    let path = &fs::canonicalize(path).unwrap_or_else(|_| path.to_path_buf());
-    let folder = match path.parent() {
-        Some(folder) if !folder.as_os_str().is_empty() => folder,
-        _ => Path::new("."),
-    };
-    end.here();
-    let (temporary, file) = temporary(folder, path)?;
-    let written = fill(file, path, bytes, end).and_then(|()| {
-        end.here();
-        fs::rename(&temporary, path)
-    });
-    if written.is_err() {
-        let _ = fs::remove_file(&temporary);
-    }
-    written?;
-    end.here();
-    File::open(folder)?.sync_all()?;
-    end.here();
-    Ok(())
-}
-
-/// Writes a file and makes it last.
-fn fill(mut file: File, path: &Path, bytes: &[u8], end: &mut EndAt) -> io::Result<()> {
-    end.here();
-    if let Ok(old) = fs::metadata(path) {
-        file.set_permissions(old.permissions())?;
-    }
-    for piece in bytes.chunks(PIECE) {
-        end.here();
-        file.write_all(piece)?;
-    }
-    end.here();
-    file.sync_all()
-}
-
-/// A new file beside an image, and its path.
-fn temporary(folder: &Path, path: &Path) -> io::Result<(PathBuf, File)> {
-    let name = path.file_name().unwrap_or_default().to_string_lossy();
-    let process = std::process::id();
-    let mut number = 0;
-    loop {
-        let temporary = folder.join(format!(".{name}.{process}-{number}.tmp"));
-        let new = OpenOptions::new()
-            .write(true)
-            .create_new(true)
-            .open(&temporary);
-        match new {
-            Ok(file) => return Ok((temporary, file)),
-            // Left by a process that was ended, long ago.
-            Err(error) if error.kind() == io::ErrorKind::AlreadyExists && number < 100 => {
-                number += 1;
-            }
-            Err(error) => return Err(error),
-        }
-    }
-}
-
-/// The environment's word for the step of a save at which the process is to
-/// end. Tests set it.
-const END_AT: &str = "BENZOKAMURI_END_SAVE_AT";
-
-/// Ends the process at a step of a save, on request.
-struct EndAt {
-    steps_left: Option<usize>,
-}
-
-impl EndAt {
-    fn from_environment() -> EndAt {
-        let word = std::env::var(END_AT).ok();
-        EndAt {
-            steps_left: word.and_then(|number| number.parse().ok()),
-        }
-    }
-
-    /// A step at which the process could be ended.
-    fn here(&mut self) {
-        match &mut self.steps_left {
-            Some(0) => std::process::exit(99),
-            Some(left) => *left -= 1,
-            None => {}
-        }
-    }
 }
 
 #[cfg(test)]

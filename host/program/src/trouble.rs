@@ -27,8 +27,6 @@ pub enum Trouble {
     },
     /// Anything else: a file that can't be read, an image of a wrong length.
     Failed(String),
-    /// Nobody reads what is printed any more.
-    Unheard,
 }
 
 impl Trouble {
@@ -52,7 +50,6 @@ impl Trouble {
         match self {
             Trouble::Usage(_) => USAGE,
             Trouble::Refused { .. } | Trouble::Failed(_) => REFUSED,
-            Trouble::Unheard => DONE,
         }
     }
 }
@@ -65,7 +62,6 @@ impl fmt::Display for Trouble {
                 let (a, h) = code.numbers();
                 write!(f, "{doing}: {a}, {h}: {code}")
             }
-            Trouble::Unheard => Ok(()),
         }
     }
 }
@@ -73,10 +69,7 @@ impl fmt::Display for Trouble {
 /// Trouble with what is printed.
 impl From<io::Error> for Trouble {
     fn from(error: io::Error) -> Trouble {
-        match error.kind() {
-            io::ErrorKind::BrokenPipe => Trouble::Unheard,
-            _ => Trouble::file("standard output", &error),
-        }
+        Trouble::file("standard output", &error)
     }
 }
 

@@ -84,7 +84,11 @@ impl Words {
             }
             return Ok(());
         }
-        Err(Trouble::usage(format!("there is no option {text} here")))
+        match joined(text, shape) {
+            Some(flags) => self.flags.extend(flags),
+            None => return Err(Trouble::usage(format!("there is no option {text} here"))),
+        }
+        Ok(())
     }
 
     /// Whether help is asked for.
@@ -162,6 +166,20 @@ fn is_option(text: &str) -> bool {
     text.starts_with('-') && text != "-"
 }
 
+/// Several letters behind one dash, as `-la`, each of which is an option that
+/// stands alone.
+fn joined(text: &str, shape: Shape) -> Option<Vec<&'static str>> {
+    let letters = text.strip_prefix('-')?.chars();
+    let flag = |letter| {
+        let mut flags = shape.flags.iter();
+        flags.find(|flag| {
+            flag.strip_prefix('-')
+                .is_some_and(|name| name.chars().eq([letter]))
+        })
+    };
+    letters.map(|letter| flag(letter).copied()).collect()
+}
+
 fn user(value: &OsStr) -> Result<u8, Trouble> {
     let number = value.to_str().and_then(|text| text.parse().ok());
     number
@@ -207,11 +225,23 @@ mod tests {
     #[test]
     fn what_is_wrong_is_said() {
         for line in [
-            "-x", "-u", "-u 16", "-u x", "--svg", "-lf", "--svgf", "-u -1",
+            "-x", "-u", "-u 16", "-u x", "--svg", "-lx", "-lu3", "-la", "--lf", "--svgf", "-u -1",
         ] {
             let wrong = sorted(line).unwrap_err();
             assert_eq!(wrong.status(), crate::trouble::USAGE, "{line}");
         }
+    }
+
+    #[test]
+    fn letters_may_be_joined() {
+        for line in ["-lf a", "a -fl", "-l -f a", "-ll -ff a"] {
+            let words = sorted(line).unwrap();
+            assert!(words.has("-l") && words.has("-f"), "{line}");
+        }
+        // What has a value takes what is behind it.
+        let words = sorted("-alf").unwrap();
+        assert_eq!(words.text("-a").unwrap(), Some("lf"));
+        assert!(!words.has("-l"));
     }
 
     #[test]

@@ -2,7 +2,7 @@
 
 mod common;
 
-use common::{bytes, ran, Folder, Ran};
+use common::{bytes, Folder, Ran};
 use std::io::Write;
 use std::process::Stdio;
 
@@ -81,6 +81,59 @@ fn several_files_come_off_into_a_folder() {
     assert_eq!(folder.read("out/ONE.TXT").len(), 128);
 }
 
+/// The name of a file on the disk names no folder of the host.
+#[test]
+fn names_with_a_slash_stay_in_the_folder() {
+    let folder = with_disk();
+    folder.write("x", b"x");
+    let names = ["%2FX", "I%2FO.ASM", "%2E%2E", "%2E%2E%2FX", "-", "A.%2FB"];
+    for name in names {
+        folder.done(&format!("put disk.img x -- {name}"));
+    }
+    let listed = folder.done("ls disk.img");
+    for name in names {
+        assert!(listed.contains(&format!("  {name} ")), "{name}: {listed}");
+    }
+    std::fs::create_dir(folder.at("out")).unwrap();
+    folder.done("get disk.img *.* out");
+    assert_eq!(folder.names(), ["disk.img", "out", "x"]);
+    let mut there: Vec<String> = std::fs::read_dir(folder.at("out"))
+        .unwrap()
+        .map(|entry| entry.unwrap().file_name().into_string().unwrap())
+        .collect();
+    there.sort();
+    let mut due = names;
+    due.sort();
+    assert_eq!(there, due);
+    // What came off goes on again under the same name.
+    folder.done("rm disk.img %2f*.* ?%2f?.asm");
+    assert!(folder.done("ls disk.img").contains("4 files"));
+    folder.done("put disk.img out/%2FX");
+    folder.done("put disk.img out/I%2FO.ASM");
+    assert_eq!(folder.done("ls disk.img"), listed);
+    folder.done("get disk.img %2fx");
+    assert_eq!(folder.read("%2FX").len(), 128);
+    let said = folder.refused("put disk.img x i/o.asm");
+    assert!(said.contains("'/' may not stand in a name"), "{said}");
+}
+
+#[test]
+fn of_several_files_none_is_written_where_one_is_there() {
+    let folder = with_files();
+    std::fs::create_dir(folder.at("out")).unwrap();
+    folder.write("out/TWO.DAT", b"old");
+    let said = folder.refused("get -u 5 disk.img *.* out");
+    assert_eq!(
+        said,
+        "benzokamuri: out/TWO.DAT is there already; -f replaces it\n"
+    );
+    assert!(!folder.at("out/NOTHING").exists());
+    assert_eq!(folder.read("out/TWO.DAT"), b"old");
+    folder.done("get -fr -u 5 disk.img *.* out");
+    assert!(folder.at("out/NOTHING").exists());
+    assert_eq!(folder.read("out/TWO.DAT").len(), 20_096);
+}
+
 #[test]
 fn lists() {
     let folder = with_files();
@@ -105,6 +158,10 @@ user  name          attributes  records      size
       entry  2, extent    1: rc  29, blocks 19-22
 3 files, 158 records; 1760 records are free
 "
+    );
+    assert_eq!(
+        folder.done("ls -la disk.img"),
+        folder.done("ls -a -l disk.img")
     );
     let some = folder.done("ls -u 5 disk.img *.DAT t*.* two.dat");
     assert_eq!(some.lines().count(), 3, "each file once: {some}");
@@ -398,6 +455,18 @@ fn wrong_usage_has_status_2_and_says_what_is_right() {
     }
     let nothing: [&str; 0] = [];
     assert_eq!(folder.run_words(nothing).status, Some(2));
+    // The verb that was found is the one that is told about, not a word that
+    // happens to be another's name.
+    for (line, verb) in [
+        ("put ls", "put"),
+        ("-u 3 get -x new", "get"),
+        ("rm --ls mv", "rm"),
+    ] {
+        let err = folder.run(line).err;
+        let usage = format!("\nusage: benzokamuri {verb} ");
+        assert!(err.contains(&usage), "{line}: {err}");
+    }
+    assert!(!folder.run("nosuch ls").err.contains("usage:"));
 }
 
 #[test]
@@ -417,7 +486,9 @@ fn help_for_everything() {
         assert_eq!(folder.done(&format!("{verb} --help")), help);
         assert_eq!(folder.done(&format!("{verb} some.img -h")), help);
     }
-    assert!(folder.done("help names").contains("%25"));
+    let names = folder.done("help names");
+    assert!(names.contains("%25") && names.contains("%2F"), "{names}");
+    assert!(names.lines().all(|line| line.len() <= 80), "{names}");
     let codes = folder.done("help codes");
     assert_eq!(codes.lines().count(), 1 + 22, "a heading and the cases");
     assert!(folder.done("--version").contains("interface 1"));
@@ -468,6 +539,15 @@ fn the_map_as_a_picture() {
     let svg = String::from_utf8(folder.read("map.svg")).unwrap();
     assert_eq!(svg.matches("<title>block ").count(), 243);
     assert_eq!(folder.done("map --svg - disk.img"), svg);
+    folder.write("map.svg", b"precious");
+    let said = folder.refused("map --svg map.svg disk.img");
+    assert_eq!(
+        said,
+        "benzokamuri: map.svg is there already; -f replaces it\n"
+    );
+    assert_eq!(folder.read("map.svg"), b"precious");
+    folder.done("map -f --svg map.svg disk.img");
+    assert_eq!(folder.read("map.svg"), svg.as_bytes());
 }
 
 /// The double job again, this time by `call` alone.
@@ -520,6 +600,64 @@ FCB byte 32 (cr): was 00H, is 01H
 }
 
 #[test]
+fn a_state_that_is_none_and_one_with_a_wrong_map() {
+    let folder = with_files();
+    let disk = folder.read("disk.img");
+    folder.done("call --state state disk.img 13");
+    let state = String::from_utf8(folder.read("state")).unwrap();
+    let long = state.replace("\nfcb", &format!("\n{}fcb", " ".repeat(5_000)));
+    let texts: [&[u8]; 5] = [
+        b"",
+        b"notes of mine\n",
+        b"\xFF\xFE",
+        &state.as_bytes()[..state.len() - 9],
+        long.as_bytes(),
+    ];
+    for text in texts {
+        folder.write("none", text);
+        for line in [
+            "call --state none disk.img 22 --name new",
+            "call -n --state none disk.img 13",
+            "check --state none disk.img",
+            "map --state none disk.img",
+        ] {
+            let said = folder.refused(line);
+            assert_eq!(said, "benzokamuri: none: not what `call` keeps\n", "{line}");
+        }
+        assert_eq!(folder.read("none"), text);
+        assert_eq!(folder.read("disk.img"), disk);
+    }
+    assert!(folder
+        .refused("check --state nosuch disk.img")
+        .contains("nosuch: "));
+
+    // Block 2 is ONE.TXT's, and block 242 is nobody's.
+    let wrong = state.replace("map 1 1 2 ", "map 1 1 0 ");
+    let wrong = wrong.replace(" 0\nsession", " 2\nsession");
+    assert_eq!(wrong.len(), state.len());
+    folder.write("wrong", wrong.as_bytes());
+    let ran = folder.run("check --state wrong disk.img");
+    assert_eq!(ran.status, Some(1));
+    let out = String::from_utf8(ran.out).unwrap();
+    assert_eq!(out.lines().count(), 2, "{out}");
+    assert!(
+        out.contains("block 2") && out.contains("block 242"),
+        "{out}"
+    );
+    assert!(
+        ran.err.contains("disk.img: 2 faults: 255, 1: "),
+        "{}",
+        ran.err
+    );
+    assert!(folder
+        .refused("call --state wrong disk.img 46")
+        .contains("255, 1"));
+    // A log-in makes it right.
+    folder.done("call --state wrong disk.img 13");
+    assert_eq!(folder.read("wrong"), state.as_bytes());
+}
+
+#[test]
 fn calls_without_a_state() {
     let folder = with_files();
     let image = folder.read("disk.img");
@@ -568,15 +706,51 @@ fn the_demo_is_the_double_job() {
     assert_eq!(folder.names(), [""; 0], "nothing is written");
 }
 
+/// Runs the program with nobody reading what it prints.
+fn unheard(folder: &Folder, line: &str) -> (Option<i32>, String) {
+    let (reader, writer) = std::io::pipe().expect("a pipe can be made");
+    drop(reader);
+    let mut command = folder.command();
+    let command = command.args(line.split(' ')).stdout(writer);
+    let output = command.stderr(Stdio::piped()).output().unwrap();
+    let err = String::from_utf8_lossy(&output.stderr).into_owned();
+    (output.status.code(), err)
+}
+
 #[test]
 fn nobody_listening_is_no_reason_to_complain() {
     let folder = with_files();
-    let program = env!("CARGO_BIN_EXE_benzokamuri");
-    let line = format!(
-        "'{program}' demo | head -n 1; test -z \"$('{program}' demo 2>&1 >/dev/null | head -c 1)\""
-    );
-    let mut shell = std::process::Command::new("sh");
-    let ran = ran(shell.args(["-c", &line]).current_dir(folder.path()));
-    assert_eq!(ran.status, Some(0));
-    assert_eq!(ran.err, "");
+    for line in [
+        "help",
+        "demo",
+        "ls -l disk.img",
+        "get -u 5 disk.img two.dat -",
+        "free disk.img",
+        "check disk.img",
+        "map disk.img",
+        "map --svg - disk.img",
+        "call disk.img 13",
+    ] {
+        assert_eq!(unheard(&folder, line), (Some(0), String::new()), "{line}");
+    }
+}
+
+#[test]
+fn nobody_listening_changes_no_verdict() {
+    let folder = with_files();
+    let mut image = folder.read("disk.img");
+    // The whole directory's track breaks, so that there is more to print than
+    // is kept before it is printed.
+    image[6_656..9_984].fill(0);
+    folder.write("bad.img", &image);
+    for line in ["check bad.img", "call bad.img 13", "call disk.img 18"] {
+        let (status, said) = unheard(&folder, line);
+        let heard = folder.run(line);
+        assert_eq!(heard.status, Some(1), "{line}");
+        assert!(line != "check bad.img" || heard.out.len() > 30_000);
+        assert_eq!((status, said), (heard.status, heard.err), "{line}");
+    }
+    // The image is saved first, and what was done is done.
+    assert_eq!(unheard(&folder, "call disk.img 22 --name new").0, Some(0));
+    assert!(folder.done("ls disk.img").contains("  NEW "));
 }

@@ -1,11 +1,11 @@
 //! `call`: one call by its number, and what it changed.
 
 use super::check::read_state;
-use super::{image, named, tell_if_longer};
+use super::{held_image, image, named};
 use crate::changes::{between, Moment};
 use crate::hex;
 use crate::state::State;
-use crate::store::{self, ImageFile};
+use crate::store::ImageFile;
 use crate::trouble::{Doing, Trouble};
 use crate::words::{Shape, Words};
 use crate::{Desk, Verb};
@@ -40,7 +40,10 @@ The image is saved if the call changed it.",
 };
 
 fn run(mut words: Words, desk: &mut Desk) -> Result<(), Trouble> {
-    let image = image(&mut words)?;
+    let (image, held) = match words.has("-n") {
+        true => (image(&mut words)?, None),
+        false => held_image(&mut words).map(|(image, held)| (image, Some(held)))?,
+    };
     let number = words.next("the number of a call")?;
     let asked = Asked {
         number: byte(&number)?,
@@ -69,12 +72,10 @@ fn run(mut words: Words, desk: &mut Desk) -> Result<(), Trouble> {
         Ok(a) => (a, 0),
         Err(code) => code.numbers(),
     };
-    if !words.has("-n") {
-        image.save(&moment.disk)?;
-        if let Some(path) = state {
-            let text = State::of(&moment.disk, moment.fcb).written();
-            store::save(path, text.as_bytes())?;
-        }
+    if let Some(held) = held {
+        let kept = State::of(&moment.disk, moment.fcb).written();
+        let beside = state.map(|path| (path, kept.as_str()));
+        image.save(&held, &moment.disk, beside, desk)?;
     }
     let what = match Call::listed(asked.number) {
         Some(call) => call.to_string(),
@@ -87,9 +88,6 @@ fn run(mut words: Words, desk: &mut Desk) -> Result<(), Trouble> {
         false => writeln!(desk.out, "{}", changes.join("\n"))?,
     }
     writeln!(desk.out, "FCB {}", hex::written(moment.fcb.bytes()))?;
-    if !words.has("-n") && moment.disk.image() != image.image() {
-        tell_if_longer(&image, desk)?;
-    }
     answered.doing(format!("call {what}")).map(|_| ())
 }
 

@@ -3,6 +3,7 @@
 use super::image;
 use crate::check::{image_faults, map_faults};
 use crate::files;
+use crate::saving;
 use crate::state::State;
 use crate::store::ImageFile;
 use crate::trouble::{Doing, Trouble};
@@ -10,6 +11,7 @@ use crate::words::{Shape, Words};
 use crate::{Desk, Verb};
 use benzokamuri::{Code, Disk, Session, ENTRIES};
 use std::ffi::OsStr;
+use std::path::Path;
 
 pub const VERB: Verb = Verb {
     name: "check",
@@ -91,7 +93,10 @@ fn answer(image: &ImageFile, state: Option<State>) -> Result<Disk, Code> {
 /// Reads what `call` keeps.
 pub fn read_state(path: &OsStr) -> Result<State, Trouble> {
     let name = path.display();
-    let text = std::fs::read_to_string(path).map_err(|error| Trouble::file(name, &error))?;
-    let read = State::read(&text);
+    let opened = saving::open(Path::new(path));
+    let bytes = opened.and_then(|file| saving::read_at_most(file, State::MOST + 1));
+    let bytes = bytes.map_err(|error| Trouble::file(name, &error))?;
+    let read = String::from_utf8(bytes).ok();
+    let read = read.and_then(|text| State::read(&text));
     read.ok_or_else(|| Trouble::failed(format!("{}: not what `call` keeps", path.display())))
 }

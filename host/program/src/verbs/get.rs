@@ -2,12 +2,11 @@
 
 use super::{image, named};
 use crate::files::{self, File, FILLING};
+use crate::saving::{already_there, Ready};
 use crate::trouble::{Doing, Trouble};
 use crate::words::{Shape, Words};
 use crate::{Desk, Verb};
 use benzokamuri::{Code, Disk, Pattern};
-use std::fs::OpenOptions;
-use std::io::{self, Write};
 use std::path::{Path, PathBuf};
 
 pub const VERB: Verb = Verb {
@@ -16,8 +15,9 @@ pub const VERB: Verb = Verb {
     usage: "[-u USER] [-f] [-t | -r] IMAGE NAME [FILE]",
     help: "\
 FILE is the file to be written, the folder to write to, or - for standard
-output. Where it is left out, the file gets its name on the disk, in the present
-folder. NAME may be a pattern; FILE is then a folder.
+output. Where it is left out, the file gets its name on the disk as `ls` shows
+it, in the present folder. NAME may be a pattern; FILE is then a folder. Where
+one of several files can't be written, none is.
 
 Files on the disk are whole records of 128 bytes. Where the file's last entry
 says how many bytes of the last record are used (its byte s1, as CP/M Plus and
@@ -62,31 +62,32 @@ fn run(mut words: Words, desk: &mut Desk) -> Result<(), Trouble> {
         }
         None => Some(PathBuf::new()),
     };
-    // All is read before anything is written.
+    let path_of = |file: &File| match (&folder, &target) {
+        (Some(folder), _) => Some(folder.join(file.name.to_string())),
+        (None, target) => target.clone().filter(|_| !to_stdout),
+    };
+    let replace = words.has("-f");
+    let mut paths = found.iter().filter_map(path_of);
+    if let Some(path) = paths.find(|path| !replace && path.symlink_metadata().is_ok()) {
+        return Err(already_there(&path));
+    }
+    // All is read and written before anything takes its place.
     let mut copies = Vec::new();
     for file in &found {
         let doing = format!("{}: {}", image.name(), file.name);
-        copies.push(copied(&mut disk, file, &words, desk).doing(doing)?);
+        let bytes = copied(&mut disk, file, &words, desk).doing(doing)?;
+        copies.push((path_of(file), bytes));
     }
-    for (file, bytes) in found.iter().zip(copies) {
-        let path = match (&folder, &target) {
-            (Some(folder), _) => folder.join(file.name.to_string()),
-            (None, Some(path)) if !to_stdout => path.clone(),
-            _ => {
-                desk.out.write_all(&bytes)?;
-                continue;
-            }
-        };
-        let written = write_out(&path, &bytes, words.has("-f"));
-        written.map_err(|error| match error.kind() {
-            io::ErrorKind::AlreadyExists => Trouble::failed(format!(
-                "{} is there already; -f replaces it",
-                path.display()
-            )),
-            _ => Trouble::file(path.display(), &error),
-        })?;
+    let mut ready = Vec::new();
+    for (path, bytes) in copies {
+        match path {
+            Some(path) => ready.push(Ready::at(&path, &bytes, replace)?.unlocked()),
+            None => desk.out.write_all(&bytes)?,
+        }
     }
-    Ok(())
+    ready
+        .into_iter()
+        .try_for_each(|ready| ready.take_place(desk))
 }
 
 /// A file's bytes as they are to be written.
@@ -94,12 +95,10 @@ fn copied(disk: &mut Disk, file: &File, words: &Words, desk: &mut Desk) -> Resul
     let mut contents = files::read(disk, file)?;
     if contents.missing > 0 {
         let (name, missing) = (file.name, contents.missing);
-        // A remark that nobody reads is no reason to stop.
-        let _ = writeln!(
-            desk.err,
-            "benzokamuri: {name}: {missing} of {} records were never written; zeros stand for them",
+        desk.remark(format_args!(
+            "{name}: {missing} of {} records were never written; zeros stand for them",
             file.records
-        );
+        ));
     }
     if words.has("-t") {
         let end = contents.bytes.iter().position(|&byte| byte == FILLING);
@@ -108,14 +107,4 @@ fn copied(disk: &mut Disk, file: &File, words: &Words, desk: &mut Desk) -> Resul
         contents.bytes.truncate(file.bytes() as usize);
     }
     Ok(contents.bytes)
-}
-
-fn write_out(path: &Path, bytes: &[u8], replace: bool) -> io::Result<()> {
-    let mut options = OpenOptions::new();
-    options.write(true);
-    match replace {
-        true => options.create(true).truncate(true),
-        false => options.create_new(true),
-    };
-    options.open(path)?.write_all(bytes)
 }

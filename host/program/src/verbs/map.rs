@@ -3,25 +3,28 @@
 use super::check::read_state;
 use super::{colours, image};
 use crate::picture::Picture;
+use crate::saving::Ready;
 use crate::trouble::{Doing, Trouble};
 use crate::words::{Shape, Words};
 use crate::{Desk, Verb};
 use benzokamuri::Disk;
+use std::path::Path;
 
 pub const VERB: Verb = Verb {
     name: "map",
     purpose: "Show the 243 blocks as a picture.",
-    usage: "[--svg FILE] [--colour WHEN] [--state FILE] IMAGE",
+    usage: "[--svg FILE [-f]] [--colour WHEN] [--state FILE] IMAGE",
     help: "\
 Each file has a letter and a colour. # is the directory, . is free, and ~ before
 a letter is a block that is pending: written to, but waiting for the file to be
 closed. A disk that has just been read has no pending blocks.
 
   --svg FILE      write the picture to FILE as SVG, or to standard output for -
+  -f              replace a file that is there already
   --colour WHEN   always, never, or auto: where standard output is a terminal
   --state FILE    with the map that `call --state FILE` keeps",
     shape: Shape {
-        flags: &[],
+        flags: &["-f"],
         valued: &["--svg", "--colour", "--color", "--state"],
     },
     run,
@@ -42,8 +45,11 @@ fn run(mut words: Words, desk: &mut Desk) -> Result<(), Trouble> {
     match words.value("--svg") {
         None => desk.out.write_all(picture.text(colours).as_bytes())?,
         Some(path) if path == "-" => desk.out.write_all(picture.svg(&image.name()).as_bytes())?,
-        Some(path) => std::fs::write(path, picture.svg(&image.name()))
-            .map_err(|error| Trouble::file(path.display(), &error))?,
+        Some(path) => {
+            let svg = picture.svg(&image.name());
+            let ready = Ready::at(Path::new(path), svg.as_bytes(), words.has("-f"))?;
+            ready.take_place(desk)?;
+        }
     }
     Ok(())
 }

@@ -12,6 +12,7 @@ mod new;
 mod put;
 mod rm;
 
+use crate::saving::Held;
 use crate::store::ImageFile;
 use crate::trouble::Trouble;
 use crate::words::Words;
@@ -35,10 +36,16 @@ pub const ALL: &[Verb] = &[
     demo::VERB,
 ];
 
-/// Reads the image that the next word names.
+/// Reads the image that the next word names, to look at it.
 fn image(words: &mut Words) -> Result<ImageFile, Trouble> {
     let path = words.next("the image")?;
     ImageFile::read(&path)
+}
+
+/// Reads the image that the next word names, to change it.
+fn held_image(words: &mut Words) -> Result<(ImageFile, Held), Trouble> {
+    let path = words.next("the image")?;
+    ImageFile::hold(&path)
 }
 
 /// A name or pattern from a word.
@@ -64,17 +71,4 @@ fn colours(words: &Words, desk: &Desk) -> Result<bool, Trouble> {
             "--colour is always, never or auto, not {other}"
         ))),
     }
-}
-
-/// Says that an image file will be longer than it was.
-fn tell_if_longer(file: &ImageFile, desk: &mut Desk) -> Result<(), Trouble> {
-    if file.lacks() > 0 {
-        writeln!(
-            desk.err,
-            "benzokamuri: {}: saved at its full length, {} bytes more than it had",
-            file.name(),
-            file.lacks()
-        )?;
-    }
-    Ok(())
 }

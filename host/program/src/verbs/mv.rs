@@ -1,6 +1,6 @@
 //! `mv`: another name for a file.
 
-use super::{image, named, tell_if_longer};
+use super::{held_image, named};
 use crate::trouble::{Doing, Trouble};
 use crate::words::{Shape, Words};
 use crate::{Desk, Verb};
@@ -21,13 +21,12 @@ name yet, so a file can't be renamed to itself either.",
 };
 
 fn run(mut words: Words, desk: &mut Desk) -> Result<(), Trouble> {
-    let image = image(&mut words)?;
+    let (image, held) = held_image(&mut words)?;
     let old: Name = named(&words.next("the old name")?)?;
     let new: Name = named(&words.next("the new name")?)?;
     words.end()?;
     let mut disk = image.log_in(words.user())?;
     let renamed = disk.rename(&mut Fcb::renaming(old, new));
     renamed.doing(format!("{}: {old} to {new}", image.name()))?;
-    image.save(&disk)?;
-    tell_if_longer(&image, desk)
+    image.save(&held, &disk, None, desk)
 }

@@ -1,6 +1,6 @@
 //! `new`: an erased image.
 
-use crate::store;
+use crate::saving::Ready;
 use crate::trouble::Trouble;
 use crate::words::{Shape, Words};
 use crate::{Desk, Verb};
@@ -22,14 +22,9 @@ All 256,256 bytes are E5H, as on an erased diskette: no files, no system.
     run,
 };
 
-fn run(mut words: Words, _: &mut Desk) -> Result<(), Trouble> {
+fn run(mut words: Words, desk: &mut Desk) -> Result<(), Trouble> {
     let path = PathBuf::from(words.next("the image")?);
     words.end()?;
-    if !words.has("-f") && path.symlink_metadata().is_ok() {
-        return Err(Trouble::failed(format!(
-            "{} is there already; -f replaces it",
-            path.display()
-        )));
-    }
-    store::save(&path, Disk::erased().image())
+    let ready = Ready::at(&path, Disk::erased().image(), words.has("-f"))?;
+    ready.take_place(desk)
 }

@@ -1,13 +1,16 @@
 //! `put`: a file onto the disk.
 
-use super::{image, named, tell_if_longer};
+use super::named;
 use crate::files;
+use crate::layout::{AREA, BLOCKS, BLOCK_RECORDS};
+use crate::saving::read_at_most;
+use crate::store::ImageFile;
 use crate::trouble::{Doing, Trouble};
 use crate::words::{Shape, Words};
 use crate::{Desk, Verb};
-use benzokamuri::{Code, Fcb, Name};
+use benzokamuri::{Code, Fcb, Name, BUFFER_LEN};
 use std::ffi::OsStr;
-use std::io::Read;
+use std::fs::File;
 use std::path::Path;
 
 pub const VERB: Verb = Verb {
@@ -29,8 +32,11 @@ it was.
     run,
 };
 
+/// Bytes of the largest file that a disk has room for.
+const LARGEST: usize = BUFFER_LEN * BLOCK_RECORDS * (BLOCKS - AREA);
+
 fn run(mut words: Words, desk: &mut Desk) -> Result<(), Trouble> {
-    let image = image(&mut words)?;
+    let image = words.next("the image")?;
     let source = words.next("the file to be copied")?;
     let name = words.next_if_any();
     words.end()?;
@@ -39,7 +45,10 @@ fn run(mut words: Words, desk: &mut Desk) -> Result<(), Trouble> {
         (None, Some(own)) if source != "-" => named(own)?,
         _ => return Err(Trouble::usage("the name on the disk is missing")),
     };
+    // First, for it may be a pipe from a program that has changes of its own to
+    // make to the image.
     let bytes = read_in(&source)?;
+    let (image, held) = ImageFile::hold(&image)?;
     let mut disk = image.log_in(words.user())?;
     let doing = format!("{}: {name}", image.name());
     // Make asks for extent 0 alone, and a file may lack it.
@@ -57,15 +66,15 @@ fn run(mut words: Words, desk: &mut Desk) -> Result<(), Trouble> {
         return Err(Trouble::failed(hint));
     }
     files::write(&mut disk, name, &bytes).doing(&doing)?;
-    image.save(&disk)?;
-    tell_if_longer(&image, desk)
+    image.save(&held, &disk, None, desk)
 }
 
+/// What is to be put, or so much of it that it finds no room on any disk.
 fn read_in(source: &OsStr) -> Result<Vec<u8>, Trouble> {
-    let mut bytes = Vec::new();
+    let most = LARGEST + 1;
     let read = match source == "-" {
-        true => std::io::stdin().read_to_end(&mut bytes).map(|_| bytes),
-        false => std::fs::read(source),
+        true => read_at_most(std::io::stdin(), most),
+        false => File::open(source).and_then(|file| read_at_most(file, most)),
     };
     read.map_err(|error| Trouble::file(source.display(), &error))
 }

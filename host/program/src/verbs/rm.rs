@@ -1,6 +1,6 @@
 //! `rm`: files off the disk.
 
-use super::{image, named, tell_if_longer};
+use super::{held_image, named};
 use crate::trouble::{Doing, Trouble};
 use crate::words::{Shape, Words};
 use crate::{Desk, Verb};
@@ -22,7 +22,7 @@ nothing matches one of the patterns, the image stays as it was. See
 };
 
 fn run(mut words: Words, desk: &mut Desk) -> Result<(), Trouble> {
-    let image = image(&mut words)?;
+    let (image, held) = held_image(&mut words)?;
     let mut patterns = vec![words.next("a name or pattern")?];
     patterns.extend(words.rest());
     let patterns: Vec<Pattern> = patterns
@@ -34,6 +34,5 @@ fn run(mut words: Words, desk: &mut Desk) -> Result<(), Trouble> {
         let deleted = disk.delete(&mut Fcb::matching(pattern));
         deleted.doing(format!("{}: {pattern}", image.name()))?;
     }
-    image.save(&disk)?;
-    tell_if_longer(&image, desk)
+    image.save(&held, &disk, None, desk)
 }

@@ -4,9 +4,11 @@
 
 use std::ffi::OsStr;
 use std::fs;
+use std::os::unix::fs::PermissionsExt;
 use std::path::{Path, PathBuf};
 use std::process::{Command, Stdio};
 use std::sync::atomic::{AtomicUsize, Ordering};
+use std::time::{Duration, Instant};
 
 /// A folder that goes when it is no longer needed.
 pub struct Folder {
@@ -65,6 +67,53 @@ impl Folder {
         command
     }
 
+    /// The program, to be run in the folder by somebody who may not write where
+    /// modes forbid it. Where the tests are run by the superuser and nothing can
+    /// take those rights away, says so and gives nothing.
+    pub fn command_by_anybody(&self) -> Option<Command> {
+        let program = env!("CARGO_BIN_EXE_benzokamuri");
+        self.write("protected", b"");
+        self.set_mode("protected", 0o444);
+        let without_rights = ["setpriv", "--bounding-set=-all", "--inh-caps=-all"];
+        let ways: [&[&str]; 2] = [&["env"], &without_rights];
+        let obeys_modes = |way: &&&[&str]| {
+            let writes = ["sh", "-c", ": 2>/dev/null >>protected && echo written"];
+            let mut command = Command::new(way[0]);
+            command.args(&way[1..]).args(writes);
+            let output = command.current_dir(&self.path).output();
+            // A way that is not there has not run the shell.
+            output.is_ok_and(|output| {
+                !output.status.success() && output.stdout.is_empty() && output.stderr.is_empty()
+            })
+        };
+        let way = ways.iter().find(obeys_modes);
+        fs::remove_file(self.at("protected")).expect("it was just written");
+        let Some(way) = way else {
+            println!("skipped: the superuser may write anywhere, and setpriv can't change that");
+            return None;
+        };
+        let mut command = Command::new(way[0]);
+        command.args(&way[1..]).arg(program);
+        command.current_dir(&self.path).stdin(Stdio::null());
+        Some(command)
+    }
+
+    /// The program, to be run in the folder where no file can be longer than
+    /// 4,096 or 8,192 bytes, as shells count.
+    pub fn command_with_little_room(&self) -> Command {
+        let mut command = Command::new("sh");
+        let line = "trap '' XFSZ; ulimit -f 8; exec \"$@\"";
+        command.args(["-c", line, "sh", env!("CARGO_BIN_EXE_benzokamuri")]);
+        command.current_dir(&self.path).stdin(Stdio::null());
+        command
+    }
+
+    /// Sets the mode of a file, or of the folder itself for an empty name.
+    pub fn set_mode(&self, name: &str, mode: u32) {
+        let set = fs::set_permissions(self.at(name), fs::Permissions::from_mode(mode));
+        set.unwrap_or_else(|error| panic!("{name}: {error}"));
+    }
+
     /// Runs the program with the words of a line.
     pub fn run(&self, line: &str) -> Ran {
         self.run_words(line.split(' '))
@@ -100,6 +149,26 @@ impl Drop for Folder {
 /// Runs a command to its end.
 pub fn ran(command: &mut Command) -> Ran {
     let output = command.output().expect("the program can be run");
+    Ran {
+        status: output.status.code(),
+        out: output.stdout,
+        err: String::from_utf8_lossy(&output.stderr).into_owned(),
+    }
+}
+
+/// Runs a command that has to end soon.
+pub fn ran_soon(command: &mut Command) -> Ran {
+    command.stdout(Stdio::piped()).stderr(Stdio::piped());
+    let mut child = command.spawn().expect("the program can be run");
+    let begun = Instant::now();
+    while child.try_wait().expect("it can be waited for").is_none() {
+        if begun.elapsed() > Duration::from_secs(60) {
+            let _ = child.kill();
+            panic!("{command:?} does not end");
+        }
+        std::thread::sleep(Duration::from_millis(5));
+    }
+    let output = child.wait_with_output().expect("it has ended");
     Ran {
         status: output.status.code(),
         out: output.stdout,
