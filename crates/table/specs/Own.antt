@@ -5,7 +5,7 @@ use mathlib.Core.List.{List, [], _∷_}
 use Prim.Native.Nat.{ℕ}
 use lib.Dec.{eqb, leb, ltb}
 use borrow.Author.Tests.{eqb-true}
-use Rattle.lists.specs.Cases.{split, clash}
+use Rattle.lists.specs.Cases.{split, clash, not-both}
 use Rattle.lists.specs.Tests.{_and_, _or_, or-cases}
 use Rattle.format.specs.Diskette.{Geometry, extents}
 use Rattle.format.specs.Names.{nameRight}
@@ -53,6 +53,35 @@ unfolding oneOf
 at-one P n [] h x = clash (sym h)
 at-one P n (c ∷ cs) h x =
     split (or-cases (eqb n c) (oneOf n cs) h) (λ e. subst P (sym (eqb-true n c e)) (x .0)) (λ e. at-one P n cs e (x .1))
+
+-- a list that has one number and not the other tells them apart
+pub told-apart : (n m : ℕ) (cs : List ℕ) → oneOf n cs ≡ true → oneOf m cs ≡ false → n ≡ m → ⊥
+told-apart n m cs h z q = not-both (oneOf n cs) h (rw q z)
+
+-- a number has one call, so what holds of the call of each number of a list holds of any call whose number is one of them
+pub call-one : {n : ℕ} (a b : Call n) → a ≡ b
+call-one call13 call13 = refl
+call-one call15 call15 = refl
+call-one call16 call16 = refl
+call-one call17 call17 = refl
+call-one call18 call18 = refl
+call-one call19 call19 = refl
+call-one call20 call20 = refl
+call-one call21 call21 = refl
+call-one call22 call22 = refl
+call-one call23 call23 = refl
+call-one call32 call32 = refl
+call-one call33 call33 = refl
+call-one call34 call34 = refl
+call-one call35 call35 = refl
+call-one call36 call36 = refl
+call-one call46 call46 = refl
+call-one call98 call98 = refl
+
+pub at-call : (P : (n : ℕ) → Call n → Type 0) (n : ℕ) (cs : List ℕ) → oneOf n cs ≡ true → AtEach (λ (m : ℕ). (c : Call m) × P m c) cs → (c : Call n) → P n c
+at-call P n cs h x c =
+    let y = at-one (λ (m : ℕ). (c : Call m) × P m c) n cs h x in
+    subst (P n) (call-one (y .0) c) (y .1)
 
 pub call-of : (n : ℕ) → isCall n ≡ true → Call n
 unfolding isCall usesFcb
