@@ -8,7 +8,7 @@ use lib.ListN.{getD}
 use borrow.Author.Tests.{lt-ltb, eqb-true}
 use Rattle.lists.specs.Cases.{split}
 use Rattle.lists.specs.Tests.{or-cases}
-use Rattle.format.specs.Diskette.{Bytes, Geometry}
+use Rattle.format.specs.Diskette.{Bytes, Geometry, lastRecord}
 use Rattle.format.specs.Fcb.{randomOf}
 use Rattle.model.specs.declared.Session.{Session}
 use Rattle.model.specs.declared.Code.the-variants.{BadRecord}
@@ -47,7 +47,7 @@ six G n argument l s q = record { refuses = q; is-a = rw q; is-h = rw q }
 
 pub random-six : (G : Geometry) (n argument : ℕ) (l : Lent) (s : Session) → isRandom n ≡ true → Ready G n l s → RandomIs (l .fcb) 0 0 4 → Six G n argument l s
 random-six G n argument l s which ready r =
-    let over = lt-ltb 262143 (randomOf (l .fcb)) (omega (arith, random-is (l .fcb) 0 0 4 r)) in
+    let over = lt-ltb lastRecord (randomOf (l .fcb)) (omega (arith, random-is (l .fcb) 0 0 4 r)) in
     split (or-cases (eqb n 33) (eqb n 34) which)
     (λ e. subst (λ (n : ℕ). Ready G n l s → Six G n argument l s) (sym (eqb-true n 33 e))
     (λ p. six G 33 argument l s (step-refused G (ask 33 argument) l s call33 BadRecord p (here over refl))) ready)

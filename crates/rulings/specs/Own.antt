@@ -8,7 +8,7 @@ use lib.Dec.{ltb}
 use borrow.Author.Tests.{le-leb, lt-leb, lt-ltb, le-ltb, not-false}
 use Rattle.lists.specs.Cases.{split, lt-or-le, clash}
 use Rattle.lists.specs.Tests.{_and_, _or_, and-fails-left, and-fails-right, and-then}
-use Rattle.format.specs.Diskette.{Bytes, Geometry, extents}
+use Rattle.format.specs.Diskette.{Bytes, Geometry, extents, lastRecord}
 use Rattle.format.specs.Fcb.{randomOf}
 use Rattle.format.specs.Found.{isFound}
 use Rattle.facts.specs.Found.{is-found, found-so}
@@ -20,11 +20,11 @@ use Rattle.model.specs.declared.Verdict.the-variants.{Passed, Refused}
 use Rattle.model.specs.declared.Plan.{Plan}
 use Rattle.model.specs.Lent.{Lent, Outcome}
 use Rattle.model.specs.Target.{isRandom, targetExtent, presentEntry, targetEntry, recordThere, readOnlyThere, plan}
-use Rattle.model.specs.Table.{oneOf, Row, firstRow}
+use Rattle.model.specs.Table.{oneOf, readCalls, writeCalls, Row, when, firstRow}
 use Rattle.model.specs.Calls.{reading, read, writing, written}
 use Rattle.model.specs.Step.{refused, carriedOut, effect}
 use Rattle.table.specs.First.{_&_, NoneHolds}
-use Rattle.table.specs.Own.{Call, call20, call21, call33, call34, at-call, when, ownRows}
+use Rattle.table.specs.Own.{Call, call20, call21, call33, call34, at-call, ownRows}
 use Rattle.table.specs.OwnStep.{ownStep}
 use Rattle.fields.specs.Target.{extent-random}
 use Rattle.table.specs.Accept.{random-below}
@@ -36,11 +36,11 @@ use Rattle.targets.specs.Target.{overLast, missingCode}
 use Rattle.rulings.specs.Ruling.{rulingOf, readRows, writeRows, readRuling, writeRuling}
 
 -- a record over 262,143 is of an extent over 2,047
-over-random : (n : ℕ) (fcb : Bytes) → isRandom n ≡ true → overLast n (targetExtent n fcb) ≡ ltb 262143 (randomOf fcb)
+over-random : (n : ℕ) (fcb : Bytes) → isRandom n ≡ true → overLast n (targetExtent n fcb) ≡ ltb lastRecord (randomOf fcb)
 unfolding overLast
 over-random n fcb r =
     let ext : targetExtent n fcb ≡ randomOf fcb / 128 = extent-random n fcb r in
-    and-then _ _ r ∙ split (lt-or-le 262143 (randomOf fcb))
+    and-then _ _ r ∙ split (lt-or-le lastRecord (randomOf fcb))
     (λ h. le-leb extents (targetExtent n fcb) (omega arith) ∙ sym (lt-ltb _ _ h))
     (λ h. lt-leb extents (targetExtent n fcb) (omega arith) ∙ sym (le-ltb _ _ h))
 
@@ -114,14 +114,14 @@ module _ (G : Geometry) (argument : ℕ) (l : Lent) (s : Session) where
   by-rows {n} c rows follow r e = rw r (by-verdict n (firstRow rows) follow (effect-is G argument l s c ∙ e))
 
   -- ---- the numbers that have a chain in common
-  pub own-read : (n : ℕ) → oneOf n (20 ∷ 33 ∷ []) ≡ true → (c : Call n) → ownStep G argument l s c ≡ ruled (reading G s l n) (readRuling G n (s .user) l)
+  pub own-read : (n : ℕ) → oneOf n readCalls ≡ true → (c : Call n) → ownStep G argument l s c ≡ ruled (reading G s l n) (readRuling G n (s .user) l)
   unfolding read readRuling
   own-read n h =
-      at-call (λ (m : ℕ) (c : Call m). ownStep G argument l s c ≡ ruled (reading G s l m) (readRuling G m (s .user) l)) n (20 ∷ 33 ∷ []) h
+      at-call (λ (m : ℕ) (c : Call m). ownStep G argument l s c ≡ ruled (reading G s l m) (readRuling G m (s .user) l)) n readCalls h
       ((call20, by-rows call20 _ (reading G s l 20) rows-20 refl) & (call33, by-rows call33 _ (reading G s l 33) rows-33 refl) & tt)
 
-  pub own-write : (n : ℕ) → oneOf n (21 ∷ 34 ∷ []) ≡ true → (c : Call n) → ownStep G argument l s c ≡ ruled (writing G s l n) (writeRuling G n (s .user) l)
+  pub own-write : (n : ℕ) → oneOf n writeCalls ≡ true → (c : Call n) → ownStep G argument l s c ≡ ruled (writing G s l n) (writeRuling G n (s .user) l)
   unfolding written writeRuling
   own-write n h =
-      at-call (λ (m : ℕ) (c : Call m). ownStep G argument l s c ≡ ruled (writing G s l m) (writeRuling G m (s .user) l)) n (21 ∷ 34 ∷ []) h
+      at-call (λ (m : ℕ) (c : Call m). ownStep G argument l s c ≡ ruled (writing G s l m) (writeRuling G m (s .user) l)) n writeCalls h
       ((call21, by-rows call21 _ (writing G s l 21) rows-21 refl) & (call34, by-rows call34 _ (writing G s l 34) rows-34 refl) & tt)

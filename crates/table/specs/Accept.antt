@@ -7,7 +7,7 @@ use lib.Dec.{eqb, ltb}
 use borrow.Author.Tests.{leb-false, lt-leb, ltb-false, le-ltb, ne-eqb, eq-eqb, not-false}
 use Rattle.lists.specs.Cases.{split, bool-cases, eq-or-ne}
 use Rattle.lists.specs.Tests.{_and_, _or_, and-fails-left, and-fails-right}
-use Rattle.format.specs.Diskette.{Bytes, Geometry, extents}
+use Rattle.format.specs.Diskette.{Bytes, Geometry, extents, lastRecord}
 use Rattle.format.specs.Entries.{findEmpty}
 use Rattle.format.specs.Consistent.{consistent}
 use Rattle.format.specs.Notes.{findFree}
@@ -27,16 +27,16 @@ use Rattle.table.specs.Facts.{Reads, Writes, Own, Ready, AcceptedCall}
 use Rattle.table.specs.Reflect.{found, missed, second-fails, either-found, either-missed, pattern-of, pattern-right, argument-of, argument-right, parameters-right, disk-right, ready-of, some-of, some-right, none-of, none-right, writable-of, writable-right, positions-of, positions-right}
 
 -- the target's extent of 33 and 34 is below 2,048 exactly where the random record is at most 262,143
-pub random-below : (n : ℕ) (fcb : Bytes) → isRandom n ≡ true → ltb 262143 (randomOf fcb) ≡ false → targetExtent n fcb < extents
+pub random-below : (n : ℕ) (fcb : Bytes) → isRandom n ≡ true → ltb lastRecord (randomOf fcb) ≡ false → targetExtent n fcb < extents
 unfolding targetExtent
-random-below n fcb r h = rw r (omega (arith, ltb-false 262143 (randomOf fcb) h))
+random-below n fcb r h = rw r (omega (arith, ltb-false lastRecord (randomOf fcb) h))
 
-pub random-most : (n : ℕ) (fcb : Bytes) → isRandom n ≡ true → targetExtent n fcb < extents → randomOf fcb ≤ 262143
+pub random-most : (n : ℕ) (fcb : Bytes) → isRandom n ≡ true → targetExtent n fcb < extents → randomOf fcb ≤ lastRecord
 unfolding targetExtent
 random-most n fcb r h = let below : randomOf fcb / 128 < extents = rw r at h in omega arith
 
-pub random-low : (n : ℕ) (fcb : Bytes) → isRandom n ≡ true → targetExtent n fcb < extents → ltb 262143 (randomOf fcb) ≡ false
-random-low n fcb r h = le-ltb 262143 (randomOf fcb) (random-most n fcb r h)
+pub random-low : (n : ℕ) (fcb : Bytes) → isRandom n ≡ true → targetExtent n fcb < extents → ltb lastRecord (randomOf fcb) ≡ false
+random-low n fcb r h = le-ltb lastRecord (randomOf fcb) (random-most n fcb r h)
 
 module _ (G : Geometry) (l : Lent) (s : Session) where
   -- ---- from the rows to the facts

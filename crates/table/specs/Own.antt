@@ -7,20 +7,19 @@ use lib.Dec.{eqb, leb, ltb}
 use borrow.Author.Tests.{eqb-true}
 use Rattle.lists.specs.Cases.{split, clash, not-both}
 use Rattle.lists.specs.Tests.{_and_, _or_, or-cases}
-use Rattle.format.specs.Diskette.{Geometry, extents}
+use Rattle.format.specs.Diskette.{Geometry, extents, lastRecord}
 use Rattle.format.specs.Names.{nameRight}
 use Rattle.format.specs.Entries.{exOf, findEmpty}
 use Rattle.format.specs.Notes.{findFree}
 use Rattle.format.specs.Fcb.{randomOf}
 use Rattle.format.specs.Found.{isFound}
 use Rattle.model.specs.declared.Session.{Session}
-use Rattle.model.specs.declared.Code.{Code}
 use Rattle.model.specs.declared.Code.the-variants.{NotListed, BadParameter, BadDisk, BadRecord, NotCurrent, Failed, BadName, SearchOver, ReadOnly, Exists, NotClosed, NoExtent, NoRecord, NoEntry, DiskFull}
 use Rattle.model.specs.declared.Verdict.the-variants.{Refused}
 use Rattle.model.specs.Lent.{Lent, rowsOf, searchOn}
 use Rattle.model.specs.Target.{targetExtent, stays, presentEntry, targetEntry, blockThere, recordThere, readOnlyThere}
 use Rattle.model.specs.Search.{patternOf, findHit}
-use Rattle.model.specs.Table.{oneOf, fcbCalls, plainCalls, usesFcb, isCall, parametersRight, diskRight, anyNamed, askedEntry, anyReadOnly, positionRight, Row, firstRow, table, verdict}
+use Rattle.model.specs.Table.{oneOf, fcbCalls, plainCalls, usesFcb, isCall, parametersRight, diskRight, anyNamed, askedEntry, anyReadOnly, positionRight, Row, when, firstRow, table, verdict}
 use Rattle.table.specs.First.{_&_}
 
 -- the calls
@@ -110,10 +109,6 @@ is-call call36 = refl
 is-call call46 = refl
 is-call call98 = refl
 
--- a row of its own
-abbrev pub when : Bool → Code → Row
-when test code = record { holds = test; code = code }
-
 module _ (G : Geometry) (argument : ℕ) (l : Lent) (s : Session) where
   -- the rows that apply to a call alone, in the table's order
   abbrev pub ownRows : {n : ℕ} → Call n → List Row
@@ -166,14 +161,14 @@ module _ (G : Geometry) (argument : ℕ) (l : Lent) (s : Session) where
       ∷ []
   ownRows call32 = when (not (eqb argument 255 or leb argument 15)) Failed ∷ []
   ownRows call33 =
-      when (ltb 262143 (randomOf (l .fcb))) BadRecord
+      when (ltb lastRecord (randomOf (l .fcb))) BadRecord
       ∷ when (not (isFound (presentEntry G (s .user) l))) NotCurrent
       ∷ when (not (stays 33 (l .fcb)) and not (isFound (presentEntry G (s .user) l))) NotClosed
       ∷ when (not (isFound (targetEntry G 33 (s .user) l))) NoExtent
       ∷ when (not (recordThere G 33 (s .user) l)) NoRecord
       ∷ []
   ownRows call34 =
-      when (ltb 262143 (randomOf (l .fcb))) BadRecord
+      when (ltb lastRecord (randomOf (l .fcb))) BadRecord
       ∷ when (not (isFound (presentEntry G (s .user) l))) NotCurrent
       ∷ when (readOnlyThere G 34 (s .user) l) ReadOnly
       ∷ when (not (stays 34 (l .fcb)) and not (isFound (presentEntry G (s .user) l))) NotClosed

@@ -11,10 +11,10 @@ use Rattle.model.specs.declared.Code.the-variants.{BadParameter, BadDisk}
 use Rattle.model.specs.declared.Verdict.{Verdict}
 use Rattle.model.specs.declared.Verdict.the-variants.{Passed, Refused}
 use Rattle.model.specs.Lent.{Lent, Outcome, outcome, answerOf}
-use Rattle.model.specs.Table.{parametersRight, diskRight, firstRow, verdict}
+use Rattle.model.specs.Table.{parametersRight, diskRight, when, firstRow, verdict}
 use Rattle.model.specs.Step.{refusedSession, refused, effect, carriedOut, step}
 use Rattle.table.specs.First.{NoneHolds, Decides, first-passes, none-passed, decides-refused}
-use Rattle.table.specs.Own.{Call, call13, call15, call16, call17, call18, call19, call20, call21, call22, call23, call32, call33, call34, call35, call36, call46, call98, call-one, when, ownRows, verdict-rows}
+use Rattle.table.specs.Own.{Call, call13, call15, call16, call17, call18, call19, call20, call21, call22, call23, call32, call33, call34, call35, call36, call46, call98, call-one, ownRows, verdict-rows}
 use Rattle.table.specs.Facts.{Ready}
 use Rattle.table.specs.Reflect.{parameters-right, disk-right}
 use Rattle.table.specs.Carried.{carriedBy, effect-is}

@@ -8,7 +8,7 @@ use lib.Dec.{eqb, ltb}
 use borrow.Author.Tests.{ltb-true, eqb-false, not-true, not-false}
 use Rattle.lists.specs.Cases.{split, bool-cases, clash, not-both}
 use Rattle.lists.specs.Tests.{_and_, _or_, and-left, and-right}
-use Rattle.format.specs.Diskette.{Geometry}
+use Rattle.format.specs.Diskette.{Geometry, lastRecord}
 use Rattle.format.specs.Names.{nameRight}
 use Rattle.format.specs.Entries.{exOf}
 use Rattle.format.specs.Consistent.{consistent}
@@ -24,9 +24,9 @@ use Rattle.model.specs.declared.Code.the-variants.{Accepted, NotListed, BadPara
 use Rattle.model.specs.declared.Verdict.the-variants.{Refused}
 use Rattle.model.specs.Lent.{Lent, rowsOf, searchOn}
 use Rattle.model.specs.Search.{patternOf, findHit}
-use Rattle.model.specs.Table.{oneOf, isCall, parametersRight, diskRight, Row, verdict}
+use Rattle.model.specs.Table.{oneOf, recordCalls, writeCalls, randomCalls, isCall, parametersRight, diskRight, Row, when, verdict}
 use Rattle.table.specs.First.{_&_, NoneHolds, Decides, here, later, refused-same, refused-decides, decides-refused}
-use Rattle.table.specs.Own.{when, Call, call13, call15, call16, call17, call18, call19, call20, call21, call22, call23, call32, call33, call34, call35, call36, call46, call98, at-one, call-of, ownRows, rowsFor, verdict-rows, verdict-unlisted}
+use Rattle.table.specs.Own.{Call, call13, call15, call16, call17, call18, call19, call20, call21, call22, call23, call32, call33, call34, call35, call36, call46, call98, at-one, call-of, ownRows, rowsFor, verdict-rows, verdict-unlisted}
 use Rattle.table.specs.Facts.{Ready}
 use Rattle.table.specs.Reflect.{pattern-right, parameters-right, disk-right, ready-of}
 
@@ -98,18 +98,18 @@ gives n (Accepted k) = false
 gives n NotListed = false
 gives n BadParameter = false
 gives n BadDisk = false
-gives n BadRecord = oneOf n (33 ∷ 34 ∷ [])
-gives n NotCurrent = oneOf n (20 ∷ 21 ∷ 33 ∷ 34 ∷ [])
+gives n BadRecord = oneOf n randomCalls
+gives n NotCurrent = oneOf n recordCalls
 gives n Failed = oneOf n (15 ∷ 16 ∷ 18 ∷ 19 ∷ 22 ∷ 23 ∷ 32 ∷ 35 ∷ 36 ∷ [])
 gives n BadName = oneOf n (15 ∷ 17 ∷ 19 ∷ 22 ∷ 23 ∷ 35 ∷ [])
 gives n SearchOver = oneOf n (17 ∷ 18 ∷ [])
 gives n ReadOnly = oneOf n (19 ∷ 21 ∷ 23 ∷ 34 ∷ [])
 gives n Exists = oneOf n (22 ∷ 23 ∷ [])
-gives n NotClosed = oneOf n (20 ∷ 21 ∷ 33 ∷ 34 ∷ [])
+gives n NotClosed = oneOf n recordCalls
 gives n NoExtent = oneOf n (33 ∷ [])
 gives n NoRecord = oneOf n (20 ∷ 21 ∷ 33 ∷ [])
 gives n NoEntry = oneOf n (34 ∷ [])
-gives n DiskFull = oneOf n (21 ∷ 34 ∷ [])
+gives n DiskFull = oneOf n writeCalls
 
 -- a search has found nothing: 17 from the first entry on, or 18, with a search on, from its place on
 pub data SearchEnds (G : Geometry) (l : Lent) (s : Session) : ℕ → Type 0 where
@@ -200,17 +200,17 @@ module _ (G : Geometry) (argument : ℕ) (l : Lent) (s : Session) where
   pub never-not-closed : (n : ℕ) → verdict G n argument l s ≡ Refused NotClosed → ⊥
   unfolding gives codeNumber
   never-not-closed n q =
-      at-one (λ (n : ℕ). verdict G n argument l s ≡ Refused NotClosed → ⊥) n (20 ∷ 21 ∷ 33 ∷ 34 ∷ []) (refused-given n NotClosed refl refl refl q)
+      at-one (λ (n : ℕ). verdict G n argument l s ≡ Refused NotClosed → ⊥) n recordCalls (refused-given n NotClosed refl refl refl q)
       ((λ v. no-three _ _ (_ ∷ []) _ (refl & tt) (refl & tt) (λ h. h .0) (own-decides NotClosed call20 refl refl v))
       & (λ v. no-three _ _ (_ ∷ _ ∷ []) _ (refl & refl & tt) (refl & refl & refl & tt) (λ h. h .0) (own-decides NotClosed call21 refl refl v))
       & (λ v. no-three _ _ (_ ∷ _ ∷ []) _ (refl & refl & tt) (refl & refl & tt) (λ h. h .1 .0) (own-decides NotClosed call33 refl refl v))
       & (λ v. no-three _ _ (_ ∷ _ ∷ _ ∷ []) _ (refl & refl & refl & tt) (refl & refl & tt) (λ h. h .1 .0) (own-decides NotClosed call34 refl refl v)) & tt) q
 
   -- ---- code 6 comes out only where the random record is over 262,143
-  pub random-over : (n : ℕ) → verdict G n argument l s ≡ Refused BadRecord → 262143 < randomOf (l .fcb)
+  pub random-over : (n : ℕ) → verdict G n argument l s ≡ Refused BadRecord → lastRecord < randomOf (l .fcb)
   unfolding gives codeNumber
   random-over n q =
-      ltb-true _ _ (at-one (λ (n : ℕ). verdict G n argument l s ≡ Refused BadRecord → ltb 262143 (randomOf (l .fcb)) ≡ true) n (33 ∷ 34 ∷ [])
+      ltb-true _ _ (at-one (λ (n : ℕ). verdict G n argument l s ≡ Refused BadRecord → ltb lastRecord (randomOf (l .fcb)) ≡ true) n randomCalls
       (refused-given n BadRecord refl refl refl q)
       ((λ v. only-row _ BadRecord _ (own-decides BadRecord call33 refl refl v) (refl & refl & refl & refl & tt))
       & (λ v. only-row _ BadRecord _ (own-decides BadRecord call34 refl refl v) (refl & refl & refl & refl & refl & tt)) & tt) q)
