@@ -168,7 +168,8 @@ module _ {G : Geometry} (S : Sound G) (argument : ℕ) (l : Lent) (s : Session) 
       at-call (λ (m : ℕ) (c : Call m). Ready G m l s → Own G l s argument c → WriteFacts m (carriedBy G argument l s c)) n writeCalls w
       ((call21, facts-of 21 (λ q. omega arith) refl) & (call34, facts-of 34 (λ q. omega arith) refl) & tt)
 
-module _ {G : Geometry} (S : Sound G) (d : Disk) (w : Request) (writes : oneOf (w .asked .number) writeCalls ≡ true) (accepted : accepts G d w ≡ true) where
+module _ {G : Geometry} (S : Sound G) (d : Disk) (w : Request) (writes : oneOf (w .asked .number) writeCalls ≡ true)
+    (accepted : accepts G d w ≡ true) where
   pub wrote : Wrote G d w
   unfolding outcomeOf
   wrote =

@@ -100,7 +100,8 @@ module _ {G : Geometry} (S : Sound G) (argument : ℕ) (l : Lent) (s : Session) 
 
   -- by the number of the call
   abbrev LeavesCurrent : (n : ℕ) → Call n → Type 0
-  LeavesCurrent n c = (oneOf n (15 ∷ 22 ∷ []) ≡ true → crOf (l .fcb) ≤ 128) → Own G l s argument c → CurrentIn G (s .user) (carriedBy G argument l s c .lent)
+  LeavesCurrent n c =
+      (oneOf n (15 ∷ 22 ∷ []) ≡ true → crOf (l .fcb) ≤ 128) → Own G l s argument c → CurrentIn G (s .user) (carriedBy G argument l s c .lent)
 
   current-in : (n : ℕ) → oneOf n currentCalls ≡ true → (c : Call n) → LeavesCurrent n c
   unfolding oneOf _or_
@@ -121,11 +122,12 @@ module _ {G : Geometry} (S : Sound G) (d : Disk) (q : Request) (accepted : accep
       let good = step-accepted S (q .asked) (lentTo d q) (d .session) c in
       let k : CurrentIn G (d .session .user) (outcomeOf G d q .lent) =
       subst (λ (o : Outcome). CurrentIn G (d .session .user) (o .lent)) (sym (c .is ∙ effect-is G (q .asked .argument) (lentTo d q) (d .session) (c .facts .call)))
-      (current-in S (q .asked .argument) (lentTo d q) (d .session) (c .facts .ready .fits) (ready-good (c .facts .ready) (told-apart _ 13 currentCalls call refl))
-      (q .asked .number) call (c .facts .call) cr (c .facts .own)) in
+      (current-in S (q .asked .argument) (lentTo d q) (d .session) (c .facts .ready .fits)
+      (ready-good (c .facts .ready) (told-apart _ 13 currentCalls call refl)) (q .asked .number) call (c .facts .call) cr (c .facts .own)) in
       let o = outcomeOf G d q .lent in
       record {
         place = k .entry;
-        is = subst (λ (x : ℕ). current G (entryAt G (o .image)) (o .map) x (o .fcb) ≡ At (k .entry)) (sym (user-stays G d q (told-apart _ 32 currentCalls call refl)))
+        is = subst (λ (x : ℕ). current G (entryAt G (o .image)) (o .map) x (o .fcb) ≡ At (k .entry))
+            (sym (user-stays G d q (told-apart _ 32 currentCalls call refl)))
             (cur-current G (o .image) (o .map) (d .session .user) (o .fcb) (k .entry) (good .inv .dir) (c .facts .ready .fits .user-low) (k .cur));
       }

@@ -7,10 +7,9 @@ use native.Mathlib.Omega.{arith}
 use lib.Dec.{ltb}
 use borrow.Author.Tests.{le-leb, lt-leb, lt-ltb, le-ltb, not-false}
 use Rattle.lists.specs.Cases.{split, lt-or-le, clash}
-use Rattle.lists.specs.Tests.{_and_, _or_, and-fails-left, and-fails-right, and-then}
+use Rattle.lists.specs.Tests.{_or_, and-fails-left, and-fails-right, and-then}
 use Rattle.format.specs.Diskette.{Bytes, Geometry, extents, lastRecord}
 use Rattle.format.specs.Fcb.{randomOf}
-use Rattle.format.specs.Found.{isFound}
 use Rattle.facts.specs.Found.{is-found, found-so}
 use Rattle.model.specs.declared.Session.{Session}
 use Rattle.model.specs.declared.Code.{Code}
@@ -19,7 +18,7 @@ use Rattle.model.specs.declared.Verdict.{Verdict}
 use Rattle.model.specs.declared.Verdict.the-variants.{Passed, Refused}
 use Rattle.model.specs.declared.Plan.{Plan}
 use Rattle.model.specs.Lent.{Lent, Outcome}
-use Rattle.model.specs.Target.{isRandom, targetExtent, presentEntry, targetEntry, recordThere, readOnlyThere, plan}
+use Rattle.model.specs.Target.{isRandom, targetExtent, plan}
 use Rattle.model.specs.Table.{oneOf, readCalls, writeCalls, Row, when, firstRow}
 use Rattle.model.specs.Calls.{reading, read, writing, written}
 use Rattle.model.specs.Step.{refused, carriedOut, effect}
@@ -114,13 +113,15 @@ module _ (G : Geometry) (argument : ℕ) (l : Lent) (s : Session) where
   by-rows {n} c rows follow r e = rw r (by-verdict n (firstRow rows) follow (effect-is G argument l s c ∙ e))
 
   -- ---- the numbers that have a chain in common
-  pub own-read : (n : ℕ) → oneOf n readCalls ≡ true → (c : Call n) → ownStep G argument l s c ≡ ruled (reading G s l n) (readRuling G n (s .user) l)
+  pub own-read : (n : ℕ) → oneOf n readCalls ≡ true → (c : Call n)
+      → ownStep G argument l s c ≡ ruled (reading G s l n) (readRuling G n (s .user) l)
   unfolding read readRuling
   own-read n h =
       at-call (λ (m : ℕ) (c : Call m). ownStep G argument l s c ≡ ruled (reading G s l m) (readRuling G m (s .user) l)) n readCalls h
       ((call20, by-rows call20 _ (reading G s l 20) rows-20 refl) & (call33, by-rows call33 _ (reading G s l 33) rows-33 refl) & tt)
 
-  pub own-write : (n : ℕ) → oneOf n writeCalls ≡ true → (c : Call n) → ownStep G argument l s c ≡ ruled (writing G s l n) (writeRuling G n (s .user) l)
+  pub own-write : (n : ℕ) → oneOf n writeCalls ≡ true → (c : Call n)
+      → ownStep G argument l s c ≡ ruled (writing G s l n) (writeRuling G n (s .user) l)
   unfolding written writeRuling
   own-write n h =
       at-call (λ (m : ℕ) (c : Call m). ownStep G argument l s c ≡ ruled (writing G s l m) (writeRuling G m (s .user) l)) n writeCalls h

@@ -1,6 +1,6 @@
 -- The calls by their numbers, and the rows of the table that apply to each: the whole table decides as they do.
 use mathlib.Core.Path.{_≡_, refl, sym, subst}
-use mathlib.Core.Bool.{Bool, true, false, not}
+use mathlib.Core.Bool.{true, false, not}
 use mathlib.Core.List.{List, [], _∷_}
 use Prim.Native.Nat.{ℕ}
 use lib.Dec.{eqb, leb, ltb}
@@ -77,7 +77,8 @@ call-one call36 call36 = refl
 call-one call46 call46 = refl
 call-one call98 call98 = refl
 
-pub at-call : (P : (n : ℕ) → Call n → Type 0) (n : ℕ) (cs : List ℕ) → oneOf n cs ≡ true → AtEach (λ (m : ℕ). (c : Call m) × P m c) cs → (c : Call n) → P n c
+pub at-call : (P : (n : ℕ) → Call n → Type 0) (n : ℕ) (cs : List ℕ) → oneOf n cs ≡ true
+    → AtEach (λ (m : ℕ). (c : Call m) × P m c) cs → (c : Call n) → P n c
 at-call P n cs h x c =
     let y = at-one (λ (m : ℕ). (c : Call m) × P m c) n cs h x in
     subst (P n) (call-one (y .0) c) (y .1)

@@ -164,8 +164,8 @@ module _ (G : Geometry) (argument : ℕ) (l : Lent) (s : Session) where
   own-decides : (code : Code) {n : ℕ} (c : Call n) → isCode BadParameter code ≡ false → isCode BadDisk code ≡ false
       → verdict G n argument l s ≡ Refused code → Decides code (ownRows G argument l s c)
   own-decides code {n} c p d q =
-      behind code (when (not (parametersRight G l n s)) BadParameter ∷ when (not (diskRight G l n)) BadDisk ∷ []) (ownRows G argument l s c) (p & d & tt)
-      (refused-decides code (rowsFor G argument l s c) (sym (verdict-rows G argument l s c) ∙ q)) .rest
+      behind code (when (not (parametersRight G l n s)) BadParameter ∷ when (not (diskRight G l n)) BadDisk ∷ []) (ownRows G argument l s c)
+      (p & d & tt) (refused-decides code (rowsFor G argument l s c) (sym (verdict-rows G argument l s c) ∙ q)) .rest
 
   -- the number of a call that is refused with a code of its own rows is among those that the document gives for the code
   refused-given : (n : ℕ) (code : Code) → isCode NotListed code ≡ false → isCode BadParameter code ≡ false → isCode BadDisk code ≡ false
@@ -204,7 +204,8 @@ module _ (G : Geometry) (argument : ℕ) (l : Lent) (s : Session) where
       ((λ v. no-three _ _ (_ ∷ []) _ (refl & tt) (refl & tt) (λ h. h .0) (own-decides NotClosed call20 refl refl v))
       & (λ v. no-three _ _ (_ ∷ _ ∷ []) _ (refl & refl & tt) (refl & refl & refl & tt) (λ h. h .0) (own-decides NotClosed call21 refl refl v))
       & (λ v. no-three _ _ (_ ∷ _ ∷ []) _ (refl & refl & tt) (refl & refl & tt) (λ h. h .1 .0) (own-decides NotClosed call33 refl refl v))
-      & (λ v. no-three _ _ (_ ∷ _ ∷ _ ∷ []) _ (refl & refl & refl & tt) (refl & refl & tt) (λ h. h .1 .0) (own-decides NotClosed call34 refl refl v)) & tt) q
+      & (λ v. no-three _ _ (_ ∷ _ ∷ _ ∷ []) _ (refl & refl & refl & tt) (refl & refl & tt) (λ h. h .1 .0) (own-decides NotClosed call34 refl refl v))
+      & tt) q
 
   -- ---- code 6 comes out only where the random record is over 262,143
   pub random-over : (n : ℕ) → verdict G n argument l s ≡ Refused BadRecord → lastRecord < randomOf (l .fcb)
