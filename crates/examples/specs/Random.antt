@@ -43,7 +43,8 @@ six : (G : Geometry) (n argument : ℕ) (l : Lent) (s : Session) → step G (ask
 unfolding aOf hOf
 six G n argument l s q = record { refuses = q; is-a = rw q; is-h = rw q }
 
-pub random-six : (G : Geometry) (n argument : ℕ) (l : Lent) (s : Session) → oneOf n randomCalls ≡ true → Ready G n l s → RandomIs (l .fcb) 0 0 4 → Six G n argument l s
+pub random-six : (G : Geometry) (n argument : ℕ) (l : Lent) (s : Session) → oneOf n randomCalls ≡ true → Ready G n l s
+    → RandomIs (l .fcb) 0 0 4 → Six G n argument l s
 random-six G n argument l s which ready r =
     let over = lt-ltb lastRecord (randomOf (l .fcb)) (omega (arith, random-is (l .fcb) 0 0 4 r)) in
     six G n argument l s
@@ -57,7 +58,8 @@ pub record Last (G : Geometry) (n argument : ℕ) (l : Lent) (s : Session) : Typ
   pub is-record : targetRecord n (l .fcb) ≡ 127
   pub not-six : verdict G n argument l s ≡ Refused BadRecord → ⊥
 
-pub random-last : (G : Geometry) (n argument : ℕ) (l : Lent) (s : Session) → oneOf n randomCalls ≡ true → RandomIs (l .fcb) 255 255 3 → Last G n argument l s
+pub random-last : (G : Geometry) (n argument : ℕ) (l : Lent) (s : Session) → oneOf n randomCalls ≡ true → RandomIs (l .fcb) 255 255 3
+    → Last G n argument l s
 unfolding _or_
 random-last G n argument l s which r =
     let is : randomOf (l .fcb) ≡ lastRecord = random-is (l .fcb) 255 255 3 r in

@@ -8,7 +8,7 @@ use lib.Dec.{ltb}
 use borrow.Author.Tests.{le-leb, lt-leb, lt-ltb, le-ltb, not-false}
 use Rattle.lists.specs.Cases.{split, lt-or-le, clash}
 use Rattle.lists.specs.Tests.{_or_, and-fails-left, and-fails-right, and-then}
-use Rattle.format.specs.Diskette.{Bytes, Geometry, extents, lastRecord}
+use Rattle.format.specs.Diskette.{Bytes, Geometry, extentRecords, extents, lastRecord}
 use Rattle.format.specs.Fcb.{randomOf}
 use Rattle.facts.specs.Found.{is-found, found-so}
 use Rattle.model.specs.declared.Session.{Session}
@@ -38,7 +38,7 @@ use Rattle.rulings.specs.Ruling.{rulingOf, readRows, writeRows, readRuli
 over-random : (n : ℕ) (fcb : Bytes) → isRandom n ≡ true → overLast n (targetExtent n fcb) ≡ ltb lastRecord (randomOf fcb)
 unfolding overLast
 over-random n fcb r =
-    let ext : targetExtent n fcb ≡ randomOf fcb / 128 = extent-random n fcb r in
+    let ext : targetExtent n fcb ≡ randomOf fcb / extentRecords = extent-random n fcb r in
     and-then _ _ r ∙ split (lt-or-le lastRecord (randomOf fcb))
     (λ h. le-leb extents (targetExtent n fcb) (omega arith) ∙ sym (lt-ltb _ _ h))
     (λ h. lt-leb extents (targetExtent n fcb) (omega arith) ∙ sym (le-ltb _ _ h))
@@ -94,7 +94,7 @@ module _ (G : Geometry) (argument : ℕ) (l : Lent) (s : Session) where
       (gone (_ ∷ _ ∷ _ ∷ []) _ _ NotClosed (λ h. and-fails-right _ _ (h .1 .0))
       ∙ sym (gone (_ ∷ _ ∷ _ ∷ []) _ _ NoRecord (λ h. lt-leb _ _ (random-below 34 (l .fcb) refl (h .0)))))
 
-  -- ---- what a ruling has a call do that follows its plan so
+  -- ---- what a ruling has a call do, by what a plan has it do
   abbrev pub ruled : (Plan → Outcome) → Ruling → Outcome
   ruled follow (Refuse code) = refused code s l
   ruled follow (Follow p) = follow p

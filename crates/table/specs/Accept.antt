@@ -7,7 +7,7 @@ use lib.Dec.{eqb, ltb}
 use borrow.Author.Tests.{leb-false, lt-leb, ltb-false, le-ltb, ne-eqb, eq-eqb, not-false}
 use Rattle.lists.specs.Cases.{split, bool-cases, eq-or-ne}
 use Rattle.lists.specs.Tests.{_and_, _or_, and-fails-left, and-fails-right}
-use Rattle.format.specs.Diskette.{Bytes, Geometry, extents, lastRecord}
+use Rattle.format.specs.Diskette.{Bytes, Geometry, extentRecords, extents, lastRecord}
 use Rattle.format.specs.Entries.{findEmpty}
 use Rattle.format.specs.Consistent.{consistent}
 use Rattle.format.specs.Notes.{findFree}
@@ -33,7 +33,7 @@ random-below n fcb r h = rw r (omega (arith, ltb-false lastRecord (randomOf fcb)
 
 pub random-most : (n : ℕ) (fcb : Bytes) → isRandom n ≡ true → targetExtent n fcb < extents → randomOf fcb ≤ lastRecord
 unfolding targetExtent
-random-most n fcb r h = let below : randomOf fcb / 128 < extents = rw r at h in omega arith
+random-most n fcb r h = let below : randomOf fcb / extentRecords < extents = rw r at h in omega arith
 
 pub random-low : (n : ℕ) (fcb : Bytes) → isRandom n ≡ true → targetExtent n fcb < extents → ltb lastRecord (randomOf fcb) ≡ false
 random-low n fcb r h = le-ltb lastRecord (randomOf fcb) (random-most n fcb r h)

@@ -80,7 +80,7 @@ only-row : (test : Bool) (c : Code) (rs : List Row) â†’ Decides c (when test c â
 only-row test c rs (here t q) a = t
 only-row test c rs (later f d) a = absent c rs d a
 
--- and rows in front that have it not have failed
+-- and rows in front, of other codes, have failed
 record Behind (c : Code) (front rs : List Row) : Type 0 where
   failed : NoneHolds front
   rest : Decides c rs
