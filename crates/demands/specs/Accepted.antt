@@ -17,7 +17,7 @@ use Rattle.model.specs.declared.Code.{Code}
 use Rattle.model.specs.declared.Code.the-variants.{Accepted, NotListed, BadParameter, BadDisk, BadRecord, NotCurrent, Failed, BadName, SearchOver, ReadOnly, Exists, NotClosed, NoExtent, NoRecord, NoEntry, DiskFull}
 use Rattle.model.specs.Codes.{aOf, hOf}
 use Rattle.model.specs.Lent.{Lent, Outcome, answerOf}
-use Rattle.model.specs.Table.{oneOf}
+use Rattle.model.specs.Table.{oneOf, recordCalls, writeCalls, randomCalls}
 use Rattle.model.specs.Step.{refusedSession, step}
 use Rattle.table.specs.Own.{Call, call13, call15, call16, call17, call18, call19, call20, call21, call22, call23, call32, call33, call34, call35, call36, call46, call98, AtEach, at-one}
 use Rattle.table.specs.First.{_&_}
@@ -29,10 +29,10 @@ use Rattle.effects.specs.Book.{acceptedAnswer}
 -- ---- a code that the table gives for a call is no acceptance
 -- A of the record calls is not 0
 record-refused : (n : ℕ) (c : Code) (t : Session) (cs : List ℕ) → hOf c ≡ 0 → (aOf c ≡ 0 → ⊥)
-    → AtEach (λ (m : ℕ). oneOf m (20 ∷ 21 ∷ 33 ∷ 34 ∷ []) ≡ true) cs → oneOf n cs ≡ true → acceptedAnswer n (answerOf c t) ≡ false
+    → AtEach (λ (m : ℕ). oneOf m recordCalls ≡ true) cs → oneOf n cs ≡ true → acceptedAnswer n (answerOf c t) ≡ false
 unfolding acceptedAnswer
 record-refused n c t cs h a each o =
-    let m : oneOf n (20 ∷ 21 ∷ 33 ∷ 34 ∷ []) ≡ true = at-one (λ (m : ℕ). oneOf m (20 ∷ 21 ∷ 33 ∷ 34 ∷ []) ≡ true) n cs o each in
+    let m : oneOf n recordCalls ≡ true = at-one (λ (m : ℕ). oneOf m recordCalls ≡ true) n cs o each in
     and-then _ _ (eq-eqb _ _ h) ∙ rw m (ne-eqb (aOf c) 0 a)
 
 -- H is not 0
@@ -43,7 +43,7 @@ error-refused n c t h = and-fails-left _ _ (ne-eqb (hOf c) 0 h)
 -- A is 255
 failed-refused : (n : ℕ) (c : Code) (t : Session) → hOf c ≡ 0 → aOf c ≡ 255 → acceptedAnswer n (answerOf c t) ≡ false
 unfolding acceptedAnswer
-failed-refused n c t h a = and-then _ _ (eq-eqb _ _ h) ∙ rw a (cond-either (λ (b : Bool). b ≡ false) (oneOf n (20 ∷ 21 ∷ 33 ∷ 34 ∷ [])) (λ y. refl) (λ y. refl))
+failed-refused n c t h a = and-then _ _ (eq-eqb _ _ h) ∙ rw a (cond-either (λ (b : Bool). b ≡ false) (oneOf n recordCalls) (λ y. refl) (λ y. refl))
 
 refused-given : (n : ℕ) (c : Code) (t : Session) → gives n c ≡ true → acceptedAnswer n (answerOf c t) ≡ false
 unfolding gives oneOf aOf hOf _or_
@@ -51,25 +51,25 @@ refused-given n (Accepted k) t h = clash (sym h)
 refused-given n NotListed t h = clash (sym h)
 refused-given n BadParameter t h = clash (sym h)
 refused-given n BadDisk t h = clash (sym h)
-refused-given n BadRecord t h = record-refused n BadRecord t (33 ∷ 34 ∷ []) refl (λ z. omega arith) (refl & refl & tt) h
-refused-given n NotCurrent t h = record-refused n NotCurrent t (20 ∷ 21 ∷ 33 ∷ 34 ∷ []) refl (λ z. omega arith) (refl & refl & refl & refl & tt) h
+refused-given n BadRecord t h = record-refused n BadRecord t randomCalls refl (λ z. omega arith) (refl & refl & tt) h
+refused-given n NotCurrent t h = record-refused n NotCurrent t recordCalls refl (λ z. omega arith) (refl & refl & refl & refl & tt) h
 refused-given n Failed t h = failed-refused n Failed t refl refl
 refused-given n BadName t h = error-refused n BadName t (λ z. omega arith)
 refused-given n SearchOver t h = failed-refused n SearchOver t refl refl
 refused-given n ReadOnly t h = error-refused n ReadOnly t (λ z. omega arith)
 refused-given n Exists t h = error-refused n Exists t (λ z. omega arith)
-refused-given n NotClosed t h = record-refused n NotClosed t (20 ∷ 21 ∷ 33 ∷ 34 ∷ []) refl (λ z. omega arith) (refl & refl & refl & refl & tt) h
+refused-given n NotClosed t h = record-refused n NotClosed t recordCalls refl (λ z. omega arith) (refl & refl & refl & refl & tt) h
 refused-given n NoExtent t h = record-refused n NoExtent t (33 ∷ []) refl (λ z. omega arith) (refl & tt) h
 refused-given n NoRecord t h = record-refused n NoRecord t (20 ∷ 21 ∷ 33 ∷ []) refl (λ z. omega arith) (refl & refl & refl & tt) h
 refused-given n NoEntry t h = record-refused n NoEntry t (34 ∷ []) refl (λ z. omega arith) (refl & tt) h
-refused-given n DiskFull t h = record-refused n DiskFull t (21 ∷ 34 ∷ []) refl (λ z. omega arith) (refl & refl & tt) h
+refused-given n DiskFull t h = record-refused n DiskFull t writeCalls refl (λ z. omega arith) (refl & refl & tt) h
 
 -- ---- a call that was carried out answers with acceptance
-plain-accepted : (n : ℕ) (a : Answer) → oneOf n (20 ∷ 21 ∷ 33 ∷ 34 ∷ []) ≡ false → a .h ≡ 0 → (a .a ≡ 255 → ⊥) → acceptedAnswer n a ≡ true
+plain-accepted : (n : ℕ) (a : Answer) → oneOf n recordCalls ≡ false → a .h ≡ 0 → (a .a ≡ 255 → ⊥) → acceptedAnswer n a ≡ true
 unfolding acceptedAnswer
 plain-accepted n a o h z = and-both _ _ (eq-eqb _ _ h) (rw o (ap not (ne-eqb (a .a) 255 z)))
 
-record-accepted : (n : ℕ) (a : Answer) → oneOf n (20 ∷ 21 ∷ 33 ∷ 34 ∷ []) ≡ true → a .h ≡ 0 → a .a ≡ 0 → acceptedAnswer n a ≡ true
+record-accepted : (n : ℕ) (a : Answer) → oneOf n recordCalls ≡ true → a .h ≡ 0 → a .a ≡ 0 → acceptedAnswer n a ≡ true
 unfolding acceptedAnswer
 record-accepted n a o h z = and-both _ _ (eq-eqb _ _ h) (rw o (eq-eqb (a .a) 0 z))
 

@@ -14,7 +14,7 @@ use Rattle.disk.specs.Eight.{eight-sound}
 use Rattle.model.specs.declared.Asked.{Asked}
 use Rattle.model.specs.Naming.{names}
 use Rattle.model.specs.Target.{presentEntry}
-use Rattle.model.specs.Table.{oneOf}
+use Rattle.model.specs.Table.{oneOf, writeCalls}
 use Rattle.table.specs.Total.{InRange}
 use Rattle.effects.specs.Where.{Frame}
 use Rattle.effects.specs.Book.{nothingHeld}
@@ -23,12 +23,12 @@ use Rattle.demands.specs.Runs.{Request, Disk, lentTo, outcomeOf, accepts
 use Rattle.demands.specs.NothingLost.{NothingLost, nothing-lost, bytes-stay, system-stays}
 use Rattle.demands.specs.Reading.{Gives}
 use Rattle.demands.specs.ReadBack.{AllLeaveAlone, readFcb, read-back}
-use Rattle.demands.specs.StillCurrent.{still-current}
+use Rattle.demands.specs.StillCurrent.{currentCalls, still-current}
 use Rattle.demands.specs.Erased.{erased}
 use Rattle.demands.specs.Begins.{Asks, erased-begins}
 
 -- demand 2
-pub eight-read-back : (d : Disk) (w : Request) → oneOf (w .asked .number) (21 ∷ 34 ∷ []) ≡ true → accepts eightInch d w ≡ true
+pub eight-read-back : (d : Disk) (w : Request) → oneOf (w .asked .number) writeCalls ≡ true → accepts eightInch d w ≡ true
     → (qs : List Request) → AllLeaveAlone eightInch (outcomeOf eightInch d w .lent .fcb) (after eightInch d w) qs
     → (asked : Asked) → asked .number ≡ 33 → (buffer : Bytes) → length buffer ≡ recordBytes
     → Gives (outcomeOf eightInch (run eightInch (after eightInch d w) qs) (record { asked = asked; fcb = readFcb eightInch d w; buffer = buffer })) (w .buffer)
@@ -48,7 +48,7 @@ pub eight-system-stays : (d : Disk) (q : Request) (i : ℕ) → i < 6656 → get
 eight-system-stays = system-stays eight-sound
 
 -- the FCB handed back is current
-pub eight-still-current : (d : Disk) (q : Request) → accepts eightInch d q ≡ true → oneOf (q .asked .number) (15 ∷ 16 ∷ 20 ∷ 21 ∷ 22 ∷ 33 ∷ 34 ∷ []) ≡ true
+pub eight-still-current : (d : Disk) (q : Request) → accepts eightInch d q ≡ true → oneOf (q .asked .number) currentCalls ≡ true
     → (oneOf (q .asked .number) (15 ∷ 22 ∷ []) ≡ true → crOf (q .fcb) ≤ 128)
     → FoundAt (presentEntry eightInch (after eightInch d q .session .user) (outcomeOf eightInch d q .lent))
 eight-still-current = still-current eight-sound

@@ -7,7 +7,7 @@ use Prim.Native.Nat.{ℕ, _+_, _%_, _≤_, _<_}
 use native.Mathlib.Omega.{arith}
 use lib.ListN.{length, getD, set}
 use lib.Seq.{getD-set-same, getD-set-other}
-use Rattle.lists.specs.Cases.{split, eq-or-ne, not-both}
+use Rattle.lists.specs.Cases.{split, eq-or-ne}
 use Rattle.lists.specs.Tests.{_or_}
 use Rattle.format.specs.Diskette.{Bytes, Geometry, Sound, recordBytes, extents}
 use Rattle.format.specs.Entries.{userOf, extentOf, named}
@@ -18,13 +18,14 @@ use Rattle.model.specs.declared.Session.{Session}
 use Rattle.model.specs.Lent.{Lent, Outcome}
 use Rattle.model.specs.Naming.{names}
 use Rattle.model.specs.Target.{targetExtent, targetRecord}
-use Rattle.model.specs.Table.{oneOf, usesFcb}
+use Rattle.model.specs.Table.{oneOf, writeCalls, usesFcb}
+use Rattle.model.specs.Calls.{written}
 use Rattle.model.specs.Step.{step}
 use Rattle.fields.specs.Agree.{SameName, named-cong}
 use Rattle.facts.specs.Naming.{named-user, named-like}
-use Rattle.table.specs.Own.{Call, call13, call15, call16, call17, call18, call19, call20, call21, call22, call23, call32, call33, call34, call35, call36, call46, call98, at-one}
+use Rattle.table.specs.Own.{Call, call13, call15, call16, call17, call18, call19, call20, call21, call22, call23, call32, call33, call34, call35, call36, call46, call98, told-apart, at-call}
 use Rattle.table.specs.First.{_&_}
-use Rattle.table.specs.Facts.{Own, Ready}
+use Rattle.table.specs.Facts.{Writes, Own, Ready}
 use Rattle.table.specs.Carried.{Leaves, carriedBy, effect-is}
 use Rattle.table.specs.Total.{InRange, total, step-range}
 use Rattle.invariant.specs.Good.{Good}
@@ -153,26 +154,22 @@ pub record Wrote (G : Geometry) (d : Disk) (w : Request) : Type 0 where
   pub range : InRange G (d .session)
 
 module _ {G : Geometry} (S : Sound G) (argument : ℕ) (l : Lent) (s : Session) where
-  record WriteFacts (n : ℕ) (c : Call n) : Type 0 where
-    ok : WriteOk G n (s .user) l (carriedBy G argument l s c .lent)
+  record WriteFacts (n : ℕ) (o : Outcome) : Type 0 where
+    ok : WriteOk G n (s .user) l (o .lent)
     extent : targetExtent n (l .fcb) < extents
     uses : usesFcb n ≡ true
 
-  abbrev Facts : ℕ → Type 0
-  Facts n = (c : Call n) → Ready G n l s → Own G l s argument c → WriteFacts n c
+  facts-of : (n : ℕ) → (n ≡ 13 → ⊥) → usesFcb n ≡ true → Ready G n l s → Writes G l s n → WriteFacts n (written G s l n)
+  facts-of n z u r o = record { ok = written-ok S n l s (ready-good r z) (r .fits) o; extent = o .extent; uses = u }
 
-  facts21 : Facts 21
+  write-facts : (n : ℕ) → oneOf n writeCalls ≡ true → (c : Call n) → Ready G n l s → Own G l s argument c → WriteFacts n (carriedBy G argument l s c)
   unfolding usesFcb oneOf _or_
-  facts21 call21 r o = record { ok = written-ok S 21 l s (ready-good r (λ q. omega arith)) (r .fits) o; extent = o .extent; uses = refl }
+  write-facts n w =
+      at-call (λ (m : ℕ) (c : Call m). Ready G m l s → Own G l s argument c → WriteFacts m (carriedBy G argument l s c)) n writeCalls w
+      ((call21, facts-of 21 (λ q. omega arith) refl) & (call34, facts-of 34 (λ q. omega arith) refl) & tt)
 
-  facts34 : Facts 34
-  unfolding usesFcb oneOf _or_
-  facts34 call34 r o = record { ok = written-ok S 34 l s (ready-good r (λ q. omega arith)) (r .fits) o; extent = o .extent; uses = refl }
-
-  write-facts : (n : ℕ) → oneOf n (21 ∷ 34 ∷ []) ≡ true → Facts n
-  write-facts n z = at-one Facts n (21 ∷ 34 ∷ []) z (facts21 & facts34 & tt)
-
-module _ {G : Geometry} (S : Sound G) (d : Disk) (w : Request) (writes : oneOf (w .asked .number) (21 ∷ 34 ∷ []) ≡ true) (accepted : accepts G d w ≡ true) where
+module _ {G : Geometry} (S : Sound G) (d : Disk) (w : Request) (writes : oneOf (w .asked .number) writeCalls ≡ true)
+    (accepted : accepts G d w ≡ true) where
   pub wrote : Wrote G d w
   unfolding outcomeOf
   wrote =
@@ -192,7 +189,7 @@ module _ {G : Geometry} (S : Sound G) (d : Disk) (w : Request) (writes : oneOf (
   wrote-kept = record {
     good = wrote .ok .change .good;
     range = step-range G (w .asked) (lentTo d w) (d .session) (wrote .range);
-    same = user-stays G d w (λ q. not-both (oneOf (w .asked .number) (21 ∷ 34 ∷ [])) writes (ap (λ (n : ℕ). oneOf n (21 ∷ 34 ∷ [])) q));
+    same = user-stays G d w (told-apart _ 32 writeCalls writes refl);
     holds = wrote .ok .holds;
   }
 
@@ -202,7 +199,7 @@ unfoldable pub readFcb : Geometry → Disk → Request → Bytes
 readFcb G d w = atRecord (outcomeOf G d w .lent .fcb) (recordNumber (targetExtent (w .asked .number) (w .fcb)) (targetRecord (w .asked .number) (w .fcb)))
 
 -- with any buffer of 128 bytes, and any argument
-pub read-back : {G : Geometry} (S : Sound G) (d : Disk) (w : Request) → oneOf (w .asked .number) (21 ∷ 34 ∷ []) ≡ true → accepts G d w ≡ true
+pub read-back : {G : Geometry} (S : Sound G) (d : Disk) (w : Request) → oneOf (w .asked .number) writeCalls ≡ true → accepts G d w ≡ true
     → (qs : List Request) → AllLeaveAlone G (outcomeOf G d w .lent .fcb) (after G d w) qs
     → (asked : Asked) → asked .number ≡ 33 → (buffer : Bytes) → length buffer ≡ recordBytes
     → Gives (outcomeOf G (run G (after G d w) qs) (record { asked = asked; fcb = readFcb G d w; buffer = buffer })) (w .buffer)

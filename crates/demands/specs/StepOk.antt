@@ -24,13 +24,13 @@ use Rattle.model.specs.Lent.{Lent, rowsOf, Outcome}
 use Rattle.model.specs.Naming.{names}
 use Rattle.model.specs.Entering.{madeRow}
 use Rattle.model.specs.Target.{targetRecord, targetSlot}
-use Rattle.model.specs.Table.{oneOf, usesFcb}
+use Rattle.model.specs.Table.{oneOf, writeCalls, usesFcb}
 use Rattle.model.specs.Calls.{loggedIn, freed, userSet, openedAt, opened, closedAt, closed, foundAt, searched, deletes, deleted, createdAt, created, renamed, sized, positioned, space, read, written}
 use Rattle.model.specs.Step.{effect, step}
 use Rattle.fields.specs.Making.{length-madeRow, user-made, name-made}
 use Rattle.facts.specs.Naming.{named-intro}
 use Rattle.fields.specs.Naming.{named-used}
-use Rattle.table.specs.Own.{Call, call13, call15, call16, call17, call18, call19, call20, call21, call22, call23, call32, call33, call34, call35, call36, call46, call98, at-one}
+use Rattle.table.specs.Own.{Call, call13, call15, call16, call17, call18, call19, call20, call21, call22, call23, call32, call33, call34, call35, call36, call46, call98, told-apart, at-call}
 use Rattle.table.specs.First.{_&_}
 use Rattle.table.specs.Facts.{Fits, Closes, Makes, Renames, Own, Ready}
 use Rattle.table.specs.Carried.{carriedBy, effect-is}
@@ -53,7 +53,7 @@ use Rattle.demands.specs.Accepted.{refused-says, carried-says}
 -- has for it, which was free before or belonged to an entry of the file; for any other call none
 pub record MayWrite (G : Geometry) (n : ℕ) (l : Lent) (s : Session) (o : Outcome) (d : ℕ) : Type 0 where
   pub accepts : acceptedAnswer n (o .answer) ≡ true
-  pub writes : oneOf n (21 ∷ 34 ∷ []) ≡ true
+  pub writes : oneOf n writeCalls ≡ true
   pub one : OneRecord G (l .image) (l .map) (names n (s .user) (l .fcb)) (slotOf (o .lent .fcb) (targetSlot G n (l .fcb))) (targetRecord n (l .fcb)) d
 
 pub record StepOk (G : Geometry) (n : ℕ) (l : Lent) (s : Session) (o : Outcome) : Type 0 where
@@ -149,7 +149,7 @@ module _ {G : Geometry} (S : Sound G) (argument : ℕ) (l : Lent) (s : Session) 
   read-carries n u w b r = by-name n (read G s l n) (movedBook G n (s .user) l) u w b (r .change)
 
   -- 21 and 34
-  written-carries : (n : ℕ) → usesFcb n ≡ true → oneOf n (17 ∷ 19 ∷ []) ≡ false → oneOf n (21 ∷ 34 ∷ []) ≡ true
+  written-carries : (n : ℕ) → usesFcb n ≡ true → oneOf n (17 ∷ 19 ∷ []) ≡ false → oneOf n writeCalls ≡ true
       → ((u : Book) → bookBy G n (s .user) l (written G s l n .lent) u ≡ writtenBook G n (s .user) l (written G s l n .lent) u)
       → acceptedAnswer n (written G s l n .answer) ≡ true → WriteOk G n (s .user) l (written G s l n .lent) → Carries G n l s (written G s l n)
   written-carries n u w o b a r =
@@ -232,24 +232,20 @@ unfolding freed
 freed-settles G l s = freed-tracks G (noteAt (l .map)) (noteAt (freedMap G (l .map))) (freed-at G (l .map))
 
 module _ (G : Geometry) (argument : ℕ) (l : Lent) (s : Session) where
-  abbrev Settled : ℕ → Type 0
-  Settled n = (c : Call n) → acceptedAnswer n (carriedBy G argument l s c .answer) ≡ true → StepOk G n l s (carriedBy G argument l s c)
+  abbrev Settled : (n : ℕ) → Call n → Type 0
+  Settled n c = acceptedAnswer n (carriedBy G argument l s c .answer) ≡ true → StepOk G n l s (carriedBy G argument l s c)
 
-  settled13 : Settled 13
-  unfolding loggedIn oneOf _or_
-  settled13 call13 a = settles-ok G 13 l s (loggedIn G s l) a refl refl (logged-in-tracks G l s)
-
-  settled98 : Settled 98
-  unfolding freed oneOf _or_
-  settled98 call98 a = settles-ok G 98 l s (freed G s l) a refl refl (freed-settles G l s)
-
-  settled : (n : ℕ) → oneOf n (13 ∷ 98 ∷ []) ≡ true → Settled n
-  settled n z = at-one Settled n (13 ∷ 98 ∷ []) z (settled13 & settled98 & tt)
+  settled : (n : ℕ) → oneOf n (13 ∷ 98 ∷ []) ≡ true → (c : Call n) → Settled n c
+  unfolding loggedIn freed oneOf _or_
+  settled n z =
+      at-call Settled n (13 ∷ 98 ∷ []) z
+      ((call13, λ a. settles-ok G 13 l s (loggedIn G s l) a refl refl (logged-in-tracks G l s))
+      & (call98, λ a. settles-ok G 98 l s (freed G s l) a refl refl (freed-settles G l s)) & tt)
 
 -- ---- every call
 not-login : (n : ℕ) → oneOf n (13 ∷ 98 ∷ []) ≡ false → n ≡ 13 → ⊥
-unfolding oneOf
-not-login n h q = not-both (oneOf n (13 ∷ 98 ∷ [])) (or-left (eqb n 13) (oneOf n (98 ∷ [])) (eq-eqb n 13 q)) h
+unfolding oneOf _or_
+not-login n h q = told-apart 13 n (13 ∷ 98 ∷ []) refl h (sym q)
 
 -- image and map of a call that was carried out were good before, unless it is 13
 pub ready-good : {G : Geometry} {n : ℕ} {l : Lent} {s : Session} → Ready G n l s → (n ≡ 13 → ⊥) → Good G (l .image) (l .map)

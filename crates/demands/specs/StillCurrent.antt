@@ -1,10 +1,9 @@
 -- For those who build above the calls: the FCB handed back by an accepted 16, 20, 21, 33 or 34 is current under the session handed back,
 -- and so is that of an accepted 15 or 22 whose cr is at most 128.
-use mathlib.Core.Path.{_≡_, refl, ap, sym, _∙_, subst}
-use mathlib.Core.Bool.{true, false}
-use mathlib.Core.List.{[], _∷_}
+use mathlib.Core.Path.{_≡_, refl, sym, _∙_, subst}
+use mathlib.Core.Bool.{true}
+use mathlib.Core.List.{List, [], _∷_}
 use Prim.Native.Nat.{ℕ, _≤_}
-use Rattle.lists.specs.Cases.{not-both}
 use Rattle.lists.specs.Tests.{_or_}
 use Rattle.format.specs.Diskette.{Bytes, Geometry, Sound}
 use Rattle.format.specs.Entries.{entryAt, exOf}
@@ -18,14 +17,14 @@ use Rattle.model.specs.Lent.{Lent, rowsOf, Outcome}
 use Rattle.model.specs.Entering.{madeRow}
 use Rattle.model.specs.Target.{presentEntry}
 use Rattle.model.specs.Table.{oneOf, askedEntry}
-use Rattle.model.specs.Calls.{openedAt, opened, closedAt, closed, createdAt, created}
+use Rattle.model.specs.Calls.{openedAt, opened, closedAt, closed, createdAt, created, read, written}
 use Rattle.fields.specs.Fine.{fine-made}
 use Rattle.fields.specs.Making.{length-madeRow, user-made}
 use Rattle.facts.specs.Naming.{file-user}
 use Rattle.fields.specs.Naming.{file-used}
 use Rattle.table.specs.First.{_&_}
-use Rattle.table.specs.Own.{Call, call15, call16, call20, call21, call22, call33, call34, at-one}
-use Rattle.table.specs.Facts.{Fits, Opens, Closes, Makes, Own}
+use Rattle.table.specs.Own.{Call, call15, call16, call20, call21, call22, call33, call34, told-apart, at-call}
+use Rattle.table.specs.Facts.{Fits, Opens, Closes, Makes, Reads, Writes, Own}
 use Rattle.table.specs.Carried.{carriedBy, effect-is}
 use Rattle.invariant.specs.Good.{Good}
 use Rattle.invariant.specs.Step.{step-accepted}
@@ -39,6 +38,10 @@ use Rattle.demands.specs.Accepted.{accepted-carried}
 use Rattle.demands.specs.StepOk.{ready-good}
 use Rattle.demands.specs.Runs.{Request, Disk, lentTo, outcomeOf, accepts, after}
 use Rattle.demands.specs.ReadBack.{user-stays}
+
+-- the calls that may hand back a current FCB
+abbrev pub currentCalls : List ℕ
+currentCalls = 15 ∷ 16 ∷ 20 ∷ 21 ∷ 22 ∷ 33 ∷ 34 ∷ []
 
 -- the FCB of these buffers is current for the user
 pub record CurrentIn (G : Geometry) (user : ℕ) (l : Lent) : Type 0 where
@@ -87,40 +90,30 @@ module _ {G : Geometry} (S : Sound G) (argument : ℕ) (l : Lent) (s : Session) 
   unfolding created createdAt
   created-current cr m = rw (m .entry .is) record { entry = m .entry .place; cur = created-cur cr m }
 
+  -- 20 and 33
+  read-current : (n : ℕ) → Reads G l s n → CurrentIn G (s .user) (read G s l n .lent)
+  read-current n o = let k = reads-ok S n l s g f o in record { entry = k .entry; cur = k .cur }
+
+  -- 21 and 34
+  written-current : (n : ℕ) → Writes G l s n → CurrentIn G (s .user) (written G s l n .lent)
+  written-current n o = let k = written-ok S n l s g f o in record { entry = k .entry; cur = k .holds .cur }
+
   -- by the number of the call
-  abbrev Leaves : ℕ → Type 0
-  Leaves n = (oneOf n (15 ∷ 22 ∷ []) ≡ true → crOf (l .fcb) ≤ 128) → (c : Call n) → Own G l s argument c → CurrentIn G (s .user) (carriedBy G argument l s c .lent)
+  abbrev LeavesCurrent : (n : ℕ) → Call n → Type 0
+  LeavesCurrent n c =
+      (oneOf n (15 ∷ 22 ∷ []) ≡ true → crOf (l .fcb) ≤ 128) → Own G l s argument c → CurrentIn G (s .user) (carriedBy G argument l s c .lent)
 
-  leaves15 : Leaves 15
+  current-in : (n : ℕ) → oneOf n currentCalls ≡ true → (c : Call n) → LeavesCurrent n c
   unfolding oneOf _or_
-  leaves15 cr call15 o = opened-current (cr refl) o
-
-  leaves16 : Leaves 16
-  leaves16 cr call16 o = closed-current o
-
-  leaves20 : Leaves 20
-  leaves20 cr call20 o = let k = reads-ok S 20 l s g f o in record { entry = k .entry; cur = k .cur }
-
-  leaves21 : Leaves 21
-  leaves21 cr call21 o = let k = written-ok S 21 l s g f o in record { entry = k .entry; cur = k .holds .cur }
-
-  leaves22 : Leaves 22
-  unfolding oneOf _or_
-  leaves22 cr call22 o = created-current (cr refl) o
-
-  leaves33 : Leaves 33
-  leaves33 cr call33 o = let k = reads-ok S 33 l s g f o in record { entry = k .entry; cur = k .cur }
-
-  leaves34 : Leaves 34
-  leaves34 cr call34 o = let k = written-ok S 34 l s g f o in record { entry = k .entry; cur = k .holds .cur }
-
-  current-in : (n : ℕ) → oneOf n (15 ∷ 16 ∷ 20 ∷ 21 ∷ 22 ∷ 33 ∷ 34 ∷ []) ≡ true → Leaves n
   current-in n z =
-      at-one Leaves n (15 ∷ 16 ∷ 20 ∷ 21 ∷ 22 ∷ 33 ∷ 34 ∷ []) z (leaves15 & leaves16 & leaves20 & leaves21 & leaves22 & leaves33 & leaves34 & tt)
+      at-call LeavesCurrent n currentCalls z
+      ((call15, λ cr o. opened-current (cr refl) o) & (call16, λ cr o. closed-current o) & (call20, λ cr o. read-current 20 o)
+      & (call21, λ cr o. written-current 21 o) & (call22, λ cr o. created-current (cr refl) o) & (call33, λ cr o. read-current 33 o)
+      & (call34, λ cr o. written-current 34 o) & tt)
 
 -- ---- any disk and call
 module _ {G : Geometry} (S : Sound G) (d : Disk) (q : Request) (accepted : accepts G d q ≡ true)
-    (call : oneOf (q .asked .number) (15 ∷ 16 ∷ 20 ∷ 21 ∷ 22 ∷ 33 ∷ 34 ∷ []) ≡ true)
+    (call : oneOf (q .asked .number) currentCalls ≡ true)
     (cr : oneOf (q .asked .number) (15 ∷ 22 ∷ []) ≡ true → crOf (q .fcb) ≤ 128) where
   pub still-current : FoundAt (presentEntry G (after G d q .session .user) (outcomeOf G d q .lent))
   unfolding after outcomeOf presentEntry oneOf _or_
@@ -129,16 +122,12 @@ module _ {G : Geometry} (S : Sound G) (d : Disk) (q : Request) (accepted : accep
       let good = step-accepted S (q .asked) (lentTo d q) (d .session) c in
       let k : CurrentIn G (d .session .user) (outcomeOf G d q .lent) =
       subst (λ (o : Outcome). CurrentIn G (d .session .user) (o .lent)) (sym (c .is ∙ effect-is G (q .asked .argument) (lentTo d q) (d .session) (c .facts .call)))
-      (current-in S (q .asked .argument) (lentTo d q) (d .session) (c .facts .ready .fits) (ready-good (c .facts .ready) (other 13 refl))
-      (q .asked .number) call cr (c .facts .call) (c .facts .own)) in
+      (current-in S (q .asked .argument) (lentTo d q) (d .session) (c .facts .ready .fits)
+      (ready-good (c .facts .ready) (told-apart _ 13 currentCalls call refl)) (q .asked .number) call (c .facts .call) cr (c .facts .own)) in
       let o = outcomeOf G d q .lent in
       record {
         place = k .entry;
-        is = subst (λ (x : ℕ). current G (entryAt G (o .image)) (o .map) x (o .fcb) ≡ At (k .entry)) (sym (user-stays G d q (other 32 refl)))
+        is = subst (λ (x : ℕ). current G (entryAt G (o .image)) (o .map) x (o .fcb) ≡ At (k .entry))
+            (sym (user-stays G d q (told-apart _ 32 currentCalls call refl)))
             (cur-current G (o .image) (o .map) (d .session .user) (o .fcb) (k .entry) (good .inv .dir) (c .facts .ready .fits .user-low) (k .cur));
       }
-    where
-      other : (n : ℕ) → oneOf n (15 ∷ 16 ∷ 20 ∷ 21 ∷ 22 ∷ 33 ∷ 34 ∷ []) ≡ false → q .asked .number ≡ n → ⊥
-      other n z e =
-          not-both (oneOf (q .asked .number) (15 ∷ 16 ∷ 20 ∷ 21 ∷ 22 ∷ 33 ∷ 34 ∷ [])) call
-          (ap (λ (m : ℕ). oneOf m (15 ∷ 16 ∷ 20 ∷ 21 ∷ 22 ∷ 33 ∷ 34 ∷ [])) e ∙ z)

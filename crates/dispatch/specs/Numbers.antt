@@ -1,21 +1,13 @@
 -- The numbers of the calls in the order in which they are told apart: each test that fails leaves fewer of them.
-use mathlib.Core.Path.{_≡_, refl, sym, ap, _∙_}
-use mathlib.Core.Logic.{_⊎_, inl, inr}
+use mathlib.Core.Path.{_≡_, refl, sym, _∙_}
 use mathlib.Core.Bool.{true, false}
 use mathlib.Core.List.{List, [], _∷_, _++_}
 use Prim.Native.Nat.{ℕ}
 use lib.Dec.{eqb}
 use borrow.Author.Tests.{eqb-true, eq-eqb, ne-eqb}
-use Rattle.lists.specs.Cases.{split, clash}
-use Rattle.lists.specs.Tests.{_or_, or-left, or-then, or-first, or-cases, or-neither}
-use Rattle.model.specs.Table.{isCall, oneOf}
-use Rattle.table.specs.Own.{Call, call13, call15, call16, call17, call18, call19, call20, call21, call22, call23, call32, call33, call34, call35, call36, call46, call98, call-of}
-
-abbrev pub readCalls : List ℕ
-readCalls = 20 ∷ 33 ∷ []
-
-abbrev pub writeCalls : List ℕ
-writeCalls = 21 ∷ 34 ∷ []
+use Rattle.lists.specs.Tests.{_or_, or-left, or-then, or-first, or-neither}
+use Rattle.model.specs.Table.{oneOf, isCall, readCalls, writeCalls}
+use Rattle.table.specs.Own.{Call, call13, call15, call16, call17, call18, call19, call20, call21, call22, call23, call32, call33, call34, call35, call36, call46, call98, call-of, told-apart}
 
 abbrev pub fileCalls : List ℕ
 fileCalls = 15 ∷ 16 ∷ 19 ∷ 22 ∷ 23 ∷ 35 ∷ 36 ∷ []
@@ -39,17 +31,13 @@ one-skip n c cs h = or-then _ _ (ne-eqb n c h)
 pub one-rest : (n c : ℕ) (cs : List ℕ) → (n ≡ c → ⊥) → oneOf n (c ∷ cs) ≡ true → oneOf n cs ≡ true
 one-rest n c cs h t = sym (one-skip n c cs h) ∙ t
 
--- ---- a list of one number, and of two
+-- ---- a list of one number
 pub one-last : (n c : ℕ) → oneOf n (c ∷ []) ≡ eqb n c
 unfolding oneOf
 one-last n c = or-first (eqb n c) false refl
 
 pub one-left : (n c : ℕ) → oneOf n (c ∷ []) ≡ true → n ≡ c
 one-left n c t = eqb-true n c (sym (one-last n c) ∙ t)
-
-pub one-two : (n a b : ℕ) → oneOf n (a ∷ b ∷ []) ≡ true → (n ≡ a) ⊎ (n ≡ b)
-unfolding oneOf
-one-two n a b t = split (or-cases _ _ t) (λ x. inl (eqb-true n a x)) (λ x. inr (one-left n b x))
 
 -- ---- not among the first numbers: among those that follow
 pub one-outside : (n : ℕ) (cs ds : List ℕ) → oneOf n cs ≡ false → oneOf n (cs ++ ds) ≡ true → oneOf n ds ≡ true
@@ -85,4 +73,4 @@ call-own n t h = own-listed (call-of n t) h
 
 pub not-log-in : (n : ℕ) → oneOf n ownCalls ≡ true → n ≡ 13 → ⊥
 unfolding oneOf _or_
-not-log-in n t q = clash (sym t ∙ ap (λ (m : ℕ). oneOf m ownCalls) q)
+not-log-in n t = told-apart n 13 ownCalls t refl

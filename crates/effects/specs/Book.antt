@@ -17,7 +17,7 @@ use Rattle.model.specs.declared.Answer.{Answer}
 use Rattle.model.specs.Lent.{Lent, rowsOf, Outcome}
 use Rattle.model.specs.Closing.{takesSlot}
 use Rattle.model.specs.Target.{targetSlot, stays, blockThere}
-use Rattle.model.specs.Table.{oneOf}
+use Rattle.model.specs.Table.{oneOf, recordCalls, readCalls, writeCalls}
 
 -- the place that each block is held for, written as its note would be (`pendingFor`); 0 where it is not held
 abbrev pub Book : Type 0
@@ -44,7 +44,7 @@ enteredFor b e j u c = cond (eqb c b) (pendingFor e j) (u c)
 
 -- ---- the answer of an accepted call: H is 0, and A is 0 for the record calls, not 255 for the others
 unfoldable pub acceptedAnswer : ℕ → Answer → Bool
-acceptedAnswer n a = eqb (a .h) 0 and cond (oneOf n (20 ∷ 21 ∷ 33 ∷ 34 ∷ [])) (eqb (a .a) 0) (not (eqb (a .a) 255))
+acceptedAnswer n a = eqb (a .h) 0 and cond (oneOf n recordCalls) (eqb (a .a) 0) (not (eqb (a .a) 255))
 
 -- ---- call by call: call n of the user was given l
 module _ (G : Geometry) (n user : ℕ) (l : Lent) where
@@ -80,8 +80,8 @@ module _ (G : Geometry) (n user : ℕ) (l : Lent) where
         cond (oneOf n (13 ∷ 98 ∷ [])) nothingHeld
         (cond (oneOf n (16 ∷ [])) (closedBook u)
         (cond (oneOf n (19 ∷ [])) (deletedBook u)
-        (cond (oneOf n (20 ∷ 33 ∷ [])) (movedBook u)
-        (cond (oneOf n (21 ∷ 34 ∷ [])) (writtenBook u) u))))
+        (cond (oneOf n readCalls) (movedBook u)
+        (cond (oneOf n writeCalls) (writtenBook u) u))))
 
 -- the book after any call: a refused one leaves it
 unfoldable pub bookStep : Geometry → ℕ → Lent → Session → Outcome → Book → Book

@@ -15,8 +15,8 @@ use Rattle.format.specs.Fcb.{fcbBytes, crOf}
 use Rattle.disk.specs.Eight.{eight-sound}
 use Rattle.model.specs.declared.Session.{Session}
 use Rattle.model.specs.Lent.{Lent}
-use Rattle.model.specs.Target.{isRandom}
 use Rattle.model.specs.Search.{patternOf, extentHit, hit}
+use Rattle.model.specs.Table.{oneOf, randomCalls}
 use Rattle.table.specs.Facts.{Ready}
 use Rattle.examples.specs.Places.{place-a, place-b, place-c, place-d}
 use Rattle.examples.specs.Erased.{Erased, Fitting, SpaceIs, erased-space}
@@ -43,8 +43,8 @@ pub record Examples : Type 0 where
   pub e : (img : Bytes) → Erased eightInch img → (map fcb buffer : Bytes) (s : Session) → Fitting eightInch map fcb buffer s → (x y : ℕ)
       → SpaceIs eightInch img (136 ∷ 7 ∷ 0 ∷ []) map fcb buffer s x y
   -- R = 262,143 is extent 2,047, record 127; 262,144 gives 6
-  pub f-last : (n argument : ℕ) (l : Lent) (s : Session) → isRandom n ≡ true → RandomIs (l .fcb) 255 255 3 → Last eightInch n argument l s
-  pub f-over : (n argument : ℕ) (l : Lent) (s : Session) → isRandom n ≡ true → Ready eightInch n l s → RandomIs (l .fcb) 0 0 4
+  pub f-last : (n argument : ℕ) (l : Lent) (s : Session) → oneOf n randomCalls ≡ true → RandomIs (l .fcb) 255 255 3 → Last eightInch n argument l s
+  pub f-over : (n argument : ℕ) (l : Lent) (s : Session) → oneOf n randomCalls ≡ true → Ready eightInch n l s → RandomIs (l .fcb) 0 0 4
       → Six eightInch n argument l s
   -- an entry of extent 2,047 with rc 128: size bytes 00H 00H 04H
   pub g : (argument : ℕ) (l : Lent) (s : Session) → Ready eightInch 35 l s → nameRight false (l .fcb) 1 ≡ true → HasEntry eightInch l s 2047 128

@@ -1,14 +1,12 @@
 -- Example f: the random record of 33 and 34.
-use mathlib.Core.Path.{_≡_, refl, sym, subst, _∙_}
+use mathlib.Core.Path.{_≡_, refl, _∙_}
 use mathlib.Core.Bool.{true}
 use Prim.Native.Nat.{ℕ, _+_, _*_}
 use native.Mathlib.Omega.{arith}
-use lib.Dec.{eqb}
 use lib.ListN.{getD}
-use borrow.Author.Tests.{lt-ltb, eqb-true}
-use Rattle.lists.specs.Cases.{split}
-use Rattle.lists.specs.Tests.{or-cases}
-use Rattle.format.specs.Diskette.{Bytes, Geometry}
+use borrow.Author.Tests.{lt-ltb}
+use Rattle.lists.specs.Tests.{_or_}
+use Rattle.format.specs.Diskette.{Bytes, Geometry, lastRecord}
 use Rattle.format.specs.Fcb.{randomOf}
 use Rattle.model.specs.declared.Session.{Session}
 use Rattle.model.specs.declared.Code.the-variants.{BadRecord}
@@ -16,10 +14,10 @@ use Rattle.model.specs.declared.Verdict.the-variants.{Refused}
 use Rattle.model.specs.Codes.{aOf, hOf}
 use Rattle.model.specs.Lent.{Lent}
 use Rattle.model.specs.Target.{isRandom, targetExtent, targetRecord}
-use Rattle.model.specs.Table.{verdict}
+use Rattle.model.specs.Table.{oneOf, randomCalls, verdict}
 use Rattle.model.specs.Step.{refused, step}
-use Rattle.table.specs.First.{here}
-use Rattle.table.specs.Own.{call33, call34}
+use Rattle.table.specs.First.{_&_, here}
+use Rattle.table.specs.Own.{call33, call34, at-one}
 use Rattle.table.specs.Facts.{Ready}
 use Rattle.fields.specs.Target.{extent-random, record-random}
 use Rattle.table.specs.Refuse.{random-over}
@@ -45,14 +43,14 @@ six : (G : Geometry) (n argument : ℕ) (l : Lent) (s : Session) → step G (ask
 unfolding aOf hOf
 six G n argument l s q = record { refuses = q; is-a = rw q; is-h = rw q }
 
-pub random-six : (G : Geometry) (n argument : ℕ) (l : Lent) (s : Session) → isRandom n ≡ true → Ready G n l s → RandomIs (l .fcb) 0 0 4 → Six G n argument l s
+pub random-six : (G : Geometry) (n argument : ℕ) (l : Lent) (s : Session) → oneOf n randomCalls ≡ true → Ready G n l s
+    → RandomIs (l .fcb) 0 0 4 → Six G n argument l s
 random-six G n argument l s which ready r =
-    let over = lt-ltb 262143 (randomOf (l .fcb)) (omega (arith, random-is (l .fcb) 0 0 4 r)) in
-    split (or-cases (eqb n 33) (eqb n 34) which)
-    (λ e. subst (λ (n : ℕ). Ready G n l s → Six G n argument l s) (sym (eqb-true n 33 e))
-    (λ p. six G 33 argument l s (step-refused G (ask 33 argument) l s call33 BadRecord p (here over refl))) ready)
-    (λ e. subst (λ (n : ℕ). Ready G n l s → Six G n argument l s) (sym (eqb-true n 34 e))
-    (λ p. six G 34 argument l s (step-refused G (ask 34 argument) l s call34 BadRecord p (here over refl))) ready)
+    let over = lt-ltb lastRecord (randomOf (l .fcb)) (omega (arith, random-is (l .fcb) 0 0 4 r)) in
+    six G n argument l s
+    (at-one (λ (m : ℕ). Ready G m l s → step G (ask m argument) l s ≡ refused BadRecord s l) n randomCalls which
+    ((λ p. step-refused G (ask 33 argument) l s call33 BadRecord p (here over refl))
+    & (λ p. step-refused G (ask 34 argument) l s call34 BadRecord p (here over refl)) & tt) ready)
 
 -- 262,143 is the last that is taken: record 127 of extent 2,047
 pub record Last (G : Geometry) (n argument : ℕ) (l : Lent) (s : Session) : Type 0 where
@@ -60,11 +58,14 @@ pub record Last (G : Geometry) (n argument : ℕ) (l : Lent) (s : Session) : Typ
   pub is-record : targetRecord n (l .fcb) ≡ 127
   pub not-six : verdict G n argument l s ≡ Refused BadRecord → ⊥
 
-pub random-last : (G : Geometry) (n argument : ℕ) (l : Lent) (s : Session) → isRandom n ≡ true → RandomIs (l .fcb) 255 255 3 → Last G n argument l s
+pub random-last : (G : Geometry) (n argument : ℕ) (l : Lent) (s : Session) → oneOf n randomCalls ≡ true → RandomIs (l .fcb) 255 255 3
+    → Last G n argument l s
+unfolding _or_
 random-last G n argument l s which r =
-    let is : randomOf (l .fcb) ≡ 262143 = random-is (l .fcb) 255 255 3 r in
+    let is : randomOf (l .fcb) ≡ lastRecord = random-is (l .fcb) 255 255 3 r in
+    let random = at-one (λ (m : ℕ). isRandom m ≡ true) n randomCalls which (refl & refl & tt) in
     record {
-      extent = extent-random n (l .fcb) which ∙ rw is;
-      is-record = record-random n (l .fcb) which ∙ rw is;
+      extent = extent-random n (l .fcb) random ∙ rw is;
+      is-record = record-random n (l .fcb) random ∙ rw is;
       not-six = λ q. omega (arith, random-over G argument l s n q);
     }

@@ -13,10 +13,9 @@ use Rattle.format.specs.Entries.{exOf}
 use Rattle.model.specs.declared.Code.the-variants.{BadName}
 use Rattle.format.specs.declared.Found.the-variants.{At}
 use Rattle.model.specs.Lent.{Lent, rowsOf}
-use Rattle.model.specs.Table.{Row, askedEntry}
+use Rattle.model.specs.Table.{Row, when, askedEntry}
 use Rattle.facts.specs.Find.{file-says}
 use Rattle.table.specs.First.{Decides, here, later}
-use Rattle.table.specs.Own.{when}
 use Rattle.table.specs.Reflect.{second-fails}
 
 -- the name obeys the name rule, and byte 12 is an ex

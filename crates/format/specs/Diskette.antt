@@ -44,6 +44,10 @@ extentRecords = 128
 abbrev pub extents : ℕ
 extents = 2048
 
+-- the last record of the last extent: 262,143
+abbrev pub lastRecord : ℕ
+lastRecord = extents * extentRecords - 1
+
 -- the physical sectors of the 8-inch disk, from logical 0 on
 unfoldable pub skew : List ℕ
 skew = 1 ∷ 7 ∷ 13 ∷ 19 ∷ 25 ∷ 5 ∷ 11 ∷ 17 ∷ 23 ∷ 3 ∷ 9 ∷ 15 ∷ 21 ∷ 2 ∷ 8 ∷ 14 ∷ 20 ∷ 26 ∷ 6 ∷ 12 ∷ 18 ∷ 24 ∷ 4 ∷ 10 ∷ 16 ∷ 22 ∷ []

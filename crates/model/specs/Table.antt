@@ -7,7 +7,7 @@ use lib.Dec.{eqb, leb, ltb}
 use lib.ListN.{getD, length}
 use Rattle.lists.specs.Tests.{_and_, _or_}
 use Rattle.lists.specs.Below.{anyBelow}
-use Rattle.format.specs.Diskette.{Bytes, Geometry, imageBytes, recordBytes, extents}
+use Rattle.format.specs.Diskette.{Bytes, Geometry, imageBytes, recordBytes, extents, lastRecord}
 use Rattle.format.specs.Names.{nameRight}
 use Rattle.format.specs.Entries.{exOf, named, readOnly, findFile, findNamed, findEmpty}
 use Rattle.format.specs.Consistent.{extentRight, consistent}
@@ -42,6 +42,19 @@ usesFcb n = oneOf n fcbCalls
 -- there is a call of this number
 unfoldable pub isCall : ℕ → Bool
 isCall n = usesFcb n or oneOf n plainCalls
+
+-- the record calls: all of them, those that read, those that write, and those that go by the random record
+abbrev pub recordCalls : List ℕ
+recordCalls = 20 ∷ 21 ∷ 33 ∷ 34 ∷ []
+
+abbrev pub readCalls : List ℕ
+readCalls = 20 ∷ 33 ∷ []
+
+abbrev pub writeCalls : List ℕ
+writeCalls = 21 ∷ 34 ∷ []
+
+abbrev pub randomCalls : List ℕ
+randomCalls = 33 ∷ 34 ∷ []
 
 -- ---- the tests
 module _ (G : Geometry) (l : Lent) where
@@ -79,31 +92,31 @@ pub record Row : Type 0 where
   pub holds : Bool
   pub code : Code
 
+abbrev pub when : Bool → Code → Row
+when test code = record { holds = test; code = code }
+
 -- the first row that holds
 unfoldable pub firstRow : List Row → Verdict
 firstRow [] = Passed
 firstRow (r ∷ rs) = cond (r .holds) (Refused (r .code)) (firstRow rs)
 
 module _ (G : Geometry) (n argument : ℕ) (l : Lent) (s : Session) where
-  -- a row for every call, and one for the calls named
-  abbrev pub every : Bool → Code → Row
-  every when code = record { holds = when; code = code }
-
+  -- a row for the calls named
   abbrev pub row : List ℕ → Bool → Code → Row
-  row calls when code = record { holds = oneOf n calls and when; code = code }
+  row calls test code = when (oneOf n calls and test) code
 
   unfoldable pub table : List Row
   table =
       -- 255, 255
-      every (not (isCall n)) NotListed
+      when (not (isCall n)) NotListed
       -- 255, 4
-      ∷ every (not (parametersRight G l n s)) BadParameter
+      ∷ when (not (parametersRight G l n s)) BadParameter
       -- 255, 1
-      ∷ every (not (diskRight G l n)) BadDisk
+      ∷ when (not (diskRight G l n)) BadDisk
       -- 6, 0
-      ∷ row (33 ∷ 34 ∷ []) (ltb 262143 (randomOf (l .fcb))) BadRecord
+      ∷ row randomCalls (ltb lastRecord (randomOf (l .fcb))) BadRecord
       -- 9, 0
-      ∷ row (20 ∷ 21 ∷ 33 ∷ 34 ∷ []) (not (isFound (presentEntry G (s .user) l))) NotCurrent
+      ∷ row recordCalls (not (isFound (presentEntry G (s .user) l))) NotCurrent
       -- 255, 0
       ∷ row (16 ∷ []) (not (isFound (presentEntry G (s .user) l))) Failed
       ∷ row (36 ∷ []) (not (positionRight (l .fcb))) Failed
@@ -124,24 +137,24 @@ module _ (G : Geometry) (n argument : ℕ) (l : Lent) (s : Session) where
       -- 255, 3
       ∷ row (19 ∷ []) (anyReadOnly G l true (s .user)) ReadOnly
       ∷ row (23 ∷ []) (anyReadOnly G l false (s .user)) ReadOnly
-      ∷ row (21 ∷ 34 ∷ []) (readOnlyThere G n (s .user) l) ReadOnly
+      ∷ row writeCalls (readOnlyThere G n (s .user) l) ReadOnly
       -- 255, 8
       ∷ row (22 ∷ []) (isFound (askedEntry G l (s .user))) Exists
       ∷ row (23 ∷ []) (anyNamed G l false (s .user) 17) Exists
       -- 255, 0
       ∷ row (22 ∷ []) (not (isFound (findEmpty G (rowsOf G l)))) Failed
       -- 3, 0: stands behind 9, 0, so that it never decides (crate table, `never-not-closed`)
-      ∷ row (20 ∷ 21 ∷ 33 ∷ 34 ∷ []) (not (stays n (l .fcb)) and not (isFound (presentEntry G (s .user) l))) NotClosed
+      ∷ row recordCalls (not (stays n (l .fcb)) and not (isFound (presentEntry G (s .user) l))) NotClosed
       -- 4, 0
       ∷ row (33 ∷ []) (not (isFound (targetEntry G n (s .user) l))) NoExtent
       -- 1, 0
-      ∷ row (20 ∷ 33 ∷ []) (not (recordThere G n (s .user) l)) NoRecord
+      ∷ row readCalls (not (recordThere G n (s .user) l)) NoRecord
       -- 1, 0 (21) or 5, 0 (34)
       ∷ row (21 ∷ []) (leb extents (targetExtent n (l .fcb))) NoRecord
       ∷ row (21 ∷ []) (not (isFound (targetEntry G n (s .user) l)) and not (isFound (findEmpty G (rowsOf G l)))) NoRecord
       ∷ row (34 ∷ []) (not (isFound (targetEntry G n (s .user) l)) and not (isFound (findEmpty G (rowsOf G l)))) NoEntry
       -- 2, 0
-      ∷ row (21 ∷ 34 ∷ []) (eqb (blockThere G n (s .user) l) 0 and not (isFound (findFree G (l .map)))) DiskFull
+      ∷ row writeCalls (eqb (blockThere G n (s .user) l) 0 and not (isFound (findFree G (l .map)))) DiskFull
       ∷ []
 
   unfoldable pub verdict : Verdict

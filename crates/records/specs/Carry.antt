@@ -1,7 +1,7 @@
 -- A plan carried out: the FCB comes to the target's extent, and the record is read or written there. The plan matters to the first
 -- half alone, and the kind of call to the second.
 use mathlib.Core.Path.{_≡_, refl}
-use mathlib.Core.Logic.{_⊎_}
+use mathlib.Core.Bool.{true}
 use Prim.Native.Nat.{ℕ, _<_}
 use Rattle.format.specs.Diskette.{Geometry}
 use Rattle.model.specs.declared.Session.{Session}
@@ -12,6 +12,7 @@ use Rattle.model.specs.declared.Plan.{Plan}
 use Rattle.model.specs.declared.Plan.the-variants.{Stay, Move, Make}
 use Rattle.model.specs.Lent.{Lent, answerOf, ended}
 use Rattle.model.specs.Target.{targetRecord, targetSlot, crAfter, moved, made, haveRead, haveWritten}
+use Rattle.model.specs.Table.{oneOf, readCalls, writeCalls}
 use Rattle.model.specs.Calls.{readAt, reading, writtenAt, writing}
 use Rattle.model.specs.Step.{refusedSession}
 use Rattle.table.specs.Own.{Call}
@@ -62,7 +63,7 @@ block-within G (Make e t b) w = w .2
 
 -- ---- the calls: refused with nothing changed, or the plan carried out
 module _ (G : Geometry) (argument n : ℕ) (l : Lent) (s : Session) (r : Answer) where
-  module _ (which : (n ≡ 20) ⊎ (n ≡ 33)) (c : Call n) where
+  module _ (which : oneOf n readCalls ≡ true) (c : Call n) where
     pub read-refused : (code : Code) → readRuling G n (s .user) l ≡ Refuse code → r ≡ answerOf code (refusedSession code s)
         → record { answer = r; lent = l } ≡ ownStep G argument l s c
     read-refused code q h = rw (own-read G argument l s n which c, q, h)
@@ -73,7 +74,7 @@ module _ (G : Geometry) (argument n : ℕ) (l : Lent) (s : Session) (r : Answer)
     unfolding readAt
     read-carried p left q h k = rw (own-read G argument l s n which c, q, reading-by G s l n p, h, k)
 
-  module _ (which : (n ≡ 21) ⊎ (n ≡ 34)) (c : Call n) where
+  module _ (which : oneOf n writeCalls ≡ true) (c : Call n) where
     pub write-refused : (code : Code) → writeRuling G n (s .user) l ≡ Refuse code → r ≡ answerOf code (refusedSession code s)
         → record { answer = r; lent = l } ≡ ownStep G argument l s c
     write-refused code q h = rw (own-write G argument l s n which c, q, h)

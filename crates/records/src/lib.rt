@@ -1,7 +1,6 @@
 // The record calls carried out: the FCB comes to the target's extent, and a record is read or written there.
 ghost use mathlib.Core.Path.{_≡_};
 ghost use mathlib.Core.Bool.{true};
-ghost use mathlib.Core.Logic.{_⊎_};
 ghost use Prim.Native.Nat.{ℕ, _≤_, _<_};
 ghost use lib.ListN.{length};
 ghost use Rattle.format.specs.Diskette.{Bytes, eightInch, imageBytes, recordBytes, extents, extentRecords};
@@ -10,6 +9,7 @@ ghost use Rattle.format.specs.Consistent.{consistent};
 ghost use Rattle.format.specs.Fcb.{fcbBytes};
 ghost use Rattle.model.specs.Lent.{lend, outcome};
 ghost use Rattle.model.specs.Target.{targetExtent, moved, made, haveRead, haveWritten};
+ghost use Rattle.model.specs.Table.{oneOf, readCalls, writeCalls};
 ghost use Rattle.chains.specs.Chain.{Indexed};
 ghost use Rattle.table.specs.Own.{Call};
 ghost use Rattle.table.specs.OwnStep.{ownStep};
@@ -146,7 +146,7 @@ pub fn read_call(
 ) -> Answer
     requires { ⌜ (length (now image) ≡ imageBytes eightInch) × (length (now map) ≡ eightInch .blocks) × (length (now fcb) ≡ fcbBytes)
         × (length (now buffer) ≡ recordBytes) × (session .user ≤ 15) × (consistent eightInch (now image) ≡ true)
-        × ((number ≡ 20) ⊎ (number ≡ 33)) × Indexed eightInch (entryAt eightInch (now image)) (now chain) ⌝ }
+        × (oneOf number readCalls ≡ true) × Indexed eightInch (entryAt eightInch (now image)) (now chain) ⌝ }
     ensures { λ r. ⌜ ((argument : ℕ) (c : Call number) → outcome r (now (image .exit)) (now (map .exit)) (now (fcb .exit)) (now (buffer .exit))
         ≡ ownStep eightInch argument (lend (now (image .entry)) (now (map .entry)) (now (fcb .entry)) (now (buffer .entry))) session c) ⌝ }
 {
@@ -172,7 +172,7 @@ pub fn write_call(
 ) -> Answer
     requires { ⌜ (length (now image) ≡ imageBytes eightInch) × (length (now map) ≡ eightInch .blocks) × (length (now fcb) ≡ fcbBytes)
         × (length (now buffer) ≡ recordBytes) × (session .user ≤ 15) × (consistent eightInch (now image) ≡ true)
-        × ((number ≡ 21) ⊎ (number ≡ 34)) × Indexed eightInch (entryAt eightInch (now image)) (now chain) ⌝ }
+        × (oneOf number writeCalls ≡ true) × Indexed eightInch (entryAt eightInch (now image)) (now chain) ⌝ }
     ensures { λ r. ⌜ ((argument : ℕ) (c : Call number) → outcome r (now (image .exit)) (now (map .exit)) (now (fcb .exit)) (now (buffer .entry))
         ≡ ownStep eightInch argument (lend (now (image .entry)) (now (map .entry)) (now (fcb .entry)) (now (buffer .entry))) session c) ⌝ }
 {

@@ -20,8 +20,7 @@ use Rattle.model.specs.declared.Plan.{Plan}
 use Rattle.model.specs.declared.Plan.the-variants.{Make}
 use Rattle.model.specs.Lent.{Lent, rowsOf}
 use Rattle.model.specs.Target.{targetExtent, presentEntry, targetEntry, blockThere, recordThere, readOnlyThere, plan}
-use Rattle.model.specs.Table.{Row, firstRow}
-use Rattle.table.specs.Own.{when}
+use Rattle.model.specs.Table.{Row, when, firstRow}
 use Rattle.targets.specs.Target.{overLast, missingCode, arrivedSlot, arrivedCount, goTo}
 use Rattle.rulings.specs.declared.Ruling.{Ruling}
 use Rattle.rulings.specs.declared.Ruling.the-variants.{Refuse, Follow}

@@ -7,7 +7,8 @@ use lib.Dec.{eqb, ltb}
 use borrow.Author.Tests.{leb-false, lt-leb, ltb-false, le-ltb, ne-eqb, eq-eqb, not-false}
 use Rattle.lists.specs.Cases.{split, bool-cases, eq-or-ne}
 use Rattle.lists.specs.Tests.{_and_, _or_, and-fails-left, and-fails-right}
-use Rattle.format.specs.Diskette.{Bytes, Geometry, extents}
+use Rattle.format.specs.Diskette.{Bytes, Geometry, extentRecords, extents, lastRecord}
+use Rattle.format.specs.Entries.{findEmpty}
 use Rattle.format.specs.Consistent.{consistent}
 use Rattle.format.specs.Notes.{findFree}
 use Rattle.format.specs.Fcb.{randomOf}
@@ -16,26 +17,26 @@ use Rattle.facts.specs.Found.{FoundAt, not-found}
 use Rattle.model.specs.declared.Session.{Session}
 use Rattle.model.specs.declared.Code.the-variants.{NotListed}
 use Rattle.model.specs.declared.Verdict.the-variants.{Passed}
-use Rattle.model.specs.Lent.{Lent}
-use Rattle.model.specs.Target.{isRandom, targetExtent, presentEntry, targetEntry, recordThere, blockThere}
+use Rattle.model.specs.Lent.{Lent, rowsOf}
+use Rattle.model.specs.Target.{isRandom, targetExtent, presentEntry, targetEntry, recordThere, blockThere, readOnlyThere}
 use Rattle.model.specs.Table.{isCall, parametersRight, diskRight, verdict}
 use Rattle.table.specs.First.{_&_, NoneHolds, passed-none, none-passed, passed-refused}
 use Rattle.table.specs.Own.{Call, call13, call15, call16, call17, call18, call19, call20, call21, call22, call23, call32, call33, call34, call35, call36, call46, call98, call-of, ownRows, rowsFor, verdict-rows, verdict-unlisted}
 use Rattle.table.specs.Present.{there-target, file-extent-below}
-use Rattle.table.specs.Facts.{Reads, Own, Ready, AcceptedCall}
+use Rattle.table.specs.Facts.{Reads, Writes, Own, Ready, AcceptedCall}
 use Rattle.table.specs.Reflect.{found, missed, second-fails, either-found, either-missed, pattern-of, pattern-right, argument-of, argument-right, parameters-right, disk-right, ready-of, some-of, some-right, none-of, none-right, writable-of, writable-right, positions-of, positions-right}
 
 -- the target's extent of 33 and 34 is below 2,048 exactly where the random record is at most 262,143
-pub random-below : (n : ℕ) (fcb : Bytes) → isRandom n ≡ true → ltb 262143 (randomOf fcb) ≡ false → targetExtent n fcb < extents
+pub random-below : (n : ℕ) (fcb : Bytes) → isRandom n ≡ true → ltb lastRecord (randomOf fcb) ≡ false → targetExtent n fcb < extents
 unfolding targetExtent
-random-below n fcb r h = rw r (omega (arith, ltb-false 262143 (randomOf fcb) h))
+random-below n fcb r h = rw r (omega (arith, ltb-false lastRecord (randomOf fcb) h))
 
-pub random-most : (n : ℕ) (fcb : Bytes) → isRandom n ≡ true → targetExtent n fcb < extents → randomOf fcb ≤ 262143
+pub random-most : (n : ℕ) (fcb : Bytes) → isRandom n ≡ true → targetExtent n fcb < extents → randomOf fcb ≤ lastRecord
 unfolding targetExtent
-random-most n fcb r h = let below : randomOf fcb / 128 < extents = rw r at h in omega arith
+random-most n fcb r h = let below : randomOf fcb / extentRecords < extents = rw r at h in omega arith
 
-pub random-low : (n : ℕ) (fcb : Bytes) → isRandom n ≡ true → targetExtent n fcb < extents → ltb 262143 (randomOf fcb) ≡ false
-random-low n fcb r h = le-ltb 262143 (randomOf fcb) (random-most n fcb r h)
+pub random-low : (n : ℕ) (fcb : Bytes) → isRandom n ≡ true → targetExtent n fcb < extents → ltb lastRecord (randomOf fcb) ≡ false
+random-low n fcb r h = le-ltb lastRecord (randomOf fcb) (random-most n fcb r h)
 
 module _ (G : Geometry) (l : Lent) (s : Session) where
   -- ---- from the rows to the facts
@@ -53,6 +54,18 @@ module _ (G : Geometry) (l : Lent) (s : Session) where
         there = there;
       }
 
+  writes-of : (n : ℕ) → not (isFound (presentEntry G (s .user) l)) ≡ false → readOnlyThere G n (s .user) l ≡ false → targetExtent n (l .fcb) < extents
+      → (not (isFound (targetEntry G n (s .user) l)) and not (isFound (findEmpty G (rowsOf G l)))) ≡ false
+      → (eqb (blockThere G n (s .user) l) 0 and not (isFound (findFree G (l .map)))) ≡ false → Writes G l s n
+  writes-of n p w x r b =
+      record {
+        entry = found _ p;
+        writable = w;
+        extent = x;
+        room = either-found _ _ r;
+        block = λ z. found _ (second-fails _ _ b (eq-eqb _ _ z));
+      }
+
   own-of : (argument : ℕ) {n : ℕ} (c : Call n) → consistent G (l .image) ≡ true → s .user ≤ 15 → NoneHolds (ownRows G argument l s c) → Own G l s argument c
   unfolding _or_
   own-of a call13 right low h = tt
@@ -63,14 +76,7 @@ module _ (G : Geometry) (l : Lent) (s : Session) where
   own-of a call19 right low h =
       record { name = not-false _ (h .0); files = record { some = some-of G l s true 1 (h .1 .0); writable = writable-of G l s true (h .1 .1 .0) } }
   own-of a call20 right low h = read-of 20 right low (h .0) (h .1 .1 .0)
-  own-of a call21 right low h =
-      record {
-        entry = found _ (h .0);
-        writable = h .1 .0;
-        extent = leb-false _ _ (h .1 .1 .1 .0);
-        room = either-found _ _ (h .1 .1 .1 .1 .0);
-        block = λ z. found _ (second-fails _ _ (h .1 .1 .1 .1 .1 .0) (eq-eqb _ _ z));
-      }
+  own-of a call21 right low h = writes-of 21 (h .0) (h .1 .0) (leb-false _ _ (h .1 .1 .1 .0)) (h .1 .1 .1 .1 .0) (h .1 .1 .1 .1 .1 .0)
   own-of a call22 right low h =
       record { name = not-false _ (h .0); ex = ltb-false _ _ (h .1 .0); new = not-found _ (h .1 .1 .0); entry = found _ (h .1 .1 .1 .0) }
   own-of a call23 right low h =
@@ -83,13 +89,7 @@ module _ (G : Geometry) (l : Lent) (s : Session) where
   own-of a call32 right low h = argument-of a (h .0)
   own-of a call33 right low h = read-of 33 right low (h .1 .0) (h .1 .1 .1 .1 .0)
   own-of a call34 right low h =
-      record {
-        entry = found _ (h .1 .0);
-        writable = h .1 .1 .0;
-        extent = random-below 34 (l .fcb) refl (h .0);
-        room = either-found _ _ (h .1 .1 .1 .1 .0);
-        block = λ z. found _ (second-fails _ _ (h .1 .1 .1 .1 .1 .0) (eq-eqb _ _ z));
-      }
+      writes-of 34 (h .1 .0) (h .1 .1 .0) (random-below 34 (l .fcb) refl (h .0)) (h .1 .1 .1 .1 .0) (h .1 .1 .1 .1 .1 .0)
   own-of a call35 right low h = record { name = not-false _ (h .0); some = some-of G l s false 1 (h .1 .0) }
   own-of a call36 right low h = positions-of G l s (h .0)
   own-of a call46 right low h = tt

@@ -1,26 +1,25 @@
 -- The calls by their numbers, and the rows of the table that apply to each: the whole table decides as they do.
 use mathlib.Core.Path.{_≡_, refl, sym, subst}
-use mathlib.Core.Bool.{Bool, true, false, not}
+use mathlib.Core.Bool.{true, false, not}
 use mathlib.Core.List.{List, [], _∷_}
 use Prim.Native.Nat.{ℕ}
 use lib.Dec.{eqb, leb, ltb}
 use borrow.Author.Tests.{eqb-true}
-use Rattle.lists.specs.Cases.{split, clash}
+use Rattle.lists.specs.Cases.{split, clash, not-both}
 use Rattle.lists.specs.Tests.{_and_, _or_, or-cases}
-use Rattle.format.specs.Diskette.{Geometry, extents}
+use Rattle.format.specs.Diskette.{Geometry, extents, lastRecord}
 use Rattle.format.specs.Names.{nameRight}
 use Rattle.format.specs.Entries.{exOf, findEmpty}
 use Rattle.format.specs.Notes.{findFree}
 use Rattle.format.specs.Fcb.{randomOf}
 use Rattle.format.specs.Found.{isFound}
 use Rattle.model.specs.declared.Session.{Session}
-use Rattle.model.specs.declared.Code.{Code}
 use Rattle.model.specs.declared.Code.the-variants.{NotListed, BadParameter, BadDisk, BadRecord, NotCurrent, Failed, BadName, SearchOver, ReadOnly, Exists, NotClosed, NoExtent, NoRecord, NoEntry, DiskFull}
 use Rattle.model.specs.declared.Verdict.the-variants.{Refused}
 use Rattle.model.specs.Lent.{Lent, rowsOf, searchOn}
 use Rattle.model.specs.Target.{targetExtent, stays, presentEntry, targetEntry, blockThere, recordThere, readOnlyThere}
 use Rattle.model.specs.Search.{patternOf, findHit}
-use Rattle.model.specs.Table.{oneOf, fcbCalls, plainCalls, usesFcb, isCall, parametersRight, diskRight, anyNamed, askedEntry, anyReadOnly, positionRight, Row, firstRow, table, verdict}
+use Rattle.model.specs.Table.{oneOf, fcbCalls, plainCalls, usesFcb, isCall, parametersRight, diskRight, anyNamed, askedEntry, anyReadOnly, positionRight, Row, when, firstRow, table, verdict}
 use Rattle.table.specs.First.{_&_}
 
 -- the calls
@@ -54,6 +53,36 @@ at-one P n [] h x = clash (sym h)
 at-one P n (c ∷ cs) h x =
     split (or-cases (eqb n c) (oneOf n cs) h) (λ e. subst P (sym (eqb-true n c e)) (x .0)) (λ e. at-one P n cs e (x .1))
 
+-- a list that has one number and not the other tells them apart
+pub told-apart : (n m : ℕ) (cs : List ℕ) → oneOf n cs ≡ true → oneOf m cs ≡ false → n ≡ m → ⊥
+told-apart n m cs h z q = not-both (oneOf n cs) h (rw q z)
+
+-- a number has one call, so what holds of the call of each number of a list holds of any call whose number is one of them
+pub call-one : {n : ℕ} (a b : Call n) → a ≡ b
+call-one call13 call13 = refl
+call-one call15 call15 = refl
+call-one call16 call16 = refl
+call-one call17 call17 = refl
+call-one call18 call18 = refl
+call-one call19 call19 = refl
+call-one call20 call20 = refl
+call-one call21 call21 = refl
+call-one call22 call22 = refl
+call-one call23 call23 = refl
+call-one call32 call32 = refl
+call-one call33 call33 = refl
+call-one call34 call34 = refl
+call-one call35 call35 = refl
+call-one call36 call36 = refl
+call-one call46 call46 = refl
+call-one call98 call98 = refl
+
+pub at-call : (P : (n : ℕ) → Call n → Type 0) (n : ℕ) (cs : List ℕ) → oneOf n cs ≡ true
+    → AtEach (λ (m : ℕ). (c : Call m) × P m c) cs → (c : Call n) → P n c
+at-call P n cs h x c =
+    let y = at-one (λ (m : ℕ). (c : Call m) × P m c) n cs h x in
+    subst (P n) (call-one (y .0) c) (y .1)
+
 pub call-of : (n : ℕ) → isCall n ≡ true → Call n
 unfolding isCall usesFcb
 call-of n h =
@@ -80,10 +109,6 @@ is-call call35 = refl
 is-call call36 = refl
 is-call call46 = refl
 is-call call98 = refl
-
--- a row of its own
-abbrev pub when : Bool → Code → Row
-when test code = record { holds = test; code = code }
 
 module _ (G : Geometry) (argument : ℕ) (l : Lent) (s : Session) where
   -- the rows that apply to a call alone, in the table's order
@@ -137,14 +162,14 @@ module _ (G : Geometry) (argument : ℕ) (l : Lent) (s : Session) where
       ∷ []
   ownRows call32 = when (not (eqb argument 255 or leb argument 15)) Failed ∷ []
   ownRows call33 =
-      when (ltb 262143 (randomOf (l .fcb))) BadRecord
+      when (ltb lastRecord (randomOf (l .fcb))) BadRecord
       ∷ when (not (isFound (presentEntry G (s .user) l))) NotCurrent
       ∷ when (not (stays 33 (l .fcb)) and not (isFound (presentEntry G (s .user) l))) NotClosed
       ∷ when (not (isFound (targetEntry G 33 (s .user) l))) NoExtent
       ∷ when (not (recordThere G 33 (s .user) l)) NoRecord
       ∷ []
   ownRows call34 =
-      when (ltb 262143 (randomOf (l .fcb))) BadRecord
+      when (ltb lastRecord (randomOf (l .fcb))) BadRecord
       ∷ when (not (isFound (presentEntry G (s .user) l))) NotCurrent
       ∷ when (readOnlyThere G 34 (s .user) l) ReadOnly
       ∷ when (not (stays 34 (l .fcb)) and not (isFound (presentEntry G (s .user) l))) NotClosed

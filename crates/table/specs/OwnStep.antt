@@ -11,10 +11,10 @@ use Rattle.model.specs.declared.Code.the-variants.{BadParameter, BadDisk}
 use Rattle.model.specs.declared.Verdict.{Verdict}
 use Rattle.model.specs.declared.Verdict.the-variants.{Passed, Refused}
 use Rattle.model.specs.Lent.{Lent, Outcome, outcome, answerOf}
-use Rattle.model.specs.Table.{parametersRight, diskRight, firstRow, verdict}
+use Rattle.model.specs.Table.{parametersRight, diskRight, when, firstRow, verdict}
 use Rattle.model.specs.Step.{refusedSession, refused, effect, carriedOut, step}
 use Rattle.table.specs.First.{NoneHolds, Decides, first-passes, none-passed, decides-refused}
-use Rattle.table.specs.Own.{Call, call13, call15, call16, call17, call18, call19, call20, call21, call22, call23, call32, call33, call34, call35, call36, call46, call98, when, ownRows, verdict-rows}
+use Rattle.table.specs.Own.{Call, call13, call15, call16, call17, call18, call19, call20, call21, call22, call23, call32, call33, call34, call35, call36, call46, call98, call-one, ownRows, verdict-rows}
 use Rattle.table.specs.Facts.{Ready}
 use Rattle.table.specs.Reflect.{parameters-right, disk-right}
 use Rattle.table.specs.Carried.{carriedBy, effect-is}
@@ -86,27 +86,7 @@ module _ (G : Geometry) (a b : ℕ) (l : Lent) (s : Session) where
   own-argument call46 h = own-same call46 refl refl
   own-argument call98 h = own-same call98 refl refl
 
--- ---- a number has one call
-pub call-one : {n : ℕ} (a b : Call n) → a ≡ b
-call-one call13 call13 = refl
-call-one call15 call15 = refl
-call-one call16 call16 = refl
-call-one call17 call17 = refl
-call-one call18 call18 = refl
-call-one call19 call19 = refl
-call-one call20 call20 = refl
-call-one call21 call21 = refl
-call-one call22 call22 = refl
-call-one call23 call23 = refl
-call-one call32 call32 = refl
-call-one call33 call33 = refl
-call-one call34 call34 = refl
-call-one call35 call35 = refl
-call-one call36 call36 = refl
-call-one call46 call46 = refl
-call-one call98 call98 = refl
-
--- so what it does goes by the number alone, and, but for 32, not by the argument
+-- what a call does goes by the number alone, and, but for 32, not by the argument
 module _ (G : Geometry) (l : Lent) (s : Session) {n m : ℕ} (q : n ≡ m) (c : Call n) (k : Call m) where
   pub own-at : (a : ℕ) → ownStep G a l s k ≡ ownStep G a l s c
   own-at a = subst (λ (i : ℕ). (d : Call i) → ownStep G a l s d ≡ ownStep G a l s c) q (λ d. ap (ownStep G a l s) (call-one d c)) k

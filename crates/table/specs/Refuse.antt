@@ -2,13 +2,13 @@
 use mathlib.Core.Path.{_≡_, refl, sym, ap, subst, _∙_}
 use mathlib.Core.Logic.{_⊎_}
 use mathlib.Core.Bool.{Bool, true, false, not}
-use mathlib.Core.List.{List, [], _∷_}
+use mathlib.Core.List.{List, [], _∷_, _++_}
 use Prim.Native.Nat.{ℕ, _≤_, _<_}
 use lib.Dec.{eqb, ltb}
 use borrow.Author.Tests.{ltb-true, eqb-false, not-true, not-false}
 use Rattle.lists.specs.Cases.{split, bool-cases, clash, not-both}
 use Rattle.lists.specs.Tests.{_and_, _or_, and-left, and-right}
-use Rattle.format.specs.Diskette.{Geometry}
+use Rattle.format.specs.Diskette.{Geometry, lastRecord}
 use Rattle.format.specs.Names.{nameRight}
 use Rattle.format.specs.Entries.{exOf}
 use Rattle.format.specs.Consistent.{consistent}
@@ -24,9 +24,9 @@ use Rattle.model.specs.declared.Code.the-variants.{Accepted, NotListed, BadPara
 use Rattle.model.specs.declared.Verdict.the-variants.{Refused}
 use Rattle.model.specs.Lent.{Lent, rowsOf, searchOn}
 use Rattle.model.specs.Search.{patternOf, findHit}
-use Rattle.model.specs.Table.{oneOf, isCall, parametersRight, diskRight, Row, verdict}
-use Rattle.table.specs.First.{_&_, Decides, here, later, refused-same, refused-decides, decides-refused}
-use Rattle.table.specs.Own.{when, Call, call13, call15, call16, call17, call18, call19, call20, call21, call22, call23, call32, call33, call34, call35, call36, call46, call98, at-one, call-of, ownRows, rowsFor, verdict-rows, verdict-unlisted}
+use Rattle.model.specs.Table.{oneOf, recordCalls, writeCalls, randomCalls, isCall, parametersRight, diskRight, Row, when, verdict}
+use Rattle.table.specs.First.{_&_, NoneHolds, Decides, here, later, refused-same, refused-decides, decides-refused}
+use Rattle.table.specs.Own.{Call, call13, call15, call16, call17, call18, call19, call20, call21, call22, call23, call32, call33, call34, call35, call36, call46, call98, at-one, call-of, ownRows, rowsFor, verdict-rows, verdict-unlisted}
 use Rattle.table.specs.Facts.{Ready}
 use Rattle.table.specs.Reflect.{pattern-right, parameters-right, disk-right, ready-of}
 
@@ -66,15 +66,6 @@ isCode c d = eqb (codeNumber c) (codeNumber d)
 other-code : {A : Type 0} (c d : Code) → isCode c d ≡ false → c ≡ d → A
 other-code c d h q = absurd (eqb-false (codeNumber c) (codeNumber d) h (ap codeNumber q))
 
--- a row of another code has failed
-record Behind (c : Code) (r : Row) (rs : List Row) : Type 0 where
-  failed : r .holds ≡ false
-  rest : Decides c rs
-
-behind : (c : Code) (r : Row) (rs : List Row) → isCode (r .code) c ≡ false → Decides c (r ∷ rs) → Behind c r rs
-behind c r rs n (here h q) = other-code (r .code) c n q
-behind c r rs n (later f d) = record { failed = f; rest = d }
-
 -- a code that no row has decides nothing
 abbrev Absent : Code → List Row → Type 0
 Absent c [] = Unit {0}
@@ -84,24 +75,41 @@ absent : {A : Type 0} (c : Code) (rs : List Row) → Decides c rs → Absent c r
 absent c rs (here {r = r} t q) h = other-code (r .code) c (h .0) q
 absent c rs (later {rs = ts} f d) h = absent c ts d (h .1)
 
+-- so a row that alone has it holds, where it is decided
+only-row : (test : Bool) (c : Code) (rs : List Row) → Decides c (when test c ∷ rs) → Absent c rs → test ≡ true
+only-row test c rs (here t q) a = t
+only-row test c rs (later f d) a = absent c rs d a
+
+-- and rows in front, of other codes, have failed
+record Behind (c : Code) (front rs : List Row) : Type 0 where
+  failed : NoneHolds front
+  rest : Decides c rs
+
+behind : (c : Code) (front rs : List Row) → Absent c front → Decides c (front ++ rs) → Behind c front rs
+behind c [] rs a d = record { failed = tt; rest = d }
+behind c (r ∷ front) rs a (here h q) = other-code (r .code) c (a .0) q
+behind c (r ∷ front) rs a (later f d) =
+    let b = behind c front rs (a .1) d in
+    record { failed = f & b .failed; rest = b .rest }
+
 -- ---- the rows of document 01's table that name a call, by their codes; the first three name every call
 unfoldable pub gives : ℕ → Code → Bool
 gives n (Accepted k) = false
 gives n NotListed = false
 gives n BadParameter = false
 gives n BadDisk = false
-gives n BadRecord = oneOf n (33 ∷ 34 ∷ [])
-gives n NotCurrent = oneOf n (20 ∷ 21 ∷ 33 ∷ 34 ∷ [])
+gives n BadRecord = oneOf n randomCalls
+gives n NotCurrent = oneOf n recordCalls
 gives n Failed = oneOf n (15 ∷ 16 ∷ 18 ∷ 19 ∷ 22 ∷ 23 ∷ 32 ∷ 35 ∷ 36 ∷ [])
 gives n BadName = oneOf n (15 ∷ 17 ∷ 19 ∷ 22 ∷ 23 ∷ 35 ∷ [])
 gives n SearchOver = oneOf n (17 ∷ 18 ∷ [])
 gives n ReadOnly = oneOf n (19 ∷ 21 ∷ 23 ∷ 34 ∷ [])
 gives n Exists = oneOf n (22 ∷ 23 ∷ [])
-gives n NotClosed = oneOf n (20 ∷ 21 ∷ 33 ∷ 34 ∷ [])
+gives n NotClosed = oneOf n recordCalls
 gives n NoExtent = oneOf n (33 ∷ [])
 gives n NoRecord = oneOf n (20 ∷ 21 ∷ 33 ∷ [])
 gives n NoEntry = oneOf n (34 ∷ [])
-gives n DiskFull = oneOf n (21 ∷ 34 ∷ [])
+gives n DiskFull = oneOf n writeCalls
 
 -- a search has found nothing: 17 from the first entry on, or 18, with a search on, from its place on
 pub data SearchEnds (G : Geometry) (l : Lent) (s : Session) : ℕ → Type 0 where
@@ -156,8 +164,8 @@ module _ (G : Geometry) (argument : ℕ) (l : Lent) (s : Session) where
   own-decides : (code : Code) {n : ℕ} (c : Call n) → isCode BadParameter code ≡ false → isCode BadDisk code ≡ false
       → verdict G n argument l s ≡ Refused code → Decides code (ownRows G argument l s c)
   own-decides code {n} c p d q =
-      let all = refused-decides code (rowsFor G argument l s c) (sym (verdict-rows G argument l s c) ∙ q) in
-      behind code (when (not (diskRight G l n)) BadDisk) _ d (behind code (when (not (parametersRight G l n s)) BadParameter) _ p all .rest) .rest
+      behind code (when (not (parametersRight G l n s)) BadParameter ∷ when (not (diskRight G l n)) BadDisk ∷ []) (ownRows G argument l s c)
+      (p & d & tt) (refused-decides code (rowsFor G argument l s c) (sym (verdict-rows G argument l s c) ∙ q)) .rest
 
   -- the number of a call that is refused with a code of its own rows is among those that the document gives for the code
   refused-given : (n : ℕ) (code : Code) → isCode NotListed code ≡ false → isCode BadParameter code ≡ false → isCode BadDisk code ≡ false
@@ -183,66 +191,42 @@ module _ (G : Geometry) (argument : ℕ) (l : Lent) (s : Session) where
   never-bad-disk n right map q = not-both (diskRight G l n) (disk-right G n l s right (λ z. map)) (bad-disk n (refuses n BadDisk q))
 
   -- ---- code 3 never comes out: its row asks for an FCB that is not current, and stands behind the row for that
-  no-three : (X Y : Bool) (rs : List Row) → X ≡ false → Decides NotClosed (when (Y and X) NotClosed ∷ rs) → Absent NotClosed rs → ⊥
-  no-three X Y rs f (here t q) a = not-both X (and-right Y X t) f
-  no-three X Y rs f (later g d) a = absent NotClosed rs d a
-
-  three-20 : Decides NotClosed (ownRows G argument l s call20) → ⊥
-  unfolding codeNumber
-  three-20 d = let p = behind NotClosed _ _ refl d in no-three _ _ _ (p .failed) (p .rest) (refl, tt)
-
-  three-21 : Decides NotClosed (ownRows G argument l s call21) → ⊥
-  unfolding codeNumber
-  three-21 d =
-      let p = behind NotClosed _ _ refl d in
-      let r = behind NotClosed _ _ refl (p .rest) in no-three _ _ _ (p .failed) (r .rest) (refl, (refl, (refl, tt)))
-
-  three-33 : Decides NotClosed (ownRows G argument l s call33) → ⊥
-  unfolding codeNumber
-  three-33 d =
-      let o = behind NotClosed _ _ refl d in
-      let p = behind NotClosed _ _ refl (o .rest) in no-three _ _ _ (p .failed) (p .rest) (refl, (refl, tt))
-
-  three-34 : Decides NotClosed (ownRows G argument l s call34) → ⊥
-  unfolding codeNumber
-  three-34 d =
-      let o = behind NotClosed _ _ refl d in
-      let p = behind NotClosed _ _ refl (o .rest) in
-      let r = behind NotClosed _ _ refl (p .rest) in no-three _ _ _ (p .failed) (r .rest) (refl, (refl, tt))
+  no-three : (X Y : Bool) (front rs : List Row) → Absent NotClosed front → Absent NotClosed rs → (NoneHolds front → X ≡ false)
+      → Decides NotClosed (front ++ (when (Y and X) NotClosed ∷ rs)) → ⊥
+  no-three X Y front rs a b current d =
+      let p = behind NotClosed front (when (Y and X) NotClosed ∷ rs) a d in
+      not-both X (and-right Y X (only-row (Y and X) NotClosed rs (p .rest) b)) (current (p .failed))
 
   pub never-not-closed : (n : ℕ) → verdict G n argument l s ≡ Refused NotClosed → ⊥
   unfolding gives codeNumber
   never-not-closed n q =
-      at-one (λ (n : ℕ). verdict G n argument l s ≡ Refused NotClosed → ⊥) n (20 ∷ 21 ∷ 33 ∷ 34 ∷ []) (refused-given n NotClosed refl refl refl q)
-      ((λ v. three-20 (own-decides NotClosed call20 refl refl v)) & (λ v. three-21 (own-decides NotClosed call21 refl refl v))
-      & (λ v. three-33 (own-decides NotClosed call33 refl refl v)) & (λ v. three-34 (own-decides NotClosed call34 refl refl v)) & tt) q
+      at-one (λ (n : ℕ). verdict G n argument l s ≡ Refused NotClosed → ⊥) n recordCalls (refused-given n NotClosed refl refl refl q)
+      ((λ v. no-three _ _ (_ ∷ []) _ (refl & tt) (refl & tt) (λ h. h .0) (own-decides NotClosed call20 refl refl v))
+      & (λ v. no-three _ _ (_ ∷ _ ∷ []) _ (refl & refl & tt) (refl & refl & refl & tt) (λ h. h .0) (own-decides NotClosed call21 refl refl v))
+      & (λ v. no-three _ _ (_ ∷ _ ∷ []) _ (refl & refl & tt) (refl & refl & tt) (λ h. h .1 .0) (own-decides NotClosed call33 refl refl v))
+      & (λ v. no-three _ _ (_ ∷ _ ∷ _ ∷ []) _ (refl & refl & refl & tt) (refl & refl & tt) (λ h. h .1 .0) (own-decides NotClosed call34 refl refl v))
+      & tt) q
 
   -- ---- code 6 comes out only where the random record is over 262,143
-  first-row : (test : Bool) (code : Code) (rs : List Row) → Decides code (when test code ∷ rs) → Absent code rs → test ≡ true
-  first-row test code rs (here t q) a = t
-  first-row test code rs (later f d) a = absent code rs d a
-
-  pub random-over : (n : ℕ) → verdict G n argument l s ≡ Refused BadRecord → 262143 < randomOf (l .fcb)
+  pub random-over : (n : ℕ) → verdict G n argument l s ≡ Refused BadRecord → lastRecord < randomOf (l .fcb)
   unfolding gives codeNumber
   random-over n q =
-      ltb-true _ _ (at-one (λ (n : ℕ). verdict G n argument l s ≡ Refused BadRecord → ltb 262143 (randomOf (l .fcb)) ≡ true) n (33 ∷ 34 ∷ [])
+      ltb-true _ _ (at-one (λ (n : ℕ). verdict G n argument l s ≡ Refused BadRecord → ltb lastRecord (randomOf (l .fcb)) ≡ true) n randomCalls
       (refused-given n BadRecord refl refl refl q)
-      ((λ v. first-row _ BadRecord _ (own-decides BadRecord call33 refl refl v) (refl & refl & refl & refl & tt))
-      & (λ v. first-row _ BadRecord _ (own-decides BadRecord call34 refl refl v) (refl & refl & refl & refl & refl & tt)) & tt) q)
+      ((λ v. only-row _ BadRecord _ (own-decides BadRecord call33 refl refl v) (refl & refl & refl & refl & tt))
+      & (λ v. only-row _ BadRecord _ (own-decides BadRecord call34 refl refl v) (refl & refl & refl & refl & refl & tt)) & tt) q)
 
   -- ---- a search ends exactly where it has found nothing
   last-row : (r : Found) (code : Code) → Decides code (when (not (isFound r)) code ∷ []) → r ≡ Nothing
-  last-row r code (here t q) = not-found r (not-true _ t)
-  last-row r code (later f d) = absent code [] d tt
+  last-row r code d = not-found r (not-true _ (only-row _ code [] d tt))
 
   over-17 : Decides SearchOver (ownRows G argument l s call17) → SearchEnds G l s 17
   unfolding codeNumber
-  over-17 d =
-      let p = behind SearchOver _ _ refl d in let r = behind SearchOver _ _ refl (p .rest) in ends17 (last-row _ SearchOver (r .rest))
+  over-17 d = ends17 (last-row _ SearchOver (behind SearchOver (_ ∷ _ ∷ []) _ (refl & refl & tt) d .rest))
 
   over-18 : Decides SearchOver (ownRows G argument l s call18) → SearchEnds G l s 18
   unfolding codeNumber
-  over-18 d = let p = behind SearchOver _ _ refl d in ends18 (not-false _ (p .failed)) (last-row _ SearchOver (p .rest))
+  over-18 d = let p = behind SearchOver (_ ∷ []) _ (refl & tt) d in ends18 (not-false _ (p .failed .0)) (last-row _ SearchOver (p .rest))
 
   pub search-over : (n : ℕ) → verdict G n argument l s ≡ Refused SearchOver → SearchEnds G l s n
   unfolding gives codeNumber

@@ -1,7 +1,7 @@
 -- `dispatch::disk_call` meets its contract: what neither reads nor writes a record is a call on files.
 use mathlib.Core.Path.{sym, _∙_}
 use borrow.Author.Needs.{needs}
-use Rattle.dispatch.specs.Numbers.{one-two, one-outside}
+use Rattle.dispatch.specs.Numbers.{one-outside}
 use Rattle.dispatch.proofs.disk_call.Statement.{statement}
 use Rattle.dispatch.proofs.disk_call.Tie as tie
 
@@ -10,8 +10,9 @@ is-read-requires c κs = search needs
 
 read-call-requires : tie.Need-read-call-requires
 read-call-requires c κs =
-    let f = c .before .before .before .before .before .before .before .before .before .before .before .pre .1 in
-    (f .image-long, f .map-long, f .fcb-long, f .buffer-long, f .user-low, c .before .before .before .before .before .before .before .before .before .before .before .pre .2, one-two _ _ _ (sym (c .before .before .before .before .before .is-read .ensures) ∙ c .before .before .before .before .if1 .taken), c .before .before .before .before .before .before .before .before .before .before .before .pre .4)
+    let p = c .before .before .before .before .before .before .before .before .before .before .before .pre in
+    let f = p .1 in
+    (f .image-long, f .map-long, f .fcb-long, f .buffer-long, f .user-low, p .2, sym (c .before .before .before .before .before .is-read .ensures) ∙ c .before .before .before .before .if1 .taken, p .4)
 
 same-length : tie.Need-same-length
 same-length c = search needs
@@ -33,8 +34,9 @@ is-write-requires c κs = search needs
 
 write-call-requires : tie.Need-write-call-requires
 write-call-requires c κs =
-    let f = c .before .before .before .before .before .before .before .before .before .before .before .before .before .pre .1 in
-    (f .image-long, f .map-long, f .fcb-long, f .buffer-long, f .user-low, c .before .before .before .before .before .before .before .before .before .before .before .before .before .pre .2, one-two _ _ _ (sym (c .before .before .before .before .before .is-write .ensures) ∙ c .before .before .before .before .if2 .taken), c .before .before .before .before .before .before .before .before .before .before .before .before .before .pre .4)
+    let p = c .before .before .before .before .before .before .before .before .before .before .before .before .before .pre in
+    let f = p .1 in
+    (f .image-long, f .map-long, f .fcb-long, f .buffer-long, f .user-low, p .2, sym (c .before .before .before .before .before .is-write .ensures) ∙ c .before .before .before .before .if2 .taken, p .4)
 
 same-length-5 : tie.Need-same-length-5
 same-length-5 c = search needs
