@@ -188,7 +188,7 @@ module _ (G : Geometry) (d : Rows) where
       let b : x % slotCount ≡ y % slotCount = c .once-slot (listed d y) (x / slotCount) (x % slotCount) (y / slotCount) (y % slotCount) s u in
       absurd (omega arith)))
 
-  facts-alone : Consistent G d → (e : ℕ) → e < G .entries → alone G d e ≡ true
+  pub facts-alone : Consistent G d → (e : ℕ) → e < G .entries → alone G d e ≡ true
   facts-alone c e h =
       alone-intro G d e
       (λ f l t. let q : e ≡ f = c .apart e f h (omega arith) (same-used-left G (d e) (d f) t) (same-used-right G (d e) (d f) t) (same-elim G (d e) (d f) t) in omega arith)

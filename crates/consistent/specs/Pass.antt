@@ -6,7 +6,7 @@ use native.Mathlib.Nat.{add-zero}
 use native.Mathlib.Omega.{arith}
 use borrow.Author.Tests.{eq-eqb}
 use Rattle.lists.specs.Cases.{split, bool-cases, bool-ext, refute, not-both}
-use Rattle.lists.specs.Tests.{_and_, and-left, and-right, and-both, and-then, and-fails-left, or-left, or-then}
+use Rattle.lists.specs.Tests.{_and_, and-left, and-right, and-both, and-then, and-assoc, and-fails-left, or-left, or-then}
 use Rattle.lists.specs.Below.{allBelow, all-at, all-intro}
 use Rattle.format.specs.Diskette.{Bytes, Geometry, slotCount}
 use Rattle.format.specs.Entries.{Rows, slotOf, empty, used}
@@ -74,13 +74,7 @@ module _ (G : Geometry) (d : Rows) (e : ℕ) where
   -- of an entry that is not empty the rest of the rule decides
   full-right : empty (d e) ≡ false → entryRight G (d e) ≡ (rowRight (d e) and slotsRight G (d e))
   unfolding entryRight rowRight fieldsRight
-  full-right h =
-      or-then _ _ h
-      ∙ bool-ext _ _
-      (λ t. and-both _ _ (and-both _ _ (and-left _ _ t) (and-both _ _ (and-left _ _ (and-right _ _ t)) (and-left _ _ (and-right _ _ (and-right _ _ t)))))
-      (and-right _ _ (and-right _ _ (and-right _ _ t))))
-      (λ t. let r = and-left _ _ t in
-      and-both _ _ (and-left _ _ r) (and-both _ _ (and-left _ _ (and-right _ _ r)) (and-both _ _ (and-right _ _ (and-right _ _ r)) (and-right _ _ t))))
+  full-right h = or-then _ _ h ∙ simp and-assoc
 
   pub row-fails : empty (d e) ≡ false → rowRight (d e) ≡ false → entryFits G d e ≡ false
   unfolding entryFits

@@ -33,7 +33,7 @@ use Rattle.model.specs.Calls.{loggedIn, createdAt, created}
 use Rattle.model.specs.Step.{effect}
 use Rattle.fields.specs.Making.{length-madeRow, readOnly-made}
 use Rattle.fields.specs.Entering.{length-copied, first-copied, rest-copied}
-use Rattle.fields.specs.Naming.{file-used}
+use Rattle.consistency.specs.Naming.{file-used}
 use Rattle.fields.specs.Target.{extent-within}
 use Rattle.table.specs.Own.{Call, call21, call22}
 use Rattle.table.specs.Facts.{Fits, Writes, Makes, Own}

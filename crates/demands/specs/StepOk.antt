@@ -29,7 +29,7 @@ use Rattle.model.specs.Calls.{loggedIn, freed, userSet, openedAt, opened, close
 use Rattle.model.specs.Step.{effect, step}
 use Rattle.fields.specs.Making.{length-madeRow, user-made, name-made}
 use Rattle.facts.specs.Naming.{named-intro}
-use Rattle.fields.specs.Naming.{named-used}
+use Rattle.consistency.specs.Naming.{named-used}
 use Rattle.table.specs.Own.{Call, call13, call15, call16, call17, call18, call19, call20, call21, call22, call23, call32, call33, call34, call35, call36, call46, call98, at-one}
 use Rattle.table.specs.First.{_&_}
 use Rattle.table.specs.Facts.{Fits, Closes, Makes, Renames, Own, Ready}

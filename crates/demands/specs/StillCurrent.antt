@@ -22,7 +22,7 @@ use Rattle.model.specs.Calls.{openedAt, opened, closedAt, closed, createdAt, cr
 use Rattle.fields.specs.Fine.{fine-made}
 use Rattle.fields.specs.Making.{length-madeRow, user-made}
 use Rattle.facts.specs.Naming.{file-user}
-use Rattle.fields.specs.Naming.{file-used}
+use Rattle.consistency.specs.Naming.{file-used}
 use Rattle.table.specs.First.{_&_}
 use Rattle.table.specs.Own.{Call, call15, call16, call20, call21, call22, call33, call34, at-one}
 use Rattle.table.specs.Facts.{Fits, Opens, Closes, Makes, Own}

@@ -8,7 +8,7 @@ use lib.Dec.{eqb, leb, ltb}
 use lib.ListN.{getD}
 use borrow.Author.Tests.{eqb-true, eq-eqb, ne-eqb, leb-true, le-leb, ltb-false, le-ltb, not-false}
 use Rattle.lists.specs.Cases.{split, bool-cases, eq-or-ne}
-use Rattle.lists.specs.Tests.{_and_, _or_, and-left, and-right, and-both, and-fails-left, and-fails-right, and-then, or-left, or-right, or-then, or-cases}
+use Rattle.lists.specs.Tests.{_and_, _or_, and-left, and-right, and-both, and-fails-left, and-fails-right, second-fails, or-left, or-right, or-then, or-cases}
 use Rattle.lists.specs.Below.{any-never, any-empty}
 use Rattle.format.specs.Diskette.{Geometry}
 use Rattle.format.specs.Entries.{named, readOnly, findNamed}
@@ -29,10 +29,6 @@ found r h = is-found r (not-false _ h)
 
 pub missed : (r : Found) → FoundAt r → not (isFound r) ≡ false
 missed r f = found-row r (f .is)
-
--- the second test failed though the first holds
-pub second-fails : (a b : Bool) → (a and b) ≡ false → a ≡ true → b ≡ false
-second-fails a b h t = sym (and-then a b t) ∙ h
 
 pub either-found : (r q : Found) → (not (isFound r) and not (isFound q)) ≡ false → r ≡ Nothing → FoundAt q
 either-found r q h z = found q (second-fails _ _ h (missed-row r z))
