@@ -30,6 +30,9 @@ pub used-full : (r : Bytes) → used r ≡ true → empty r ≡ false
 unfolding empty
 used-full r u = let h : userOf r ≤ 15 = used-low r u in ne-eqb (userOf r) 229 (λ q. omega arith)
 
+pub empty-unused : (r : Bytes) → empty r ≡ true → used r ≡ false
+empty-unused r h = split (bool-cases (used r)) (λ u. not-both (empty r) h (used-full r u)) (λ u. u)
+
 -- so an empty entry is another than one that is used
 pub empty-elsewhere : (d : Rows) (t e : ℕ) → empty (d t) ≡ true → used (d e) ≡ true → t ≡ e → ⊥
 empty-elsewhere d t e z u q = not-both (empty (d t)) z (ap (λ (x : ℕ). empty (d x)) q ∙ used-full (d e) u)

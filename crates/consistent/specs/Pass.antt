@@ -5,7 +5,7 @@ use Prim.Native.Nat.{ℕ, zero, suc, _+_, _*_, _/_, _%_, _<_}
 use native.Mathlib.Nat.{add-zero}
 use native.Mathlib.Omega.{arith}
 use borrow.Author.Tests.{eq-eqb}
-use Rattle.lists.specs.Cases.{split, bool-cases, bool-ext, refute, not-both}
+use Rattle.lists.specs.Cases.{bool-ext, refute, not-both}
 use Rattle.lists.specs.Tests.{_and_, and-left, and-right, and-both, and-then, and-assoc, and-fails-left, or-left, or-then}
 use Rattle.lists.specs.Below.{allBelow, all-at, all-intro}
 use Rattle.format.specs.Diskette.{Bytes, Geometry, slotCount}
@@ -13,7 +13,7 @@ use Rattle.format.specs.Entries.{Rows, slotOf, empty, used}
 use Rattle.format.specs.Consistent.{slotsRight, entryRight, slotsInAll, listedOnce, alone, consistentRows}
 use Rattle.facts.specs.Marks.{markCount}
 use Rattle.consistency.specs.Listed.{listed-unused}
-use Rattle.consistency.specs.Reflect.{used-full, empty-right, alone-intro, same-used-left}
+use Rattle.consistency.specs.Reflect.{used-full, empty-unused, empty-right, alone-intro, same-used-left}
 use Rattle.heads.specs.Head.{fieldsRight, rowRight}
 use Rattle.blocks.specs.BlockMarks.{BlockMarks, markSlots, slotsFree, marks-skip, marks-row, slots-right}
 use Rattle.chains.specs.Chain.{Chained, chained-skip, Indexed}
@@ -51,9 +51,6 @@ module _ (G : Geometry) (d : Rows) where
       (all-intro _ (G .entries) (λ e h. and-right _ _ (and-right _ _ (all-at _ (G .entries) t e h))))))
 
 -- ---- one entry
-pub empty-unused : (r : Bytes) → empty r ≡ true → used r ≡ false
-empty-unused r h = split (bool-cases (used r)) (λ u. not-both (empty r) h (used-full r u)) (λ u. u)
-
 pub row-used : (r : Bytes) → rowRight r ≡ true → used r ≡ true
 unfolding rowRight
 row-used r h = and-left _ _ h

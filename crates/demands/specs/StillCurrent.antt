@@ -31,7 +31,7 @@ use Rattle.invariant.specs.Good.{Good}
 use Rattle.invariant.specs.Step.{step-accepted}
 use Rattle.effects.specs.View.{viewOf}
 use Rattle.effects.specs.Cur.{Cur, cur-current}
-use Rattle.effects.specs.Where.{NoRecord}
+use Rattle.effects.specs.Where.{WritesNone}
 use Rattle.effects.specs.Entered.{entered-cur, copied-cur, closed-cur}
 use Rattle.effects.specs.Came.{present-cur}
 use Rattle.effects.specs.Write.{written-ok, reads-ok}
@@ -68,7 +68,7 @@ module _ {G : Geometry} (S : Sound G) (argument : ℕ) (l : Lent) (s : Session) 
       rw (c .entry .is)
       record {
         entry = e;
-        cur = closed-cur S (l .image) (l .map) g (s .user) (f .user-low) (l .fcb) (f .fcb-long) e (present-cur S 16 l s g f e (c .entry .is) NoRecord);
+        cur = closed-cur S (l .image) (l .map) g (s .user) (f .user-low) (l .fcb) (f .fcb-long) e (present-cur S 16 l s g f e (c .entry .is) WritesNone);
       }
 
   -- 22

@@ -25,7 +25,7 @@ use Rattle.table.specs.Plans as Plans
 use Rattle.invariant.specs.Good.{Good}
 use Rattle.effects.specs.View.{viewOf, mine-high}
 use Rattle.effects.specs.Cur.{Cur, cur-uses, cur-mine, Holds}
-use Rattle.effects.specs.Where.{NoRecord, Theirs, was-free, OneRecord}
+use Rattle.effects.specs.Where.{WritesNone, Theirs, was-free, OneRecord}
 use Rattle.effects.specs.Book.{Book, movedBook, entryAfter, writtenBook}
 use Rattle.effects.specs.Change.{Change, then-change, as-change}
 use Rattle.effects.specs.Closed.{byName}
@@ -54,7 +54,7 @@ pub record WriteOk (G : Geometry) (n user : ℕ) (l left : Lent) : Type 0 where
   pub holds : Holds G (viewOf G (left .image) (left .map)) user (left .fcb) entry (targetRecord n (l .fcb)) (l .buffer)
 
 pub record ReadOk (G : Geometry) (n user : ℕ) (l left : Lent) : Type 0 where
-  pub change : Change G (byName user (l .fcb)) NoRecord (movedBook G n user l) (l .image) (l .map) (left .image) (left .map)
+  pub change : Change G (byName user (l .fcb)) WritesNone (movedBook G n user l) (l .image) (l .map) (left .image) (left .map)
   pub fcb : HandedBack n l left
   pub entry : ℕ
   pub cur : Cur G (viewOf G (left .image) (left .map)) user (left .fcb) entry
@@ -178,11 +178,11 @@ module _ {G : Geometry} (S : Sound G) (n : ℕ) (l : Lent) (s : Session) (g : Go
     }
 
   -- ---- a read
-  pub read-ok : (there : Lent) (t b : ℕ) (B : Book → Book) → CameTo G n (s .user) l there t NoRecord B
+  pub read-ok : (there : Lent) (t b : ℕ) (B : Book → Book) → CameTo G n (s .user) l there t WritesNone B
       → ReadOk G n (s .user) l (haveRead G b (targetRecord n (l .fcb)) (crAfter n (l .fcb)) there)
   unfolding haveRead
   read-ok there t b B came = record {
-    change = as-change G (byName (s .user) (l .fcb)) (byName (s .user) (l .fcb)) NoRecord NoRecord B (movedBook G n (s .user) l) (l .image) (l .map) (there .image) (there .map)
+    change = as-change G (byName (s .user) (l .fcb)) (byName (s .user) (l .fcb)) WritesNone WritesNone B (movedBook G n (s .user) l) (l .image) (l .map) (there .image) (there .map)
         (λ x h. h) (λ d w. w) (λ u x h. ap (λ (v : Book). v x) (came .book u)) (came .change);
     fcb = record {
       long = length-set (there .fcb) 32 (crAfter n (l .fcb)) ∙ came .long;
@@ -197,7 +197,7 @@ module _ {G : Geometry} (S : Sound G) (n : ℕ) (l : Lent) (s : Session) (g : Go
 -- ---- every plan
 module _ {G : Geometry} (S : Sound G) (n : ℕ) (l : Lent) (s : Session) (g : Good G (l .image) (l .map)) (f : Fits G l s) where
   current-cr : (e : ℕ) → presentEntry G (s .user) l ≡ At e → crOf (l .fcb) ≤ 128
-  current-cr e at = fcb-says (l .fcb) (present-cur S n l s g f e at NoRecord .right) .cr
+  current-cr e at = fcb-says (l .fcb) (present-cur S n l s g f e at WritesNone .right) .cr
 
   module _ (low : targetExtent n (l .fcb) < extents) where
     write-plan : (p : Plan) → Planned G n (s .user) l (Block G n (s .user) l) p → WriteOk G n (s .user) l (writing G s l n p .lent)
@@ -213,9 +213,9 @@ module _ {G : Geometry} (S : Sound G) (n : ℕ) (l : Lent) (s : Session) (g : Go
 
     read-plan : (B : ℕ → Type 0) (p : Plan) → Planned G n (s .user) l B p → ReadOk G n (s .user) l (reading G s l n p .lent)
     unfolding readAt
-    read-plan B p (stay e b at t target k) = read-ok S n l s g f (current-cr e at) l e b _ (stay-came S n l s g f e at NoRecord t)
-    read-plan B p (move e t b at go target k) = read-ok S n l s g f (current-cr e at) (moved G l e t) t b _ (move-came S n l s g f e at NoRecord go t target)
-    read-plan B p (make e t b at go none room k) = read-ok S n l s g f (current-cr e at) (made G (targetExtent n (l .fcb)) l e t) t b _ (make-came S n l s g f e at NoRecord go t room none low)
+    read-plan B p (stay e b at t target k) = read-ok S n l s g f (current-cr e at) l e b _ (stay-came S n l s g f e at WritesNone t)
+    read-plan B p (move e t b at go target k) = read-ok S n l s g f (current-cr e at) (moved G l e t) t b _ (move-came S n l s g f e at WritesNone go t target)
+    read-plan B p (make e t b at go none room k) = read-ok S n l s g f (current-cr e at) (made G (targetExtent n (l .fcb)) l e t) t b _ (make-came S n l s g f e at WritesNone go t room none low)
 
   -- 21 and 34
   pub written-ok : Writes G l s n → WriteOk G n (s .user) l (written G s l n .lent)

@@ -8,3 +8,4 @@ pub mod Numbers
 pub mod Target
 pub mod Size
 pub mod Changing
+pub mod Erased
