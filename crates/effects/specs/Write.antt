@@ -215,7 +215,8 @@ module _ {G : Geometry} (S : Sound G) (n : ℕ) (l : Lent) (s : Session) (g : Go
     unfolding readAt
     read-plan B p (stay e b at t target k) = read-ok S n l s g f (current-cr e at) l e b _ (stay-came S n l s g f e at WritesNone t)
     read-plan B p (move e t b at go target k) = read-ok S n l s g f (current-cr e at) (moved G l e t) t b _ (move-came S n l s g f e at WritesNone go t target)
-    read-plan B p (make e t b at go none room k) = read-ok S n l s g f (current-cr e at) (made G (targetExtent n (l .fcb)) l e t) t b _ (make-came S n l s g f e at WritesNone go t room none low)
+    read-plan B p (make e t b at go none room k) =
+        read-ok S n l s g f (current-cr e at) (made G (targetExtent n (l .fcb)) l e t) t b _ (make-came S n l s g f e at WritesNone go t room none low)
 
   -- 21 and 34
   pub written-ok : Writes G l s n → WriteOk G n (s .user) l (written G s l n .lent)

@@ -177,6 +177,10 @@ module _ {G : Geometry} (S : Sound G) (n : ℕ) (l : Lent) (s : Session) (g : Go
 
   -- ---- a move that makes an entry for the target's extent
   module _ (t : ℕ) (room : findEmpty G (rowsOf G l) ≡ At t) (none : targetEntry G n (s .user) l ≡ Nothing) (low : targetExtent n (l .fcb) < extents) where
+    -- the buffers after it
+    abbrev came : Lent
+    came = made G (targetExtent n (l .fcb)) l e t
+
     room-below : t < G .entries
     room-below = empty-says G (rowsOf G l) t room .below
 
@@ -198,7 +202,7 @@ module _ {G : Geometry} (S : Sound G) (n : ℕ) (l : Lent) (s : Session) (g : Go
         (like-intro (rowsOf G l e) 1 row 1 (λ i b. sym (name-next (rowsOf G l e) ext long i b)))))
         (extent-next (rowsOf G l e) ext long)
 
-    pub good-next : Good G (made G (targetExtent n (l .fcb)) l e t .image) (made G (targetExtent n (l .fcb)) l e t .map)
+    pub good-next : Good G (came .image) (came .map)
     unfolding made targetEntry
     good-next =
         let ext : ℕ = targetExtent n (l .fcb) in
@@ -211,7 +215,7 @@ module _ {G : Geometry} (S : Sound G) (n : ℕ) (l : Lent) (s : Session) (g : Go
         (closed-file S (l .image) (l .map) g (s .user) (f .user-low) (l .fcb) e present-current k h) ∙ no-file-says G (rowsOf G l) (s .user) (l .fcb) 1 ext none k h)
 
     -- the entry that was made
-    pub next-used : used (entryAt G (made G (targetExtent n (l .fcb)) l e t .image) t) ≡ true
+    pub next-used : used (entryAt G (came .image) t) ≡ true
     unfolding made
     next-used =
         let row : Bytes = nextRow (rowsOf G l e) (targetExtent n (l .fcb)) in
@@ -220,14 +224,14 @@ module _ {G : Geometry} (S : Sound G) (n : ℕ) (l : Lent) (s : Session) (g : Go
         ∙ file-used G (s .user) (l .fcb) 1 (targetExtent n (l .fcb)) row next-file (f .user-low)
 
     pub good-make : (b : ℕ) → stays n (l .fcb) ≡ false → Block G n (s .user) l b
-        → Good G (writtenAt G s l n t b (made G (targetExtent n (l .fcb)) l e t) .lent .image) (writtenAt G s l n t b (made G (targetExtent n (l .fcb)) l e t) .lent .map)
+        → Good G (writtenAt G s l n t b came .lent .image) (writtenAt G s l n t b came .lent .map)
     unfolding writtenAt made
     good-make b go k =
-        good-written S (made G (targetExtent n (l .fcb)) l e t) good-next (f .buffer-long) t (targetSlot G n (l .fcb)) b (targetRecord n (l .fcb)) (crAfter n (l .fcb)) room-below slot-below next-used (serves k)
+        good-written S came good-next (f .buffer-long) t (targetSlot G n (l .fcb)) b (targetRecord n (l .fcb)) (crAfter n (l .fcb)) room-below slot-below next-used (serves k)
       where
-        serves : Block G n (s .user) l b → BlockFor G (made G (targetExtent n (l .fcb)) l e t .map) (made G (targetExtent n (l .fcb)) l e t .fcb) (targetSlot G n (l .fcb)) b
+        serves : Block G n (s .user) l b → BlockFor G (came .map) (came .fcb) (targetSlot G n (l .fcb)) b
         serves (there q real) = absurd (real (sym q ∙ make-block G n (s .user) l go none))
-        serves (free z q) = free-serves (made G (targetExtent n (l .fcb)) l e t .map) (made G (targetExtent n (l .fcb)) l e t .fcb) (targetSlot G n (l .fcb)) b q (still-free b q)
+        serves (free z q) = free-serves (came .map) (came .fcb) (targetSlot G n (l .fcb)) b q (still-free b q)
 
 -- ---- any plan of a record call
 module _ {G : Geometry} (S : Sound G) (n : ℕ) (l : Lent) (s : Session) (g : Good G (l .image) (l .map)) (f : Fits G l s) (low : targetExtent n (l .fcb) < extents) where

@@ -79,7 +79,8 @@ module _ (G : Geometry) (argument n : ℕ) (l : Lent) (s : Session) (r : Answer)
     write-refused code q h = rw (own-write G argument l s n which c, q, h)
 
     pub write-carried : (p : Plan) (left : Lent) → writeRuling G n (s .user) l ≡ Follow p → r ≡ answerOf (Accepted 0) (ended s)
-        → left ≡ haveWritten G (entryOf p) (targetSlot G n (l .fcb)) (blockOf p) (targetRecord n (l .fcb)) (crAfter n (l .fcb)) (arrived G (targetExtent n (l .fcb)) l p)
+        → left ≡ haveWritten G (entryOf p) (targetSlot G n (l .fcb)) (blockOf p) (targetRecord n (l .fcb)) (crAfter n (l .fcb))
+        (arrived G (targetExtent n (l .fcb)) l p)
         → record { answer = r; lent = left } ≡ ownStep G argument l s c
     unfolding writtenAt
     write-carried p left q h k = rw (own-write G argument l s n which c, q, writing-by G s l n p, h, k)
