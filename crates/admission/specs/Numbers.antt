@@ -1,25 +1,13 @@
 -- The numbers of calls as ranges, which is how code tells them apart: one test over every byte shows that the lists say the same.
-use mathlib.Core.Path.{_≡_, refl, sym, _∙_}
+use mathlib.Core.Path.{_≡_, refl, _∙_}
 use mathlib.Core.Logic.{_⊎_, inl, inr}
 use mathlib.Core.Bool.{Bool, true, false}
 use Prim.Native.Nat.{ℕ, _≤_, _<_}
 use lib.Dec.{leb, eqb}
 use borrow.Author.Tests.{le-leb, lt-leb, ne-eqb}
-use Rattle.lists.specs.Cases.{clash}
-use Rattle.lists.specs.Tests.{_and_, _or_, and-both, and-fails-left, and-fails-right, or-left, or-right, or-then}
+use Rattle.lists.specs.Tests.{_and_, _or_, and-both, and-fails-left, and-fails-right, or-left, or-right, or-then, or-first, agree, agree-same}
 use Rattle.lists.specs.Below.{allBelow, all-at}
 use Rattle.model.specs.Table.{oneOf, usesFcb, isCall}
-
-same : Bool → Bool → Bool
-same true b = b
-same false true = false
-same false false = true
-
-same-is : (a b : Bool) → same a b ≡ true → a ≡ b
-unfolding same
-same-is true b h = sym h
-same-is false true h = clash (sym h)
-same-is false false h = refl
 
 -- n is in a to b
 pub between : ℕ → ℕ → ℕ → Bool
@@ -38,8 +26,8 @@ fcb-ranges : ℕ → Bool
 fcb-ranges n = between 15 17 n or between 19 23 n or between 33 36 n
 
 uses-ranges : (n : ℕ) → n < 256 → usesFcb n ≡ fcb-ranges n
-unfolding usesFcb oneOf fcb-ranges between same allBelow _and_ _or_
-uses-ranges n h = same-is (usesFcb n) (fcb-ranges n) (all-at (λ (k : ℕ). same (usesFcb k) (fcb-ranges k)) 256 refl n h)
+unfolding usesFcb oneOf fcb-ranges between agree allBelow _and_ _or_
+uses-ranges n h = agree-same (usesFcb n) (fcb-ranges n) (all-at (λ (k : ℕ). agree (usesFcb k) (fcb-ranges k)) 256 refl n h)
 
 module _ (n : ℕ) (byte : n < 256) where
   pub uses-first : 15 ≤ n → n ≤ 17 → usesFcb n ≡ true
@@ -67,8 +55,4 @@ call-fcb n u = or-left _ _ u
 -- of the numbers that don't use the FCB the last decides
 pub call-last : (n : ℕ) → usesFcb n ≡ false → (n ≡ 13 → ⊥) → (n ≡ 18 → ⊥) → (n ≡ 32 → ⊥) → (n ≡ 46 → ⊥) → isCall n ≡ eqb n 98
 unfolding isCall oneOf _or_
-call-last n u a b c d = rw (u, ne-eqb n 13 a, ne-eqb n 18 b, ne-eqb n 32 c, ne-eqb n 46 d) (last (eqb n 98))
-  where
-    last : (t : Bool) → (t or false) ≡ t
-    last true = refl
-    last false = refl
+call-last n u a b c d = rw (u, ne-eqb n 13 a, ne-eqb n 18 b, ne-eqb n 32 c, ne-eqb n 46 d) (or-first (eqb n 98) false refl)

@@ -4,7 +4,7 @@ use mathlib.Core.Bool.{true, false, not}
 use Prim.Native.Nat.{ℕ, _≤_}
 use lib.Dec.{eqb, leb}
 use lib.ListN.{length, getD}
-use borrow.Author.Tests.{eqb-true, eq-eqb, leb-true, le-leb}
+use borrow.Author.Tests.{eqb-true, eq-eqb, le-leb}
 use Rattle.lists.specs.Tests.{_or_, and-left, and-right, and-then, or-then, or-left}
 use Rattle.format.specs.Diskette.{Geometry, imageBytes, recordBytes}
 use Rattle.format.specs.Fcb.{fcbBytes}
@@ -36,14 +36,6 @@ module _ (G : Geometry) (l : Lent) where
     pub lengths-are : parametersRight G l n s ≡ true → lengthsRight G l ≡ true
     unfolding parametersRight
     lengths-are t = and-left _ _ t
-
-    pub user-is : parametersRight G l n s ≡ true → s .user ≤ 15
-    unfolding parametersRight
-    user-is t = leb-true _ _ (and-left _ _ (and-right _ _ t))
-
-    pub place-is : parametersRight G l n s ≡ true → s .place ≤ G .entries
-    unfolding parametersRight
-    place-is t = leb-true _ _ (and-left _ _ (and-right _ _ (and-right _ _ t)))
 
     -- byte 0 of the FCB decides where everything else is right and the FCB is used
     drive-left : lengthsRight G l ≡ true → s .user ≤ 15 → s .place ≤ G .entries

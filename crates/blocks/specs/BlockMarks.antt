@@ -1,7 +1,7 @@
 -- What the marks say: a mark is not 0 where no block past the directory has the number, barred from the start, or a slot listed it
 -- before. So one look at the mark of a slot's number decides whether the number is in range and stands there for the first time. A slot
 -- of 0 lists nothing; its mark is 0 and stays so.
-use mathlib.Core.Path.{_≡_, refl, ap, sym, _∙_}
+use mathlib.Core.Path.{_≡_, ap, sym, _∙_}
 use mathlib.Core.Logic.{_⊎_, inl, inr}
 use mathlib.Core.Bool.{Bool, true, false, not}
 use Prim.Native.Nat.{ℕ, zero, suc, _+_, _-_, _*_, _≤_, _<_}
@@ -11,7 +11,7 @@ use lib.Dec.{eqb, leb, ltb}
 use lib.ListN.{getD, length, length-set}
 use borrow.Author.Tests.{le-leb, lt-leb, lt-ltb, le-ltb, eq-eqb, ne-eqb}
 use Rattle.lists.specs.Cases.{split, lt-or-le, eq-or-ne}
-use Rattle.lists.specs.Tests.{_and_, _or_, and-both, and-fails-left, and-fails-right, or-left, or-right, or-first, or-then}
+use Rattle.lists.specs.Tests.{_and_, _or_, and-both, and-fails-left, and-fails-right, or-left, or-right, or-first, or-then, not-or}
 use Rattle.lists.specs.Below.{allBelow, all-cong, all-both}
 use Rattle.lists.specs.Fold.{foldBelow}
 use Rattle.lists.specs.Splice.{splice, copies, length-fill, getD-fill-in, getD-fill-out}
@@ -65,13 +65,6 @@ right-open G b r =
     ∙ split (lt-or-le b (G .area)) (λ w. and-fails-left _ _ (lt-leb _ _ w) ∙ ap not (sym (barred-low G b w)))
     (λ w. split (lt-or-le b (G .blocks)) (λ v. and-both _ _ (le-leb _ _ w) (lt-ltb _ _ v) ∙ ap not (sym (inside-open G b w v)))
     (λ v. and-fails-right _ _ (le-ltb _ _ v) ∙ ap not (sym (barred-high G b v))))
-
-neither : (t b : Bool) → not (t or b) ≡ (not b and not t)
-unfolding _and_ _or_
-neither true true = refl
-neither true false = refl
-neither false true = refl
-neither false false = refl
 
 -- ---- the start
 module _ (G : Geometry) (d : Rows) (l : Bytes) (h : length l ≡ markCount) (some : 0 < G .area) (m : G .area ≤ G .blocks) (n : G .blocks ≤ markCount) where
@@ -148,7 +141,7 @@ module _ (G : Geometry) (d : Rows) where
       split (eq-or-ne v 0)
       (λ z. rw z (eq-eqb _ _ (m .seen .none)) ∙ sym (and-both _ _ (zero-right G v z) (or-left _ _ (eq-eqb _ _ (q ∙ z)))))
       (λ z. let once : (eqb (listed d x) 0 or not (taken (listed d) x (listed d x))) ≡ not (taken (listed d) x v) = rw q (or-then _ _ (ne-eqb v 0 z)) in
-      m .seen .mark v (omega arith) (omega arith) ∙ rw (once, right-open G v z) (neither (taken (listed d) x v) (barred G v)))
+      m .seen .mark v (omega arith) (omega arith) ∙ rw (once, right-open G v z) (not-or (taken (listed d) x v) (barred G v)))
 
   -- ---- the slots of an entry that is not used
   skipped : (e j : ℕ) (l : Bytes) → used (d e) ≡ false → j ≤ slotCount → BlockMarks G d (slotCount * e) l → BlockMarks G d (slotCount * e + j) l

@@ -15,7 +15,7 @@ use Rattle.lists.specs.Below.{allBelow, all-none, all-next, all-at, all-intro, 
 use Rattle.lists.specs.Fold.{foldBelow, fold-none, fold-next, fold-keeps, fold-cong, fold-join}
 use Rattle.lists.specs.Seen.{set-none, set-keeps-none}
 use Rattle.lists.specs.Bits.{or-zero, or-none}
-use Rattle.lanes.specs.Lanes.{halfAt, wordAt, half-zero, zero-half, word-zero, zero-word}
+use Rattle.lanes.specs.Lanes.{halfAt, wordAt, bytes-zero, zero-bytes}
 use Rattle.format.specs.Diskette.{Bytes}
 use Rattle.marks.specs.Numbers.{numberFree, markNumber}
 
@@ -124,12 +124,12 @@ module _ (r : Bytes) where
 
   -- eight of them are a word, four a half
   pub rest-word : restZero r ≡ true → wordAt r 20 ≡ 0
-  rest-word t = zero-word r 20 (λ i h. rest-zeros t i (omega arith))
+  rest-word t = zero-bytes 8 r 20 (λ i h. rest-zeros t i (omega arith))
 
   pub rest-decides : wordAt r 20 ≡ 0 → eqb (halfAt r 28) 0 ≡ restZero r
   unfolding restZero
   rest-decides w =
       bool-ext _ _
-      (λ t. all-intro _ 12 (λ i h. eq-eqb _ _ (split (lt-or-le i 8) (λ l. word-zero r 20 w i l)
-      (λ l. let q : 20 + i ≡ 28 + (i - 8) = omega arith in ap (λ (k : ℕ). getD r k 0) q ∙ half-zero r 28 (eqb-true _ _ t) (i - 8) (omega arith)))))
-      (λ t. eq-eqb _ _ (zero-half r 28 (λ i h. let q : 28 + i ≡ 20 + (8 + i) = omega arith in ap (λ (k : ℕ). getD r k 0) q ∙ rest-zeros t (8 + i) (omega arith))))
+      (λ t. all-intro _ 12 (λ i h. eq-eqb _ _ (split (lt-or-le i 8) (λ l. bytes-zero 8 r 20 w i l)
+      (λ l. let q : 20 + i ≡ 28 + (i - 8) = omega arith in ap (λ (k : ℕ). getD r k 0) q ∙ bytes-zero 4 r 28 (eqb-true _ _ t) (i - 8) (omega arith)))))
+      (λ t. eq-eqb _ _ (zero-bytes 4 r 28 (λ i h. let q : 28 + i ≡ 20 + (8 + i) = omega arith in ap (λ (k : ℕ). getD r k 0) q ∙ rest-zeros t (8 + i) (omega arith))))

@@ -4,7 +4,7 @@ use mathlib.Core.Bool.{Bool, true, false, not}
 use Prim.Native.Nat.{ℕ, _+_, _-_, _≤_, _<_}
 use native.Mathlib.Omega.{arith}
 use lib.ListN.{getD}
-use borrow.Author.Tests.{eqb-true, eqb-false, le-leb}
+use borrow.Author.Tests.{eqb-true, eqb-false}
 use Rattle.lists.specs.Cases.{split, lt-or-le, refute}
 use Rattle.lists.specs.Tests.{and-then}
 use Rattle.lists.specs.Below.{any-at, any-empty, lastBelow, last-high, last-holds, last-after}
@@ -12,10 +12,10 @@ use Rattle.format.specs.Diskette.{Bytes, Geometry}
 use Rattle.format.specs.Entries.{Rows, userOf, used, isFile, extentOf, findFile}
 use Rattle.format.specs.Consistent.{sameFile, alone}
 use Rattle.format.specs.declared.Found.the-variants.{At, Nothing}
-use Rattle.facts.specs.Names.{like-sym, like-trans}
-use Rattle.facts.specs.Find.{fileTest, file-is, no-file-is}
+use Rattle.facts.specs.Find.{fileTest, no-file-is}
 use Rattle.facts.specs.Naming.{file-user, file-like, file-extent}
-use Rattle.consistency.specs.Reflect.{same-elim, same-intro, same-used-right, alone-elim}
+use Rattle.consistency.specs.Naming.{file-used, alone-found}
+use Rattle.consistency.specs.Reflect.{same-elim, same-used-right}
 use Rattle.keys.specs.Key.{keyCount, keyOf, fileKey, key-same, key-asked}
 use Rattle.chains.specs.Chain.{keyIn, hasKey, Chained, Indexed, key-used, key-tells}
 
@@ -85,39 +85,20 @@ module _ (G : Geometry) (d : Rows) (e : ℕ) where
   unfolding alone
   alone-end f w z = ap not (any-empty sameAs e (λ g r. w .passed g (omega arith) r))
 
--- of used rows the look-up of one by the other decides
-pub file-same : (G : Geometry) (r t : Bytes) (ext : ℕ) → used r ≡ true → used t ≡ true → ext ≡ extentOf t → isFile G (userOf t) t 1 ext r ≡ sameFile G r t
+-- of used rows the look-up of one by the other decides whether they are of one file
+pub asks-same : (G : Geometry) (r t : Bytes) (ext : ℕ) → used r ≡ true → used t ≡ true → ext ≡ extentOf t → isFile G (userOf t) t 1 ext r ≡ sameFile G r t
 unfolding sameFile
-file-same G r t ext u v q = sym (and-then _ _ u ∙ and-then _ _ v ∙ rw q)
+asks-same G r t ext u v q = sym (and-then _ _ u ∙ and-then _ _ v ∙ rw q)
 
 -- ---- the look-up of a file: the test is what is asked for
 module _ (G : Geometry) (d : Rows) (user : ℕ) (s : Bytes) (q ext : ℕ) (real : user ≤ 15) where
-  file-used : (g : ℕ) → fileTest G d user s q ext g ≡ true → used (d g) ≡ true
-  unfolding used
-  file-used g t = let u : userOf (d g) ≡ user = file-user G user s q ext (d g) t in le-leb (userOf (d g)) 15 (omega arith)
-
   pub file-only : (g : ℕ) → fileTest G d user s q ext g ≡ true → keyIn d g ≡ fileKey user s q ext
   file-only g t =
-      key-used d g (file-used g t)
+      key-used d g (file-used G user s q ext (d g) t real)
       ∙ key-asked (d g) user s q ext (file-user G user s q ext (d g) t) (file-like G user s q ext (d g) t) (file-extent G user s q ext (d g) t)
 
-  -- two rows that pass are of one file
-  files-same : (e g : ℕ) → fileTest G d user s q ext e ≡ true → fileTest G d user s q ext g ≡ true → sameFile G (d e) (d g) ≡ true
-  files-same e g t v =
-      same-intro G (d e) (d g) (file-used e t) (file-used g v) (record {
-        user = file-user G user s q ext (d e) t ∙ sym (file-user G user s q ext (d g) v);
-        name = like-trans (d g) 1 s q (d e) 1 (like-sym s q (d g) 1 (file-like G user s q ext (d g) v)) (file-like G user s q ext (d e) t);
-        extent = file-extent G user s q ext (d e) t ∙ sym (file-extent G user s q ext (d g) v);
-      })
-
   pub find-hit : (chain : Bytes) (e : ℕ) → Indexed G d chain → e < G .entries → fileTest G d user s q ext e ≡ true → findFile G d user s q ext ≡ At e
-  find-hit chain e i h t =
-      file-is G d user s q ext e (record {
-        low = omega arith;
-        below = h;
-        holds = t;
-        before = λ g a l. sym (refute _ (λ v. alone-elim G d e g (i .single e h) l (files-same e g t v)));
-      })
+  find-hit chain e i h t = alone-found G d user real s q ext e h t (i .single e h)
 
   pub find-end : (k f : ℕ) → Walk d (fileTest G d user s q ext) k (G .entries) f → f ≡ 0 → findFile G d user s q ext ≡ Nothing
   find-end k f w z = no-file-is G d user s q ext (λ g l. w .passed g (omega arith) l)

@@ -30,6 +30,9 @@ pub used-full : (r : Bytes) → used r ≡ true → empty r ≡ false
 unfolding empty
 used-full r u = let h : userOf r ≤ 15 = used-low r u in ne-eqb (userOf r) 229 (λ q. omega arith)
 
+pub empty-unused : (r : Bytes) → empty r ≡ true → used r ≡ false
+empty-unused r h = split (bool-cases (used r)) (λ u. not-both (empty r) h (used-full r u)) (λ u. u)
+
 -- so an empty entry is another than one that is used
 pub empty-elsewhere : (d : Rows) (t e : ℕ) → empty (d t) ≡ true → used (d e) ≡ true → t ≡ e → ⊥
 empty-elsewhere d t e z u q = not-both (empty (d t)) z (ap (λ (x : ℕ). empty (d x)) q ∙ used-full (d e) u)
@@ -188,7 +191,7 @@ module _ (G : Geometry) (d : Rows) where
       let b : x % slotCount ≡ y % slotCount = c .once-slot (listed d y) (x / slotCount) (x % slotCount) (y / slotCount) (y % slotCount) s u in
       absurd (omega arith)))
 
-  facts-alone : Consistent G d → (e : ℕ) → e < G .entries → alone G d e ≡ true
+  pub facts-alone : Consistent G d → (e : ℕ) → e < G .entries → alone G d e ≡ true
   facts-alone c e h =
       alone-intro G d e
       (λ f l t. let q : e ≡ f = c .apart e f h (omega arith) (same-used-left G (d e) (d f) t) (same-used-right G (d e) (d f) t) (same-elim G (d e) (d f) t) in omega arith)

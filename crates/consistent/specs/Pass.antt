@@ -5,15 +5,15 @@ use Prim.Native.Nat.{ℕ, zero, suc, _+_, _*_, _/_, _%_, _<_}
 use native.Mathlib.Nat.{add-zero}
 use native.Mathlib.Omega.{arith}
 use borrow.Author.Tests.{eq-eqb}
-use Rattle.lists.specs.Cases.{split, bool-cases, bool-ext, refute, not-both}
-use Rattle.lists.specs.Tests.{_and_, and-left, and-right, and-both, and-then, and-fails-left, or-left, or-then}
+use Rattle.lists.specs.Cases.{bool-ext, refute, not-both}
+use Rattle.lists.specs.Tests.{_and_, and-left, and-right, and-both, and-then, and-assoc, and-fails-left, or-left, or-then}
 use Rattle.lists.specs.Below.{allBelow, all-at, all-intro}
 use Rattle.format.specs.Diskette.{Bytes, Geometry, slotCount}
 use Rattle.format.specs.Entries.{Rows, slotOf, empty, used}
 use Rattle.format.specs.Consistent.{slotsRight, entryRight, slotsInAll, listedOnce, alone, consistentRows}
 use Rattle.facts.specs.Marks.{markCount}
 use Rattle.consistency.specs.Listed.{listed-unused}
-use Rattle.consistency.specs.Reflect.{used-full, empty-right, alone-intro, same-used-left}
+use Rattle.consistency.specs.Reflect.{used-full, empty-unused, empty-right, alone-intro, same-used-left}
 use Rattle.heads.specs.Head.{fieldsRight, rowRight}
 use Rattle.blocks.specs.BlockMarks.{BlockMarks, markSlots, slotsFree, marks-skip, marks-row, slots-right}
 use Rattle.chains.specs.Chain.{Chained, chained-skip, Indexed}
@@ -51,9 +51,6 @@ module _ (G : Geometry) (d : Rows) where
       (all-intro _ (G .entries) (λ e h. and-right _ _ (and-right _ _ (all-at _ (G .entries) t e h))))))
 
 -- ---- one entry
-pub empty-unused : (r : Bytes) → empty r ≡ true → used r ≡ false
-empty-unused r h = split (bool-cases (used r)) (λ u. not-both (empty r) h (used-full r u)) (λ u. u)
-
 pub row-used : (r : Bytes) → rowRight r ≡ true → used r ≡ true
 unfolding rowRight
 row-used r h = and-left _ _ h
@@ -74,13 +71,7 @@ module _ (G : Geometry) (d : Rows) (e : ℕ) where
   -- of an entry that is not empty the rest of the rule decides
   full-right : empty (d e) ≡ false → entryRight G (d e) ≡ (rowRight (d e) and slotsRight G (d e))
   unfolding entryRight rowRight fieldsRight
-  full-right h =
-      or-then _ _ h
-      ∙ bool-ext _ _
-      (λ t. and-both _ _ (and-both _ _ (and-left _ _ t) (and-both _ _ (and-left _ _ (and-right _ _ t)) (and-left _ _ (and-right _ _ (and-right _ _ t)))))
-      (and-right _ _ (and-right _ _ (and-right _ _ t))))
-      (λ t. let r = and-left _ _ t in
-      and-both _ _ (and-left _ _ r) (and-both _ _ (and-left _ _ (and-right _ _ r)) (and-both _ _ (and-right _ _ (and-right _ _ r)) (and-right _ _ t))))
+  full-right h = or-then _ _ h ∙ simp and-assoc
 
   pub row-fails : empty (d e) ≡ false → rowRight (d e) ≡ false → entryFits G d e ≡ false
   unfolding entryFits

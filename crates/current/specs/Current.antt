@@ -3,8 +3,7 @@ use mathlib.Core.Path.{_≡_, sym}
 use mathlib.Core.Bool.{Bool, true, false, cond}
 use Prim.Native.Nat.{ℕ, _≤_, _<_}
 use borrow.Author.Tests.{leb-true, le-leb}
-use Rattle.lists.specs.Cases.{bool-ext}
-use Rattle.lists.specs.Tests.{_and_, and-left, and-right, and-both}
+use Rattle.lists.specs.Tests.{_and_, and-left, and-right, and-both, and-assoc}
 use Rattle.format.specs.Diskette.{Bytes, Geometry, slotCount}
 use Rattle.format.specs.Names.{nameRight}
 use Rattle.format.specs.Entries.{Rows, slotsOf, extentOf, findFile}
@@ -39,10 +38,7 @@ fcb-is fcb f = and-both _ _ (f .name) (and-both _ _ (numbers-intro fcb (f .numbe
 -- the name and the numbers first, and then cr
 pub fcb-fields : (fcb : Bytes) → fcbRight fcb ≡ (fieldsRight fcb and crRight fcb)
 unfolding fcbRight fieldsRight
-fcb-fields fcb =
-    bool-ext _ _
-    (λ t. and-both _ _ (and-both _ _ (and-left _ _ t) (and-left _ _ (and-right _ _ t))) (and-right _ _ (and-right _ _ t)))
-    (λ t. and-both _ _ (and-left _ _ (and-left _ _ t)) (and-both _ _ (and-right _ _ (and-left _ _ t)) (and-right _ _ t)))
+fcb-fields fcb = sym (and-assoc _ _ _)
 
 -- ---- the FCB is current, and e is its entry
 module _ (G : Geometry) (d : Rows) (map : Bytes) (user : ℕ) (fcb : Bytes) where

@@ -8,17 +8,15 @@ use lib.ListN.{length, getD}
 use borrow.Author.Tests.{eq-eqb, le-ltb}
 use Rattle.lists.specs.Cases.{split, bool-cases, not-both}
 use Rattle.lists.specs.Tests.{_or_, and-left, and-right}
-use Rattle.format.specs.Diskette.{Bytes, Geometry, Sound, imageBytes, recordBytes}
+use Rattle.format.specs.Diskette.{Bytes, Geometry, Sound, recordBytes}
 use Rattle.format.specs.Names.{nameRight}
-use Rattle.format.specs.Entries.{entryAt, exOf, extentOf, readOnly, empty, isFile, findEmpty}
-use Rattle.format.specs.Notes.{freeNote, noteAt, freshNote, freshMap, isListed, findFree}
+use Rattle.format.specs.Entries.{entryAt, exOf, extentOf, used, readOnly, empty, isFile, findEmpty}
+use Rattle.format.specs.Notes.{freeNote, noteAt, freshNote, freshMap, findFree}
 use Rattle.format.specs.Fcb.{fcbBytes, crOf, fcbRight}
 use Rattle.facts.specs.Found.{FoundAt, found-cases, at-not-nothing}
 use Rattle.format.specs.Found.{numberOf}
 use Rattle.format.specs.declared.Found.{Found}
 use Rattle.format.specs.declared.Found.the-variants.{At}
-use Rattle.consistency.specs.Listed.{listed-somewhere}
-use Rattle.consistency.specs.Reflect.{used-full}
 use Rattle.notes.specs.Free.{none-free}
 use Rattle.notes.specs.Right.{fresh-at}
 use Rattle.rows.specs.Entries.{entry-stored}
@@ -33,8 +31,9 @@ use Rattle.model.specs.Calls.{loggedIn, createdAt, created}
 use Rattle.model.specs.Step.{effect}
 use Rattle.fields.specs.Making.{length-madeRow, readOnly-made}
 use Rattle.fields.specs.Entering.{length-copied, first-copied, rest-copied}
-use Rattle.fields.specs.Naming.{file-used}
+use Rattle.consistency.specs.Naming.{file-used}
 use Rattle.fields.specs.Target.{extent-within}
+use Rattle.fields.specs.Erased.{ErasedDisk, erased-empty, erased-unused, erased-unlisted}
 use Rattle.table.specs.Own.{Call, call21, call22}
 use Rattle.table.specs.Facts.{Fits, Writes, Makes, Own}
 use Rattle.table.specs.Accept.{passes}
@@ -48,8 +47,8 @@ use Rattle.effects.specs.Cur.{Cur, cur-current}
 use Rattle.demands.specs.Accepted.{carried-says, accepted-carried}
 use Rattle.demands.specs.StepOk.{ready-good}
 use Rattle.demands.specs.StillCurrent.{created-cur}
-use Rattle.demands.specs.NothingLost.{told-login, logged-in}
-use Rattle.demands.specs.Erased.{erased, erased-empty, erased-accepted}
+use Rattle.demands.specs.NothingLost.{booked-login, logged-in}
+use Rattle.demands.specs.Erased.{erased-accepted}
 use Rattle.demands.specs.Runs.{Request, Disk, lentTo, outcomeOf, left, accepts, after}
 
 -- ---- a write that nothing stands against
@@ -183,25 +182,18 @@ pub record Asks (q : Request) (n : ℕ) : Type 0 where
   pub fcb : length (q .fcb) ≡ fcbBytes
   pub buffer : length (q .buffer) ≡ recordBytes
 
-module _ {G : Geometry} (S : Sound G) (some : 0 < G .entries) (size : ℕ) (is : size ≡ imageBytes G) where
-  -- no used entry: nothing is listed, and no file is found
-  unlisted : (b : ℕ) → (b ≡ 0 → ⊥) → isListed G (entryAt G (erased S size is)) b ≡ false
-  unlisted b r =
-      split (bool-cases (isListed G (entryAt G (erased S size is)) b))
-      (λ t. let w = listed-somewhere G (entryAt G (erased S size is)) b r t in
-      not-both (empty (entryAt G (erased S size is) (w .e))) (erased-empty S size is (w .e) (w .stands .entry)) (used-full _ (w .stands .uses)))
-      (λ f. f)
-
-  first-free : noteAt (freshMap G (entryAt G (erased S size is))) (G .area) ≡ freeNote
+module _ {G : Geometry} (S : Sound G) (some : 0 < G .entries) where
+  -- nothing is listed, so that the first block past the directory is free after a log-in
+  first-free : (img : Bytes) → ErasedDisk G img → noteAt (freshMap G (entryAt G img)) (G .area) ≡ freeNote
   unfolding freshNote
-  first-free =
-      fresh-at G (entryAt G (erased S size is)) (G .area) (S .area-below)
-      ∙ rw (le-ltb (G .area) (G .area) (omega arith), unlisted (G .area) (λ z. omega (arith, S .area-some)))
+  first-free img erased =
+      fresh-at G (entryAt G img) (G .area) (S .area-below)
+      ∙ rw (le-ltb (G .area) (G .area) (omega arith), erased-unlisted G img erased (G .area) (λ z. omega (arith, S .area-some)))
 
-  made-on : (d : Disk) → d .image ≡ erased S size is → Good G (d .image) (d .map) → InRange G (d .session) → (q : Request) → Asks q 22
+  made-on : (d : Disk) → ErasedDisk G (d .image) → Good G (d .image) (d .map) → InRange G (d .session) → (q : Request) → Asks q 22
       → getD (q .fcb) 0 0 ≤ 1 → nameRight false (q .fcb) 1 ≡ true → exOf (q .fcb) ≤ 31 → accepts G d q ≡ true
   unfolding outcomeOf askedEntry
-  made-on d image good range q a drive name ex =
+  made-on d erased good range q a drive name ex =
       carried-says G (q .asked) (lentTo d q) (d .session)
       (total-accepted G (q .asked) (lentTo d q) (d .session)
       (ap (λ (n : ℕ). verdict G n (q .asked .argument) (lentTo d q) (d .session)) (a .number)
@@ -217,33 +209,30 @@ module _ {G : Geometry} (S : Sound G) (some : 0 < G .entries) (size : ℕ) (is :
         ex = ex;
         new = no-file-is G (entryAt G (d .image)) (d .session .user) (q .fcb) 1 (exOf (q .fcb)) (λ e h. none e h);
         entry = found-cases (findEmpty G (entryAt G (d .image))) (λ k e. record { place = k; is = e })
-            (λ e. absurd (not-both (empty (entryAt G (d .image) 0)) (void 0 some) (none-empty-says G (entryAt G (d .image)) e 0 some)));
+            (λ e. absurd (not-both (empty (entryAt G (d .image) 0)) (erased-empty G (d .image) erased 0 some) (none-empty-says G (entryAt G (d .image)) e 0 some)));
       }))
     where
-      void : (e : ℕ) → e < G .entries → empty (entryAt G (d .image) e) ≡ true
-      void e h = ap (λ (i : Bytes). empty (entryAt G i e)) image ∙ erased-empty S size is e h
-
       none : (e : ℕ) → e < G .entries → isFile G (d .session .user) (q .fcb) 1 (exOf (q .fcb)) (entryAt G (d .image) e) ≡ false
       none e h =
           split (bool-cases (isFile G (d .session .user) (q .fcb) 1 (exOf (q .fcb)) (entryAt G (d .image) e)))
-          (λ t. not-both (empty (entryAt G (d .image) e)) (void e h)
-          (used-full (entryAt G (d .image) e) (file-used G (d .session .user) (q .fcb) 1 (exOf (q .fcb)) (entryAt G (d .image) e) t (range .user))))
+          (λ t. not-both (used (entryAt G (d .image) e))
+          (file-used G (d .session .user) (q .fcb) 1 (exOf (q .fcb)) (entryAt G (d .image) e) t (range .user)) (erased-unused G (d .image) erased e h))
           (λ f. f)
 
   -- log in, make a file, write its first record
-  pub erased-begins : (d : Disk) → d .image ≡ erased S size is → length (d .map) ≡ G .blocks → InRange G (d .session)
+  pub erased-begins : (d : Disk) → ErasedDisk G (d .image) → length (d .map) ≡ G .blocks → InRange G (d .session)
       → (login make write : Request) → Asks login 13 → Asks make 22 → getD (make .fcb) 0 0 ≤ 1 → nameRight false (make .fcb) 1 ≡ true → exOf (make .fcb) ≤ 31 → crOf (make .fcb) < 128
       → Asks write 21 → write .fcb ≡ outcomeOf G (after G d login) make .lent .fcb
       → (accepts G d login ≡ true) × (accepts G (after G d login) make ≡ true) × (accepts G (after G (after G d login) make) write ≡ true)
   unfolding after loggedIn
-  erased-begins d image map range login make write a b drive name ex cr c same =
-      let first = erased-accepted S size is d login image map range (a .number) (a .fcb) (a .buffer) in
-      let t = told-login S d login (a .number) first in
+  erased-begins d erased map range login make write a b drive name ex cr c same =
+      let first = erased-accepted G d login erased map range (a .number) (a .fcb) (a .buffer) in
+      let t = booked-login S d login (a .number) first in
       let o = logged-in G d login (a .number) first in
-      let second = made-on (after G d login) (ap (λ (x : Outcome). x .lent .image) o ∙ image) (t .good) (t .range) make b drive name ex in (
+      let second = made-on (after G d login) (subst (λ (x : Outcome). ErasedDisk G (x .lent .image)) (sym o) erased) (t .good) (t .range) make b drive name ex in (
         first,
         second,
         make-then-write S (after G d login) make (b .number) second cr (G .area) (S .area-below)
-            (ap (λ (x : Outcome). noteAt (x .lent .map) (G .area)) o ∙ ap (λ (i : Bytes). noteAt (freshMap G (entryAt G i)) (G .area)) image ∙ first-free)
+            (ap (λ (x : Outcome). noteAt (x .lent .map) (G .area)) o ∙ first-free (d .image) erased)
             write (c .number) same (c .buffer),
       )

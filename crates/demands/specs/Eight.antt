@@ -15,6 +15,7 @@ use Rattle.model.specs.declared.Asked.{Asked}
 use Rattle.model.specs.Naming.{names}
 use Rattle.model.specs.Target.{presentEntry}
 use Rattle.model.specs.Table.{oneOf, writeCalls}
+use Rattle.fields.specs.Erased.{ErasedDisk}
 use Rattle.table.specs.Total.{InRange}
 use Rattle.effects.specs.Where.{Frame}
 use Rattle.effects.specs.Book.{nothingHeld}
@@ -24,7 +25,6 @@ use Rattle.demands.specs.NothingLost.{NothingLost, nothing-lost, bytes-s
 use Rattle.demands.specs.Reading.{Gives}
 use Rattle.demands.specs.ReadBack.{AllLeaveAlone, readFcb, read-back}
 use Rattle.demands.specs.StillCurrent.{currentCalls, still-current}
-use Rattle.demands.specs.Erased.{erased}
 use Rattle.demands.specs.Begins.{Asks, erased-begins}
 
 -- demand 2
@@ -54,8 +54,8 @@ pub eight-still-current : (d : Disk) (q : Request) → accepts eightInch d q ≡
 eight-still-current = still-current eight-sound
 
 -- and they speak of something: a log-in, a make and a write on an erased disk are accepted
-pub eight-begins : (size : ℕ) (is : size ≡ 256256) (d : Disk) → d .image ≡ erased eight-sound size is → length (d .map) ≡ 243 → InRange eightInch (d .session)
+pub eight-begins : (d : Disk) → ErasedDisk eightInch (d .image) → length (d .map) ≡ 243 → InRange eightInch (d .session)
     → (login make write : Request) → Asks login 13 → Asks make 22 → getD (make .fcb) 0 0 ≤ 1 → nameRight false (make .fcb) 1 ≡ true → exOf (make .fcb) ≤ 31 → crOf (make .fcb) < 128
     → Asks write 21 → write .fcb ≡ outcomeOf eightInch (after eightInch d login) make .lent .fcb
     → (accepts eightInch d login ≡ true) × (accepts eightInch (after eightInch d login) make ≡ true) × (accepts eightInch (after eightInch (after eightInch d login) make) write ≡ true)
-eight-begins size is = erased-begins eight-sound (omega arith) size is
+eight-begins = erased-begins eight-sound (omega arith)

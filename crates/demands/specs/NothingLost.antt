@@ -5,12 +5,12 @@ use mathlib.Core.Bool.{true, false}
 use mathlib.Core.List.{List, [], _∷_}
 use Prim.Native.Nat.{ℕ, _*_, _≤_, _<_}
 use native.Mathlib.Omega.{arith}
-use lib.ListN.{length, getD}
+use lib.ListN.{getD}
 use Rattle.lists.specs.Cases.{split}
-use Rattle.format.specs.Diskette.{Geometry, Sound, recordBytes, slotCount}
-use Rattle.format.specs.Entries.{entryAt, used}
+use Rattle.format.specs.Diskette.{Geometry, Sound, recordBytes}
+use Rattle.format.specs.Entries.{entryAt}
 use Rattle.format.specs.Consistent.{consistent}
-use Rattle.format.specs.Notes.{noteAt, pendingFor, mapRight, freshNote, isPending, isListed}
+use Rattle.format.specs.Notes.{noteAt, mapRight, freshNote, isPending}
 use Rattle.disk.specs.Places.{blockRecords, offset-past, spare-apart}
 use Rattle.rows.specs.Entries.{area-within, entry-past, entry-record-apart}
 use Rattle.fields.specs.Target.{place-below}
@@ -20,18 +20,18 @@ use Rattle.model.specs.Naming.{names}
 use Rattle.model.specs.Step.{effect}
 use Rattle.table.specs.Own.{call13}
 use Rattle.table.specs.Carried.{effect-is}
-use Rattle.table.specs.Total.{InRange, total, step-range}
+use Rattle.table.specs.Total.{InRange, step-range}
 use Rattle.invariant.specs.Good.{Good, good-consistent, good-right}
 use Rattle.invariant.specs.Step.{step-accepted, step-good, good-never-one}
 use Rattle.effects.specs.Where.{InEntry, InRecord, Where, in-entry, in-new, in-record, Frame}
 use Rattle.effects.specs.Book.{Book, nothingHeld}
-use Rattle.effects.specs.Tracks.{Tracks, overlaid, book-map, book-note, book-taken, book-settled}
+use Rattle.effects.specs.Tracks.{Tracks, overlaid, InBook, book-map, book-has, book-settled}
 use Rattle.demands.specs.Accepted.{accepted-carried}
 use Rattle.demands.specs.StepOk.{MayWrite, step-ok, logged-in-tracks}
 use Rattle.demands.specs.Runs.{Request, Disk, lentTo, outcomeOf, accepts, after, run, bookAfter, bookRun}
 
 -- ---- a disk whose map tells the same as a book
-pub record Told (G : Geometry) (d : Disk) (u : Book) : Type 0 where
+pub record Booked (G : Geometry) (d : Disk) (u : Book) : Type 0 where
   pub good : Good G (d .image) (d .map)
   pub range : InRange G (d .session)
   pub tracks : Tracks G u (noteAt (d .map))
@@ -44,23 +44,23 @@ logged-in G d q n a =
     ∙ ap (λ (k : ℕ). effect G k (q .asked .argument) (lentTo d q) (d .session)) n ∙ effect-is G (q .asked .argument) (lentTo d q) (d .session) call13
 
 module _ {G : Geometry} (S : Sound G) where
-  pub told-after : (d : Disk) (q : Request) (u : Book) → Told G d u → Told G (after G d q) (bookAfter G d q u)
+  pub booked-after : (d : Disk) (q : Request) (u : Book) → Booked G d u → Booked G (after G d q) (bookAfter G d q u)
   unfolding after bookAfter outcomeOf
-  told-after d q u t = record {
+  booked-after d q u t = record {
     good = step-good S (q .asked) (lentTo d q) (d .session) (t .good);
     range = step-range G (q .asked) (lentTo d q) (d .session) (t .range);
     tracks = step-ok S (q .asked) (lentTo d q) (d .session) .book u (t .tracks);
   }
 
-  pub told-run : (d : Disk) (qs : List Request) (u : Book) → Told G d u → Told G (run G d qs) (bookRun G d qs u)
+  pub booked-run : (d : Disk) (qs : List Request) (u : Book) → Booked G d u → Booked G (run G d qs) (bookRun G d qs u)
   unfolding run bookRun
-  told-run d [] u t = t
-  told-run d (q ∷ qs) u t = told-run (after G d q) qs (bookAfter G d q u) (told-after d q u t)
+  booked-run d [] u t = t
+  booked-run d (q ∷ qs) u t = booked-run (after G d q) qs (bookAfter G d q u) (booked-after d q u t)
 
   -- a log-in that was accepted
-  pub told-login : (d : Disk) (q : Request) → q .asked .number ≡ 13 → accepts G d q ≡ true → Told G (after G d q) nothingHeld
+  pub booked-login : (d : Disk) (q : Request) → q .asked .number ≡ 13 → accepts G d q ≡ true → Booked G (after G d q) nothingHeld
   unfolding after outcomeOf
-  told-login d q n a =
+  booked-login d q n a =
       let l : Lent = lentTo d q in
       let c = accepted-carried G (q .asked) l (d .session) a in
       let fits = c .facts .ready .fits in
@@ -71,46 +71,27 @@ module _ {G : Geometry} (S : Sound G) where
       }
 
 -- ---- what is never lost
--- a block in the book: its note is pending for its place, in a used entry, and no entry lists it
-pub record Held (G : Geometry) (d : Disk) (u : Book) (b : ℕ) : Type 0 where
-  pub entry : ℕ
-  pub slot : ℕ
-  pub entry-below : entry < G .entries
-  pub slot-below : slot < slotCount
-  pub in-book : u b ≡ pendingFor entry slot
-  pub in-map : noteAt (d .map) b ≡ pendingFor entry slot
-  pub uses : used (entryAt G (d .image) entry) ≡ true
-  pub unlisted : isListed G (entryAt G (d .image)) b ≡ false
-
 pub record NothingLost (G : Geometry) (d : Disk) (u : Book) : Type 0 where
   pub image-consistent : consistent G (d .image) ≡ true
   pub map-right : mapRight G (entryAt G (d .image)) (d .map) ≡ true
   -- the map is the fresh map overlaid with the book
   pub overlay : (b : ℕ) → b < G .blocks → noteAt (d .map) b ≡ overlaid (u b) (freshNote G (entryAt G (d .image)) b)
-  pub held : (b : ℕ) → b < G .blocks → (u b ≡ 0 → ⊥) → Held G d u b
+  -- a block in the book has its place, and no other block's note is pending
+  pub held : (b : ℕ) → b < G .blocks → (u b ≡ 0 → ⊥) → InBook G (entryAt G (d .image)) (noteAt (d .map)) u b
   pub others : (b : ℕ) → b < G .blocks → u b ≡ 0 → isPending (noteAt (d .map) b) ≡ false
   -- no call is refused for the disk: H is never 1
   pub never-refused : (q : Request) → outcomeOf G d q .answer .h ≡ 1 → ⊥
 
-pub told-lost : (G : Geometry) (d : Disk) (u : Book) → Told G d u → NothingLost G d u
+pub booked-lost : (G : Geometry) (d : Disk) (u : Book) → Booked G d u → NothingLost G d u
 unfolding outcomeOf
-told-lost G d u t =
+booked-lost G d u t =
     let rows = entryAt G (d .image) in
     let m = noteAt (d .map) in
     record {
       image-consistent = good-consistent G (d .image) (d .map) (t .good);
       map-right = good-right G (d .image) (d .map) (t .good);
       overlay = λ b h. book-map G rows m u (t .good .inv) (t .tracks) b h;
-      held = λ b h r. let k = book-taken G rows m u (t .good .inv) (t .tracks) b h r in record {
-        entry = k .e;
-        slot = k .j;
-        entry-below = k .entry;
-        slot-below = k .place;
-        in-book = sym (book-note G rows m u (t .good .inv) (t .tracks) b h r) ∙ k .is;
-        in-map = k .is;
-        uses = k .uses;
-        unlisted = k .unlisted;
-      };
+      held = λ b h r. book-has G rows m u (t .good .inv) (t .tracks) b h r;
       others = λ b h z. book-settled G rows m u (t .good .inv) (t .tracks) b h z;
       never-refused = λ q. good-never-one G (q .asked) (lentTo d q) (d .session) (t .good);
     }
@@ -121,20 +102,13 @@ module _ {G : Geometry} (S : Sound G) where
   pub nothing-lost : (d : Disk) (q : Request) → q .asked .number ≡ 13 → accepts G d q ≡ true → (qs : List Request)
       → NothingLost G (run G (after G d q) qs) (bookRun G (after G d q) qs nothingHeld)
   nothing-lost d q n a qs =
-      told-lost G (run G (after G d q) qs) (bookRun G (after G d q) qs nothingHeld) (told-run S (after G d q) qs nothingHeld (told-login S d q n a))
+      booked-lost G (run G (after G d q) qs) (bookRun G (after G d q) qs nothingHeld) (booked-run S (after G d q) qs nothingHeld (booked-login S d q n a))
 
   -- byte by byte, for every call on any disk
   pub bytes-stay : (d : Disk) (q : Request)
       → Frame G (d .image) (after G d q .image) (names (q .asked .number) (d .session .user) (q .fcb)) (MayWrite G (q .asked .number) (lentTo d q) (d .session) (outcomeOf G d q))
   unfolding after outcomeOf
   bytes-stay d q = step-ok S (q .asked) (lentTo d q) (d .session) .frame
-
-  -- the image keeps its length
-  pub length-stays : (d : Disk) (q : Request) → length (after G d q .image) ≡ length (d .image)
-  unfolding after outcomeOf
-  length-stays d q =
-      split (total G (q .asked) (lentTo d q) (d .session)) (λ r. ap (λ (l : Lent). length (l .image)) (r .1 .kept))
-      (λ c. step-accepted S (q .asked) (lentTo d q) (d .session) c .image-long ∙ sym (c .facts .ready .fits .image-long))
 
   -- the system tracks are never touched
   pub system-stays : (d : Disk) (q : Request) (i : ℕ) → i < G .reserved * G .sectors * recordBytes → getD (after G d q .image) i 0 ≡ getD (d .image) i 0

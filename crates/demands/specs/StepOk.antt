@@ -29,8 +29,8 @@ use Rattle.model.specs.Calls.{loggedIn, freed, userSet, openedAt, opened, close
 use Rattle.model.specs.Step.{effect, step}
 use Rattle.fields.specs.Making.{length-madeRow, user-made, name-made}
 use Rattle.facts.specs.Naming.{named-intro}
-use Rattle.fields.specs.Naming.{named-used}
 use Rattle.table.specs.Own.{Call, call13, call15, call16, call17, call18, call19, call20, call21, call22, call23, call32, call33, call34, call35, call36, call46, call98, told-apart, at-call}
+use Rattle.consistency.specs.Naming.{named-used}
 use Rattle.table.specs.First.{_&_}
 use Rattle.table.specs.Facts.{Fits, Closes, Makes, Renames, Own, Ready}
 use Rattle.table.specs.Carried.{carriedBy, effect-is}
@@ -39,7 +39,7 @@ use Rattle.invariant.specs.Good.{Good, good-of}
 use Rattle.invariant.specs.Calls.{GoodOutcome, carried-good}
 use Rattle.effects.specs.View.{viewOf}
 use Rattle.effects.specs.Effect.{Effect, Keeps, nothing-done, nothing-kept}
-use Rattle.effects.specs.Where.{Frame, NoRecord, OneRecord, one-more}
+use Rattle.effects.specs.Where.{Frame, WritesNone, OneRecord, one-more}
 use Rattle.effects.specs.Book.{Book, nothingHeld, settledBy, acceptedAnswer, closedBook, movedBook, deletedBook, writtenBook, bookBy, bookStep}
 use Rattle.effects.specs.Tracks.{Tracks, fresh-tracks, freed-tracks}
 use Rattle.effects.specs.Change.{Change, asItWas, no-change, as-change}
@@ -129,9 +129,9 @@ module _ {G : Geometry} (S : Sound G) (argument : ℕ) (l : Lent) (s : Session) 
 
   -- a change by the name of the FCB that writes no record
   by-name : (n : ℕ) (o : Outcome) (B : Book → Book) → usesFcb n ≡ true → oneOf n (17 ∷ 19 ∷ []) ≡ false → ((u : Book) → bookBy G n (s .user) l (o .lent) u ≡ B u)
-      → Change G (byName (s .user) (l .fcb)) NoRecord B (l .image) (l .map) (o .lent .image) (o .lent .map) → Carries G n l s o
+      → Change G (byName (s .user) (l .fcb)) WritesNone B (l .image) (l .map) (o .lent .image) (o .lent .map) → Carries G n l s o
   by-name n o B u w b c =
-      as-change G (byName (s .user) (l .fcb)) (names n (s .user) (l .fcb)) NoRecord (MayWrite G n l s o) B (bookBy G n (s .user) l (o .lent))
+      as-change G (byName (s .user) (l .fcb)) (names n (s .user) (l .fcb)) WritesNone (MayWrite G n l s o) B (bookBy G n (s .user) l (o .lent))
       (l .image) (l .map) (o .lent .image) (o .lent .map) (names-plain n (s .user) (l .fcb) (f .fcb-long) u w) (λ d z. absurd z) (λ v x h. ap (λ (y : Book). y x) (b v)) c
 
   -- 16
@@ -140,8 +140,8 @@ module _ {G : Geometry} (S : Sound G) (argument : ℕ) (l : Lent) (s : Session) 
   closed-carries c =
       let e : ℕ = c .entry .place in
       rw (c .entry .is)
-      (by-name 16 (closedAt G s l e) (settledBy (rowsOf G l e) (l .fcb)) refl refl (λ u. rw (present-before S 16 l s g f e (c .entry .is) NoRecord))
-      (closed-change S (l .image) (l .map) g (s .user) (f .user-low) (l .fcb) e (present-cur S 16 l s g f e (c .entry .is) NoRecord) NoRecord))
+      (by-name 16 (closedAt G s l e) (settledBy (rowsOf G l e) (l .fcb)) refl refl (λ u. rw (present-before S 16 l s g f e (c .entry .is) WritesNone))
+      (closed-change S (l .image) (l .map) g (s .user) (f .user-low) (l .fcb) e (present-cur S 16 l s g f e (c .entry .is) WritesNone) WritesNone))
 
   -- 20 and 33
   read-carries : (n : ℕ) → usesFcb n ≡ true → oneOf n (17 ∷ 19 ∷ []) ≡ false → ((u : Book) → bookBy G n (s .user) l (read G s l n .lent) u ≡ movedBook G n (s .user) l u)
@@ -169,10 +169,10 @@ module _ {G : Geometry} (S : Sound G) (argument : ℕ) (l : Lent) (s : Session) 
   deleted-carries : Carries G 19 l s (deleted G s l)
   unfolding deleted deletes deletedBook usesFcb oneOf bookBy _or_
   deleted-carries =
-      as-change G (deletes G s l) (names 19 (s .user) (l .fcb)) NoRecord (MayWrite G 19 l s (deleted G s l)) (deletedBook G 19 (s .user) l)
+      as-change G (deletes G s l) (names 19 (s .user) (l .fcb)) WritesNone (MayWrite G 19 l s (deleted G s l)) (deletedBook G 19 (s .user) l)
       (bookBy G 19 (s .user) l (deleted G s l .lent)) (l .image) (l .map) (deleted G s l .lent .image) (deleted G s l .lent .map)
       (λ r h. names-by 19 (s .user) (l .fcb) r (f .fcb-long) refl h) (λ d z. absurd z) (λ u x h. refl)
-      (erased-change S (deletes G s l) (l .image) (l .map) g (λ e h n. named-used true (s .user) (l .fcb) 1 (rowsOf G l e) n (f .user-low)) NoRecord)
+      (erased-change S (deletes G s l) (l .image) (l .map) g (λ e h n. named-used true (s .user) (l .fcb) 1 (rowsOf G l e) n (f .user-low)) WritesNone)
 
   -- 22
   created-carries : Makes G l s → GoodOutcome G (created G s l) → Carries G 22 l s (created G s l)
@@ -182,10 +182,10 @@ module _ {G : Geometry} (S : Sound G) (argument : ℕ) (l : Lent) (s : Session) 
       let row : Bytes = madeRow (s .user) (l .fcb) in
       let found = empty-says G (rowsOf G l) t (m .entry .is) in
       by-name 22 (created G s l) asItWas refl refl (λ u. refl)
-      (subst (λ (o : Outcome). Change G (byName (s .user) (l .fcb)) NoRecord asItWas (l .image) (l .map) (o .lent .image) (o .lent .map)) (sym (at t (m .entry .is)))
+      (subst (λ (o : Outcome). Change G (byName (s .user) (l .fcb)) WritesNone asItWas (l .image) (l .map) (o .lent .image) (o .lent .map)) (sym (at t (m .entry .is)))
       (made-change S (byName (s .user) (l .fcb)) (l .image) (l .map) g t (found .below) (found .holds) row (length-madeRow (s .user) (l .fcb))
       (named-intro false (s .user) (l .fcb) 1 row (user-made (s .user) (l .fcb)) (like-intro (l .fcb) 1 row 1 (λ i h. sym (name-made (s .user) (l .fcb) i h))))
-      (subst (GoodOutcome G) (at t (m .entry .is)) good) NoRecord))
+      (subst (GoodOutcome G) (at t (m .entry .is)) good) WritesNone))
     where
       at : (t : ℕ) → findEmpty G (rowsOf G l) ≡ At t → created G s l ≡ createdAt G s l t
       at t q = rw q
@@ -194,7 +194,7 @@ module _ {G : Geometry} (S : Sound G) (argument : ℕ) (l : Lent) (s : Session) 
   renamed-carries : Renames G l s → Carries G 23 l s (renamed G s l)
   unfolding renamed usesFcb oneOf bookBy _or_
   renamed-carries r =
-      by-name 23 (renamed G s l) asItWas refl refl (λ u. refl) (renamed-change S (l .image) (l .map) g (s .user) (f .user-low) (l .fcb) (r .new-name) (r .new) NoRecord)
+      by-name 23 (renamed G s l) asItWas refl refl (λ u. refl) (renamed-change S (l .image) (l .map) g (s .user) (f .user-low) (l .fcb) (r .new-name) (r .new) WritesNone)
 
   user-lent : userSet G s l argument .lent ≡ l
   unfolding userSet

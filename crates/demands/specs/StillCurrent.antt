@@ -21,7 +21,7 @@ use Rattle.model.specs.Calls.{openedAt, opened, closedAt, closed, createdAt, cr
 use Rattle.fields.specs.Fine.{fine-made}
 use Rattle.fields.specs.Making.{length-madeRow, user-made}
 use Rattle.facts.specs.Naming.{file-user}
-use Rattle.fields.specs.Naming.{file-used}
+use Rattle.consistency.specs.Naming.{file-used}
 use Rattle.table.specs.First.{_&_}
 use Rattle.table.specs.Own.{Call, call15, call16, call20, call21, call22, call33, call34, told-apart, at-call}
 use Rattle.table.specs.Facts.{Fits, Opens, Closes, Makes, Reads, Writes, Own}
@@ -30,7 +30,7 @@ use Rattle.invariant.specs.Good.{Good}
 use Rattle.invariant.specs.Step.{step-accepted}
 use Rattle.effects.specs.View.{viewOf}
 use Rattle.effects.specs.Cur.{Cur, cur-current}
-use Rattle.effects.specs.Where.{NoRecord}
+use Rattle.effects.specs.Where.{WritesNone}
 use Rattle.effects.specs.Entered.{entered-cur, copied-cur, closed-cur}
 use Rattle.effects.specs.Came.{present-cur}
 use Rattle.effects.specs.Write.{written-ok, reads-ok}
@@ -71,7 +71,7 @@ module _ {G : Geometry} (S : Sound G) (argument : ℕ) (l : Lent) (s : Session) 
       rw (c .entry .is)
       record {
         entry = e;
-        cur = closed-cur S (l .image) (l .map) g (s .user) (f .user-low) (l .fcb) (f .fcb-long) e (present-cur S 16 l s g f e (c .entry .is) NoRecord);
+        cur = closed-cur S (l .image) (l .map) g (s .user) (f .user-low) (l .fcb) (f .fcb-long) e (present-cur S 16 l s g f e (c .entry .is) WritesNone);
       }
 
   -- 22

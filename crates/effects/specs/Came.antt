@@ -19,8 +19,8 @@ use Rattle.facts.specs.Find.{empty-says}
 use Rattle.model.specs.declared.Session.{Session}
 use Rattle.model.specs.Lent.{Lent, rowsOf}
 use Rattle.model.specs.Closing.{closedImage, closedMap}
-use Rattle.model.specs.Entering.{entered}
-use Rattle.model.specs.Target.{targetExtent, targetSlot, presentEntry, stays, targetEntry, blockThere, moved, nextMade, made}
+use Rattle.model.specs.Entering.{entered, nextRow}
+use Rattle.model.specs.Target.{targetExtent, targetSlot, presentEntry, stays, targetEntry, blockThere, moved, made}
 use Rattle.fields.specs.Agree.{SameName}
 use Rattle.fields.specs.Fine.{fine-next}
 use Rattle.fields.specs.Making.{length-nextRow, slot-next, user-next, extent-next}
@@ -147,7 +147,7 @@ module _ {G : Geometry} (S : Sound G) (n : ℕ) (l : Lent) (s : Session) (g : Go
         was-theirs t (listed (targetSlot G n (l .fcb)) record { entry = below; place = place; uses = uses; is = move-slot; real = z })
         (file-named G (s .user) (l .fcb) 1 (targetExtent n (l .fcb)) (rowsOf G l t) file)
 
-    pub move-came : CameTo G n (s .user) l (moved G n l e t) t W (settledBy (rowsOf G l e) (l .fcb))
+    pub move-came : CameTo G n (s .user) l (moved G l e t) t W (settledBy (rowsOf G l e) (l .fcb))
     unfolding moved
     move-came =
         let hf : 32 ≤ length (l .fcb) = (let q : length (l .fcb) ≡ 36 = f .fcb-long in omega arith) in
@@ -184,25 +184,29 @@ module _ {G : Geometry} (S : Sound G) (n : ℕ) (l : Lent) (s : Session) (g : Go
     long : length (rowsOf G l e) ≡ entryBytes
     long = length-entryAt S (l .image) (g .image-long) e (present-cur .low)
 
-    whole : length (nextMade G n l e) ≡ entryBytes
-    unfolding nextMade
+    -- the new row
+    next : Bytes
+    next = nextRow (rowsOf G l e) (targetExtent n (l .fcb))
+
+    whole : length next ≡ entryBytes
+    unfolding next
     whole = length-nextRow (rowsOf G l e) (targetExtent n (l .fcb)) long
 
-    -- the new row is of the user's file
-    next-user : userOf (nextMade G n l e) ≡ s .user
-    unfolding nextMade
+    -- it is of the user's file
+    next-user : userOf next ≡ s .user
+    unfolding next
     next-user = user-next (rowsOf G l e) (targetExtent n (l .fcb)) long ∙ file-user G (s .user) (l .fcb) 1 (extentOf (l .fcb)) (rowsOf G l e) (present-cur .file)
 
-    next-extent : extentOf (nextMade G n l e) ≡ targetExtent n (l .fcb)
-    unfolding nextMade
+    next-extent : extentOf next ≡ targetExtent n (l .fcb)
+    unfolding next
     next-extent = extent-next (rowsOf G l e) (targetExtent n (l .fcb)) long
 
-    next-named : byName (s .user) (l .fcb) (nextMade G n l e) ≡ true
-    unfolding nextMade
-    next-named = file-named G (s .user) (l .fcb) 1 (targetExtent n (l .fcb)) (nextMade G n l e) (next-file S n l s g f e at t room none low)
+    next-named : byName (s .user) (l .fcb) next ≡ true
+    unfolding next
+    next-named = file-named G (s .user) (l .fcb) 1 (targetExtent n (l .fcb)) next (next-file S n l s g f e at t room none low)
 
-    next-fine : Fine G (nextMade G n l e)
-    unfolding nextMade
+    next-fine : Fine G next
+    unfolding next
     next-fine =
         fine-next G (rowsOf G l e) (targetExtent n (l .fcb)) long
         (g .inv .dir .fine e (present-cur .low) (cur-uses G (viewOf G (l .image) (l .map)) (s .user) (f .user-low) (l .fcb) e present-cur)) low
@@ -221,50 +225,49 @@ module _ {G : Geometry} (S : Sound G) (n : ℕ) (l : Lent) (s : Session) (g : Go
         ∙ empty-says G (rowsOf G l) t room .holds
 
     new : Bytes
-    new = withEntry G mid t (nextMade G n l e)
+    new = withEntry G mid t next
 
     mid-good : Good G mid mid-map
     unfolding mid mid-map
     mid-good = closed-by .good
 
     new-good : Good G new mid-map
-    unfolding new mid mid-map made
+    unfolding new next mid mid-map made
     new-good = good-next S n l s g f e at t room none low
 
-    next-here : entryAt G new t ≡ nextMade G n l e
+    next-here : entryAt G new t ≡ next
     unfolding new
-    next-here = made-here S (byName (s .user) (l .fcb)) mid mid-map mid-good t room-below void (nextMade G n l e) whole next-named
+    next-here = made-here S (byName (s .user) (l .fcb)) mid mid-map mid-good t room-below void next whole next-named
 
     closed-then-made : Change G (byName (s .user) (l .fcb)) W (settledBy (rowsOf G l e) (l .fcb)) (l .image) (l .map) new mid-map
     unfolding mid mid-map new
     closed-then-made =
         then-change G (byName (s .user) (l .fcb)) W (settledBy (rowsOf G l e) (l .fcb)) asItWas (l .image) (l .map) mid mid-map new mid-map (g .inv .dir) closed-by
-        (made-change S (byName (s .user) (l .fcb)) mid mid-map mid-good t room-below void (nextMade G n l e) whole next-named new-good W)
-        (made-names-stay S (byName (s .user) (l .fcb)) mid mid-map mid-good t room-below void (nextMade G n l e) whole next-named)
+        (made-change S (byName (s .user) (l .fcb)) mid mid-map mid-good t room-below void next whole next-named new-good W)
+        (made-names-stay S (byName (s .user) (l .fcb)) mid mid-map mid-good t room-below void next whole next-named)
 
     make-slot : blockThere G n (s .user) l ≡ 0
     make-slot = make-block G n (s .user) l go none
 
-    next-slot : slotOf (nextMade G n l e) (targetSlot G n (l .fcb)) ≡ 0
-    unfolding nextMade
+    next-slot : slotOf next (targetSlot G n (l .fcb)) ≡ 0
+    unfolding next
     next-slot = slot-next (rowsOf G l e) (targetExtent n (l .fcb)) long (targetSlot G n (l .fcb))
 
-    pub make-came : CameTo G n (s .user) l (made G n l e t) t W (settledBy (rowsOf G l e) (l .fcb))
-    unfolding made new mid mid-map
+    pub make-came : CameTo G n (s .user) l (made G (targetExtent n (l .fcb)) l e t) t W (settledBy (rowsOf G l e) (l .fcb))
+    unfolding made new next mid mid-map
     make-came =
         let hf : 32 ≤ length (l .fcb) = (let q : length (l .fcb) ≡ 36 = f .fcb-long in omega arith) in
-        let row : Bytes = nextMade G n l e in
         record {
           change = closed-then-made;
-          cur = entered-cur G (viewOf G new mid-map) (s .user) (l .fcb) row t room-below next-here next-user (f .fcb-long) next-fine
+          cur = entered-cur G (viewOf G new mid-map) (s .user) (l .fcb) next t room-below next-here next-user (f .fcb-long) next-fine
               (fcb-says (l .fcb) (present-cur .right) .cr);
           mine = ap (byName (s .user) (l .fcb)) next-here ∙ next-named;
-          extent = extent-entered (l .fcb) row hf ∙ next-extent;
-          long = length-entered (l .fcb) row hf ∙ f .fcb-long;
-          first = first-entered (l .fcb) row hf;
-          name = entered-name row next-named;
+          extent = extent-entered (l .fcb) next hf ∙ next-extent;
+          long = length-entered (l .fcb) next hf ∙ f .fcb-long;
+          first = first-entered (l .fcb) next hf;
+          name = entered-name next next-named;
           buffer = refl;
-          slot = slot-entered (l .fcb) row hf (targetSlot G n (l .fcb)) place ∙ next-slot ∙ sym make-slot;
+          slot = slot-entered (l .fcb) next hf (targetSlot G n (l .fcb)) place ∙ next-slot ∙ sym make-slot;
           theirs = λ z. absurd (z make-slot);
           free = still-free;
           book = move-book go;

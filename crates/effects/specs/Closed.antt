@@ -17,7 +17,7 @@ use Rattle.invariant.specs.Good.{Good}
 use Rattle.invariant.specs.CloseGood.{good-closed}
 use Rattle.effects.specs.View.{viewOf, Names}
 use Rattle.effects.specs.Steps.{NamesUsed, one-effect, keeps-by, held-named}
-use Rattle.fields.specs.Naming.{named-used}
+use Rattle.consistency.specs.Naming.{named-used}
 use Rattle.effects.specs.Cur.{Cur, cur-facts, cur-named}
 use Rattle.effects.specs.Where.{in-entry, entry-or-same}
 use Rattle.effects.specs.Book.{settledBy}

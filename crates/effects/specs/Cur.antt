@@ -22,7 +22,7 @@ use Rattle.model.specs.Target.{placeIn}
 use Rattle.effects.specs.View.{View, viewOf, Names, Mine, listed, pending}
 use Rattle.effects.specs.Effect.{Foreign, Effect, Keeps}
 use Rattle.facts.specs.Naming.{file-named}
-use Rattle.fields.specs.Naming.{file-used, file-found}
+use Rattle.consistency.specs.Naming.{file-used, file-found}
 
 -- f is current for the user, and e is its entry
 pub record Cur (G : Geometry) (s : View) (user : ℕ) (f : Bytes) (e : ℕ) : Type 0 where
@@ -59,7 +59,7 @@ module _ (G : Geometry) (img map : Bytes) (user : ℕ) (f : Bytes) (e : ℕ) whe
     pub cur-facts : Current G (entryAt G img) map user f e
     cur-facts = record {
       right = k .right;
-      found = file-found G (entryAt G img) c user hu f 1 (extentOf f) e (k .low) (k .file);
+      found = file-found G (entryAt G img) user hu f 1 (extentOf f) e (k .low) (k .file) c;
       fits = slots-are map e (entryAt G img e) f (λ j l. of-held j (k .fits j l));
     }
 

@@ -4,6 +4,7 @@ use mathlib.Core.Path.{_≡_, refl, ap, sym, _∙_}
 use mathlib.Core.Logic.{_⊎_, inl, inr}
 use mathlib.Core.Bool.{Bool, true, false}
 use Prim.Native.Nat.{ℕ, _+_, _≤_, _<_}
+use native.Mathlib.Omega.{arith}
 use lib.Dec.{leb, ltb}
 use lib.ListN.{length}
 use borrow.Author.Tests.{leb-true, ltb-true, le-leb, lt-ltb}
@@ -13,16 +14,16 @@ use Rattle.lists.specs.Below.{anyBelow, any-some, any-never}
 use Rattle.format.specs.Diskette.{Bytes, Geometry, Sound, entryBytes, slotCount}
 use Rattle.format.specs.Names.{nameRight}
 use Rattle.format.specs.Entries.{entryAt, withEntry, entryPlace, empty, named}
-use Rattle.format.specs.Notes.{noteAt, pendingFor, releasedNote, releasedMap}
+use Rattle.format.specs.Notes.{freeNote, areaNote, recordedNote, noteAt, pendingFor, releasedNote, releasedMap}
 use Rattle.freeing.specs.Laws.{released-at}
-use Rattle.notes.specs.Numbers.{pending-not-free, pending-not-area, pending-not-recorded}
+use Rattle.notes.specs.Numbers.{pending-not}
 use Rattle.notes.specs.Right.{NoteOk, ok-area, ok-recorded, ok-free, ok-pending}
 use Rattle.rows.specs.Entries.{entry-stored, entry-left, record-kept}
 use Rattle.model.specs.Calls.{changedRows, erasedRow}
 use Rattle.model.specs.Entering.{renamedRow}
 use Rattle.fields.specs.Changing.{row-unpicked, record-changedRows, byte-changedRows, length-erasedRow}
 use Rattle.fields.specs.Making.{length-renamedRow}
-use Rattle.fields.specs.Naming.{named-used}
+use Rattle.consistency.specs.Naming.{named-used}
 use Rattle.invariant.specs.Change.{released-kept}
 use Rattle.invariant.specs.Good.{Good}
 use Rattle.invariant.specs.Updates.{good-erased, good-renamed}
@@ -73,9 +74,6 @@ module _ {G : Geometry} (S : Sound G) (picks : Names) (change : Bytes → Bytes)
 
 -- ---- 19
 module _ {G : Geometry} (S : Sound G) (picks : Names) (img map : Bytes) (g : Good G img map) (sure : NamesUsed G (viewOf G img map) picks) where
-  erased-keeps : (r : Bytes) → length r ≡ entryBytes → length (erasedRow r) ≡ entryBytes
-  erased-keeps r h = length-erasedRow r ∙ h
-
   picked : ℕ → Bool
   picked e = picks (entryAt G img e)
 
@@ -87,9 +85,9 @@ module _ {G : Geometry} (S : Sound G) (picks : Names) (img map : Bytes) (g : Goo
     where
       go : NoteOk G (entryAt G img) b (noteAt map b) → (noteAt (releasedMap G (entryAt G img) (λ (e : ℕ). picks (entryAt G img e)) map) b ≡ noteAt map b)
           ⊎ ((e j : ℕ) → j < slotCount → noteAt map b ≡ pendingFor e j → picks (entryAt G img e) ≡ true)
-      go (ok-area q a) = inr (λ e j l p. absurd (pending-not-area e j (sym p ∙ q)))
-      go (ok-recorded q a y) = inr (λ e j l p. absurd (pending-not-recorded e j (sym p ∙ q)))
-      go (ok-free q x) = inr (λ e j l p. absurd (pending-not-free e j (sym p ∙ q)))
+      go (ok-area q a) = inr (λ e j l p. absurd (pending-not areaNote (omega arith) e j (sym p ∙ q)))
+      go (ok-recorded q a y) = inr (λ e j l p. absurd (pending-not recordedNote (omega arith) e j (sym p ∙ q)))
+      go (ok-free q x) = inr (λ e j l p. absurd (pending-not freeNote (omega arith) e j (sym p ∙ q)))
       go (ok-pending e j q l i u x) =
           split (bool-cases (picks (entryAt G img e)))
           (λ y. inr (held-named (viewOf G img map) picks b e j i y q))
@@ -102,9 +100,9 @@ module _ {G : Geometry} (S : Sound G) (picks : Names) (img map : Bytes) (g : Goo
   erased-change W =
       let map′ = releasedMap G (entryAt G img) (λ (e : ℕ). picks (entryAt G img e)) map in
       record {
-        effect = picked-effect S picks erasedRow erased-keeps img map map′ g sure;
+        effect = picked-effect S picks erasedRow length-erasedRow img map map′ g sure;
         keeps = keeps-by G (viewOf G img map) (viewOf G (changedRows G picks erasedRow img) map′) picks erased-note;
-        frame = picked-frame S picks erasedRow erased-keeps img map map′ g sure W;
+        frame = picked-frame S picks erasedRow length-erasedRow img map map′ g sure W;
         good = good-erased S img map g picks;
         book = λ u t. erased-tracks G (entryAt G img) (noteAt map) (noteAt map′) u (g .inv) (λ (e : ℕ). picks (entryAt G img e))
             (λ b h. released-at G (entryAt G img) (λ (e : ℕ). picks (entryAt G img e)) map b h) t;

@@ -13,7 +13,7 @@ use Rattle.format.specs.Diskette.{Bytes, Geometry, Sound, recordBytes, recordAt
 use Rattle.format.specs.Entries.{entryAt, slotOf, slotFor, extentOf, isFile}
 use Rattle.format.specs.Notes.{freeNote, noteAt, pendingFor}
 use Rattle.format.specs.Fcb.{fcbBytes, fcbRight}
-use Rattle.notes.specs.Numbers.{pending-not-free}
+use Rattle.notes.specs.Numbers.{pending-not}
 use Rattle.disk.specs.Records.{record-written, record-left}
 use Rattle.rows.specs.Entries.{block-past, entry-kept}
 use Rattle.facts.specs.Slots.{slot-for-below}
@@ -135,7 +135,7 @@ module _ {G : Geometry} (S : Sound G) (img map : Bytes) (g : Good G img map) (us
         kept : (x i : ℕ) → noteAt map x ≡ pendingFor t i → noteAt (writtenMap map f t j b) x ≡ pendingFor t i
         kept x i p =
             split (eq-or-ne (slotOf f j) 0)
-            (λ z. note-written-other map f t j b x (λ y. pending-not-free t i (sym p ∙ ap (noteAt map) y ∙ k .free z)) ∙ p)
+            (λ z. note-written-other map f t j b x (λ y. pending-not freeNote (omega arith) t i (sym p ∙ ap (noteAt map) y ∙ k .free z)) ∙ p)
             (λ z. same-notes z x ∙ p)
 
     -- the slot of the record

@@ -4,12 +4,13 @@ use mathlib.Core.Path.{_≡_, ap, sym, _∙_, subst}
 use mathlib.Core.Logic.{_⊎_, inl, inr}
 use mathlib.Core.Bool.{true, false}
 use Prim.Native.Nat.{ℕ, _≤_, _<_}
+use native.Mathlib.Omega.{arith}
 use Rattle.lists.specs.Cases.{split, bool-cases, eq-or-ne, not-both}
 use Rattle.format.specs.Diskette.{Geometry, diskRecord, slotCount}
 use Rattle.format.specs.Entries.{empty, used}
 use Rattle.format.specs.Notes.{freeNote, pendingFor}
 use Rattle.consistency.specs.Reflect.{used-full, empty-elsewhere}
-use Rattle.notes.specs.Numbers.{pending-once, pending-not-free}
+use Rattle.notes.specs.Numbers.{pending-once, pending-not}
 use Rattle.disk.specs.Places.{blockRecords, block-once}
 use Rattle.rows.specs.Entries.{areaRecords}
 use Rattle.effects.specs.View.{View, Right, Names, Mine}
@@ -87,4 +88,4 @@ pub take-keeps : (G : Geometry) (s t : View) (N : Names) (b : ℕ) → s .notes 
 take-keeps G s t N b z q =
     keeps-by G s t N
     (λ c l. split (eq-or-ne c b)
-    (λ y. inr (λ e j i p. absurd (pending-not-free e j (sym p ∙ ap (s .notes) y ∙ z)))) (λ y. inl (q c l y)))
+    (λ y. inr (λ e j i p. absurd (pending-not freeNote (omega arith) e j (sym p ∙ ap (s .notes) y ∙ z)))) (λ y. inl (q c l y)))

@@ -53,13 +53,14 @@ unfoldable pub overlaid : ℕ → ℕ → ℕ
 overlaid held fresh = cond (eqb held 0) fresh held
 
 -- a block in the book: its note is pending for its place, in a used entry, and no entry lists it
-pub record Taken (G : Geometry) (d : Rows) (b n : ℕ) : Type 0 where
-  pub e : ℕ
-  pub j : ℕ
-  pub entry : e < G .entries
-  pub place : j < slotCount
-  pub is : n ≡ pendingFor e j
-  pub uses : used (d e) ≡ true
+pub record InBook (G : Geometry) (d : Rows) (m : ℕ → ℕ) (u : Book) (b : ℕ) : Type 0 where
+  pub entry : ℕ
+  pub slot : ℕ
+  pub entry-below : entry < G .entries
+  pub slot-below : slot < slotCount
+  pub in-book : u b ≡ pendingFor entry slot
+  pub in-map : m b ≡ pendingFor entry slot
+  pub uses : used (d entry) ≡ true
   pub unlisted : isListed G d b ≡ false
 
 module _ (G : Geometry) (d : Rows) (m : ℕ → ℕ) (u : Book) (v : Inv G d m) (t : Tracks G u m) (b : ℕ) (h : b < G .blocks) where
@@ -74,21 +75,30 @@ module _ (G : Geometry) (d : Rows) (m : ℕ → ℕ) (u : Book) (v : Inv G d m) 
       rw (eq-eqb (u b) 0 z) (rw p at q))
 
   -- a held block's note is the book's
-  pub book-note : (u b ≡ 0 → ⊥) → m b ≡ u b
+  book-note : (u b ≡ 0 → ⊥) → m b ≡ u b
   unfolding overlaid
   book-note r = book-map ∙ rw (ne-eqb (u b) 0 r)
 
-  pub book-taken : (u b ≡ 0 → ⊥) → Taken G d b (m b)
-  book-taken r = go (v .map b h)
+  pub book-has : (u b ≡ 0 → ⊥) → InBook G d m u b
+  book-has r = go (v .map b h)
     where
-      no : m b < 16 → Taken G d b (m b)
+      no : m b < 16 → InBook G d m u b
       no l = absurd (r (t b h ∙ held-settled (m b) (settled-not (m b) l)))
 
-      go : NoteOk G d b (m b) → Taken G d b (m b)
+      go : NoteOk G d b (m b) → InBook G d m u b
       go (ok-area q a) = no (omega arith)
       go (ok-recorded q a y) = no (omega arith)
       go (ok-free q s) = no (omega arith)
-      go (ok-pending e j q l i w s) = record { e = e; j = j; entry = l; place = i; is = q; uses = w; unlisted = s .unlisted }
+      go (ok-pending e j q l i w s) = record {
+        entry = e;
+        slot = j;
+        entry-below = l;
+        slot-below = i;
+        in-book = sym (book-note r) ∙ q;
+        in-map = q;
+        uses = w;
+        unlisted = s .unlisted;
+      }
 
   -- no other block's note is pending
   pub book-settled : u b ≡ 0 → isPending (m b) ≡ false

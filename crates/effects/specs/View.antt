@@ -2,13 +2,14 @@
 use mathlib.Core.Path.{_≡_, sym, _∙_}
 use mathlib.Core.Bool.{Bool}
 use Prim.Native.Nat.{ℕ, _≤_, _<_}
+use native.Mathlib.Omega.{arith}
 use Rattle.lists.specs.Cases.{not-both}
 use Rattle.format.specs.Diskette.{Bytes, Geometry, recordAt, slotCount}
 use Rattle.format.specs.Entries.{Rows, entryAt}
 use Rattle.format.specs.Notes.{freeNote, noteAt, pendingFor}
 use Rattle.consistency.specs.Facts.{Stands}
 use Rattle.consistency.specs.Listed.{somewhere-listed}
-use Rattle.notes.specs.Numbers.{pending-once, pending-not-free}
+use Rattle.notes.specs.Numbers.{pending-once, pending-not}
 use Rattle.notes.specs.Right.{Spare}
 use Rattle.notes.specs.Free.{free-spare}
 use Rattle.invariant.specs.Close.{pending-spare}
@@ -73,4 +74,4 @@ module _ (G : Geometry) (s : View) (v : Right G s) where
 
   pub mine-not-free : (b e : ℕ) → Mine G s b e → s .notes b ≡ freeNote → ⊥
   mine-not-free b e (listed j a) z = stands-not-spare b e j a (spare-free b (stands-high b e j a) z)
-  mine-not-free b e (pending j l h q) z = pending-not-free e j (sym q ∙ z)
+  mine-not-free b e (pending j l h q) z = pending-not freeNote (omega arith) e j (sym q ∙ z)

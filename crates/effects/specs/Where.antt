@@ -35,8 +35,8 @@ abbrev pub Frame : Geometry → Bytes → Bytes → Names → (ℕ → Type 0) �
 Frame G img img′ N W = (i : ℕ) → (getD img′ i 0 ≡ getD img i 0) ⊎ Where G img img′ N W i
 
 -- no record is written
-abbrev pub NoRecord : ℕ → Type 0
-NoRecord d = ⊥
+abbrev pub WritesNone : ℕ → Type 0
+WritesNone d = ⊥
 
 -- block b was free, or belonged to an entry that N names
 pub data Theirs (G : Geometry) (img map : Bytes) (N : Names) (b : ℕ) : Type 0 where

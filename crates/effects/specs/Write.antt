@@ -17,7 +17,7 @@ use Rattle.model.specs.Lent.{Lent}
 use Rattle.model.specs.Target.{targetExtent, targetRecord, targetSlot, crAfter, presentEntry, plan, moved, made, placeIn, haveRead, haveWritten, writtenFcb, writtenMap}
 use Rattle.model.specs.Calls.{readAt, reading, read, writtenAt, writing, written}
 use Rattle.fields.specs.Agree.{SameName}
-use Rattle.fields.specs.Naming.{file-found}
+use Rattle.consistency.specs.Naming.{file-found}
 use Rattle.fields.specs.Target.{record-below, crAfter-high, targetSlot-below, length-writtenFcb, head-written, name-written, extent-written, slot-written, name-read, extent-read, head-read}
 use Rattle.table.specs.Facts.{Fits, Reads, Writes}
 use Rattle.table.specs.Plans.{Block, There, Planned, stay, move, make, planned-read, planned-write}
@@ -25,7 +25,7 @@ use Rattle.table.specs.Plans as Plans
 use Rattle.invariant.specs.Good.{Good}
 use Rattle.effects.specs.View.{viewOf, mine-high}
 use Rattle.effects.specs.Cur.{Cur, cur-uses, cur-mine, Holds}
-use Rattle.effects.specs.Where.{NoRecord, Theirs, was-free, OneRecord}
+use Rattle.effects.specs.Where.{WritesNone, Theirs, was-free, OneRecord}
 use Rattle.effects.specs.Book.{Book, movedBook, entryAfter, writtenBook}
 use Rattle.effects.specs.Change.{Change, then-change, as-change}
 use Rattle.effects.specs.Closed.{byName}
@@ -54,7 +54,7 @@ pub record WriteOk (G : Geometry) (n user : ℕ) (l left : Lent) : Type 0 where
   pub holds : Holds G (viewOf G (left .image) (left .map)) user (left .fcb) entry (targetRecord n (l .fcb)) (l .buffer)
 
 pub record ReadOk (G : Geometry) (n user : ℕ) (l left : Lent) : Type 0 where
-  pub change : Change G (byName user (l .fcb)) NoRecord (movedBook G n user l) (l .image) (l .map) (left .image) (left .map)
+  pub change : Change G (byName user (l .fcb)) WritesNone (movedBook G n user l) (l .image) (l .map) (left .image) (left .map)
   pub fcb : HandedBack n l left
   pub entry : ℕ
   pub cur : Cur G (viewOf G (left .image) (left .map)) user (left .fcb) entry
@@ -148,9 +148,9 @@ module _ {G : Geometry} (S : Sound G) (n : ℕ) (l : Lent) (s : Session) (g : Go
     unfolding entryAfter left haveWritten j r
     after =
         ap (numberOf (G .entries))
-        (file-found G (entryAt G (withRecord G (there .image) (placeIn G b r) (there .buffer))) (whole .good .inv .dir) (s .user) (f .user-low)
+        (file-found G (entryAt G (withRecord G (there .image) (placeIn G b r) (there .buffer))) (s .user) (f .user-low)
         (writtenFcb G (there .fcb) (entryAt G (there .image) t) j b r (crAfter n (l .fcb))) 1
-        (extentOf (writtenFcb G (there .fcb) (entryAt G (there .image) t) j b r (crAfter n (l .fcb)))) t (came .cur .low) (held .cur .file))
+        (extentOf (writtenFcb G (there .fcb) (entryAt G (there .image) t) j b r (crAfter n (l .fcb)))) t (came .cur .low) (held .cur .file) (whole .good .inv .dir))
 
     left-slot : slotOf (left .fcb) (targetSlot G n (l .fcb)) ≡ b
     unfolding left haveWritten j r
@@ -178,11 +178,11 @@ module _ {G : Geometry} (S : Sound G) (n : ℕ) (l : Lent) (s : Session) (g : Go
     }
 
   -- ---- a read
-  pub read-ok : (there : Lent) (t b : ℕ) (B : Book → Book) → CameTo G n (s .user) l there t NoRecord B
+  pub read-ok : (there : Lent) (t b : ℕ) (B : Book → Book) → CameTo G n (s .user) l there t WritesNone B
       → ReadOk G n (s .user) l (haveRead G b (targetRecord n (l .fcb)) (crAfter n (l .fcb)) there)
   unfolding haveRead
   read-ok there t b B came = record {
-    change = as-change G (byName (s .user) (l .fcb)) (byName (s .user) (l .fcb)) NoRecord NoRecord B (movedBook G n (s .user) l) (l .image) (l .map) (there .image) (there .map)
+    change = as-change G (byName (s .user) (l .fcb)) (byName (s .user) (l .fcb)) WritesNone WritesNone B (movedBook G n (s .user) l) (l .image) (l .map) (there .image) (there .map)
         (λ x h. h) (λ d w. w) (λ u x h. ap (λ (v : Book). v x) (came .book u)) (came .change);
     fcb = record {
       long = length-set (there .fcb) 32 (crAfter n (l .fcb)) ∙ came .long;
@@ -197,7 +197,7 @@ module _ {G : Geometry} (S : Sound G) (n : ℕ) (l : Lent) (s : Session) (g : Go
 -- ---- every plan
 module _ {G : Geometry} (S : Sound G) (n : ℕ) (l : Lent) (s : Session) (g : Good G (l .image) (l .map)) (f : Fits G l s) where
   current-cr : (e : ℕ) → presentEntry G (s .user) l ≡ At e → crOf (l .fcb) ≤ 128
-  current-cr e at = fcb-says (l .fcb) (present-cur S n l s g f e at NoRecord .right) .cr
+  current-cr e at = fcb-says (l .fcb) (present-cur S n l s g f e at WritesNone .right) .cr
 
   module _ (low : targetExtent n (l .fcb) < extents) where
     write-plan : (p : Plan) → Planned G n (s .user) l (Block G n (s .user) l) p → WriteOk G n (s .user) l (writing G s l n p .lent)
@@ -205,17 +205,18 @@ module _ {G : Geometry} (S : Sound G) (n : ℕ) (l : Lent) (s : Session) (g : Go
     write-plan p (stay e b at t target k) =
         wrote-ok S n l s g f (current-cr e at) l e b _ (stay-came S n l s g f e at (OneRecord G (l .image) (l .map) (byName (s .user) (l .fcb)) b (targetRecord n (l .fcb))) t) k
     write-plan p (move e t b at go target k) =
-        wrote-ok S n l s g f (current-cr e at) (moved G n l e t) t b _
+        wrote-ok S n l s g f (current-cr e at) (moved G l e t) t b _
         (move-came S n l s g f e at (OneRecord G (l .image) (l .map) (byName (s .user) (l .fcb)) b (targetRecord n (l .fcb))) go t target) k
     write-plan p (make e t b at go none room k) =
-        wrote-ok S n l s g f (current-cr e at) (made G n l e t) t b _
+        wrote-ok S n l s g f (current-cr e at) (made G (targetExtent n (l .fcb)) l e t) t b _
         (make-came S n l s g f e at (OneRecord G (l .image) (l .map) (byName (s .user) (l .fcb)) b (targetRecord n (l .fcb))) go t room none low) k
 
     read-plan : (B : ℕ → Type 0) (p : Plan) → Planned G n (s .user) l B p → ReadOk G n (s .user) l (reading G s l n p .lent)
     unfolding readAt
-    read-plan B p (stay e b at t target k) = read-ok S n l s g f (current-cr e at) l e b _ (stay-came S n l s g f e at NoRecord t)
-    read-plan B p (move e t b at go target k) = read-ok S n l s g f (current-cr e at) (moved G n l e t) t b _ (move-came S n l s g f e at NoRecord go t target)
-    read-plan B p (make e t b at go none room k) = read-ok S n l s g f (current-cr e at) (made G n l e t) t b _ (make-came S n l s g f e at NoRecord go t room none low)
+    read-plan B p (stay e b at t target k) = read-ok S n l s g f (current-cr e at) l e b _ (stay-came S n l s g f e at WritesNone t)
+    read-plan B p (move e t b at go target k) = read-ok S n l s g f (current-cr e at) (moved G l e t) t b _ (move-came S n l s g f e at WritesNone go t target)
+    read-plan B p (make e t b at go none room k) =
+        read-ok S n l s g f (current-cr e at) (made G (targetExtent n (l .fcb)) l e t) t b _ (make-came S n l s g f e at WritesNone go t room none low)
 
   -- 21 and 34
   pub written-ok : Writes G l s n → WriteOk G n (s .user) l (written G s l n .lent)

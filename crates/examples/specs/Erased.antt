@@ -1,26 +1,23 @@
--- Example e: an erased disk, on which every entry begins with E5H. It is consistent, nothing is listed on it, and after a log-in all
--- blocks past the directory are free.
-use mathlib.Core.Path.{_≡_, refl, sym, subst, _∙_}
+-- Example e: an erased disk. After a log-in all blocks past the directory are free.
+use mathlib.Core.Path.{_≡_, sym, subst}
 use mathlib.Core.Bool.{true, false}
 use mathlib.Core.List.{[], _∷_}
 use Prim.Native.Nat.{ℕ, _-_, _*_, _≤_, _<_}
 use native.Mathlib.Omega.{arith}
-use lib.ListN.{length, getD, replicate, length-replicate}
-use borrow.Author.Tests.{lt-leb, eq-eqb, lt-ltb, le-ltb}
-use Rattle.lists.specs.Cases.{split, bool-cases, lt-or-le, not-both, clash}
+use lib.ListN.{length, getD}
+use borrow.Author.Tests.{lt-ltb, le-ltb}
+use Rattle.lists.specs.Cases.{split, lt-or-le, clash}
 use Rattle.lists.specs.Tests.{_or_}
 use Rattle.lists.specs.Splice.{part, splice, part-splice-same}
 use Rattle.lists.specs.Count.{count-from}
 use Rattle.format.specs.Diskette.{Bytes, Geometry, Sound, imageBytes, recordBytes, eightInch}
-use Rattle.format.specs.Entries.{Rows, entryAt, userOf, empty, used}
+use Rattle.format.specs.Entries.{Rows, entryAt}
 use Rattle.format.specs.Consistent.{consistent}
 use Rattle.format.specs.Notes.{isListed, freshNote, freshMap, isFree, freeCount}
 use Rattle.format.specs.Fcb.{fcbBytes}
 use Rattle.disk.specs.Eight.{eight-sound}
-use Rattle.rows.specs.Entries.{entry-of-same}
-use Rattle.consistency.specs.Listed.{listed-somewhere}
-use Rattle.consistency.specs.Reflect.{all-empty, facts-image}
 use Rattle.notes.specs.Right.{length-fresh, fresh-at, fresh-right}
+use Rattle.fields.specs.Erased.{ErasedDisk, erased-consistent, erased-unlisted}
 use Rattle.model.specs.declared.Asked.{Asked}
 use Rattle.model.specs.declared.Session.{Session}
 use Rattle.model.specs.Codes.{aOf, hOf}
@@ -30,34 +27,9 @@ use Rattle.model.specs.Table.{oneOf, usesFcb}
 use Rattle.model.specs.Calls.{done, loggedIn, space}
 use Rattle.model.specs.Step.{step}
 use Rattle.table.specs.Own.{call13, call46}
-use Rattle.table.specs.Facts.{Ready}
+use Rattle.table.specs.Facts.{Fits, Ready}
+use Rattle.table.specs.Reflect.{login-ready}
 use Rattle.table.specs.Total.{ask, step-carried}
-
-pub record Erased (G : Geometry) (img : Bytes) : Type 0 where
-  pub long : length img ≡ imageBytes G
-  pub void : (e : ℕ) → e < G .entries → userOf (entryAt G img e) ≡ 229
-
--- there are such disks: every byte E5H
-pub all-erased : {G : Geometry} (S : Sound G) (size : ℕ) → size ≡ imageBytes G → Erased G (replicate size 229)
-all-erased S size is = record { long = length-replicate size 229 ∙ is; void = entry-of-same S size 229 is }
-
-module _ (G : Geometry) (img : Bytes) (erased : Erased G img) where
-  pub erased-empty : (e : ℕ) → e < G .entries → empty (entryAt G img e) ≡ true
-  unfolding empty
-  erased-empty e h = eq-eqb _ _ (erased .void e h)
-
-  pub erased-unused : (e : ℕ) → e < G .entries → used (entryAt G img e) ≡ false
-  unfolding used
-  erased-unused e h = lt-leb (userOf (entryAt G img e)) 15 (omega (arith, erased .void e h))
-
-  pub erased-consistent : consistent G img ≡ true
-  erased-consistent = facts-image G img (all-empty G (entryAt G img) erased-empty)
-
-  erased-unlisted : (b : ℕ) → (b ≡ 0 → ⊥) → isListed G (entryAt G img) b ≡ false
-  erased-unlisted b real =
-      split (bool-cases (isListed G (entryAt G img) b))
-      (λ t. let s = listed-somewhere G (entryAt G img) b real t in not-both _ (s .stands .uses) (erased-unused (s .e) (s .stands .entry)))
-      (λ f. f)
 
 -- ---- the free blocks of a fresh map
 module _ (G : Geometry) (d : Rows) (b : ℕ) (below : b < G .blocks) where
@@ -83,7 +55,7 @@ fresh-count G d a low high taken free =
     (λ b h. split (lt-or-le b (G .area)) (λ w. fresh-area G d b (omega arith) w) (λ w. fresh-taken G d b (omega arith) w (taken b w h)))
     (λ b h l. fresh-free G d b l (omega arith) (free b h))
 
-pub erased-count : {G : Geometry} (S : Sound G) (img : Bytes) → Erased G img → freeCount G (freshMap G (entryAt G img)) ≡ G .blocks - G .area
+pub erased-count : {G : Geometry} (S : Sound G) (img : Bytes) → ErasedDisk G img → freeCount G (freshMap G (entryAt G img)) ≡ G .blocks - G .area
 erased-count {G} S img erased =
     let some = S .area-some in
     let room = S .area-below in
@@ -101,26 +73,20 @@ pub record Fitting (G : Geometry) (map fcb buffer : Bytes) (s : Session) : Type 
 
 module _ (G : Geometry) (img : Bytes) (long : length img ≡ imageBytes G) (right : consistent G img ≡ true)
     (map fcb buffer : Bytes) (s : Session) (fit : Fitting G map fcb buffer s) where
-  login-ready : Ready G 13 (lend img map fcb buffer) s
-  unfolding usesFcb oneOf _or_
-  login-ready = record {
-    fits = record {
-      image-long = long;
-      map-long = fit .map-long;
-      fcb-long = fit .fcb-long;
-      buffer-long = fit .buffer-long;
-      user-low = fit .user-low;
-      place-low = fit .place-low;
-    };
-    drive = λ u. clash (sym u);
-    image-right = right;
-    map-right = λ ne. absurd (ne refl);
+  fits : Fits G (lend img map fcb buffer) s
+  fits = record {
+    image-long = long;
+    map-long = fit .map-long;
+    fcb-long = fit .fcb-long;
+    buffer-long = fit .buffer-long;
+    user-low = fit .user-low;
+    place-low = fit .place-low;
   }
 
   -- an image that is consistent can be logged in, whatever the map
   pub login-step : (argument : ℕ) → step G (ask 13 argument) (lend img map fcb buffer) s ≡ done 0 s (lend img (freshMap G (entryAt G img)) fcb buffer)
   unfolding loggedIn
-  login-step argument = step-carried G (ask 13 argument) (lend img map fcb buffer) s call13 login-ready tt
+  login-step argument = step-carried G (ask 13 argument) (lend img map fcb buffer) s call13 (login-ready G (lend img map fcb buffer) s fits right) tt
 
   -- after it every call finds image and map right
   pub logged-ready : (n : ℕ) → (usesFcb n ≡ true → getD fcb 0 0 ≤ 1) → Ready G n (lend img (freshMap G (entryAt G img)) fcb buffer) (ended s)
@@ -176,7 +142,7 @@ space-is G img long right map fcb buffer s fit x y =
     }
 
 -- on an erased disk: 88H 07H 00H
-pub erased-space : (img : Bytes) → Erased eightInch img
+pub erased-space : (img : Bytes) → ErasedDisk eightInch img
     → (map fcb buffer : Bytes) (s : Session) → Fitting eightInch map fcb buffer s → (x y : ℕ)
     → SpaceIs eightInch img (136 ∷ 7 ∷ 0 ∷ []) map fcb buffer s x y
 erased-space img erased map fcb buffer s fit x y =

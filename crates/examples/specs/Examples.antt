@@ -18,8 +18,9 @@ use Rattle.model.specs.Lent.{Lent}
 use Rattle.model.specs.Search.{patternOf, extentHit, hit}
 use Rattle.model.specs.Table.{oneOf, randomCalls}
 use Rattle.table.specs.Facts.{Ready}
+use Rattle.fields.specs.Erased.{ErasedDisk}
 use Rattle.examples.specs.Places.{place-a, place-b, place-c, place-d}
-use Rattle.examples.specs.Erased.{Erased, Fitting, SpaceIs, erased-space}
+use Rattle.examples.specs.Erased.{Fitting, SpaceIs, erased-space}
 use Rattle.examples.specs.Numbers.{Gives, HasEntry, size-largest, position-256}
 use Rattle.examples.specs.Random.{RandomIs, Six, Last, random-six, random-last}
 use Rattle.examples.specs.Pattern.{AllAny, any-named, any-hit}
@@ -40,7 +41,7 @@ pub record Examples : Type 0 where
   pub c : offsetOf eightInch (diskRecord eightInch 3 2) ≡ 9984
   pub d : offsetOf eightInch (diskRecord eightInch 242 7) ≡ 254336
   -- an empty disk, logged in: space bytes 88H 07H 00H
-  pub e : (img : Bytes) → Erased eightInch img → (map fcb buffer : Bytes) (s : Session) → Fitting eightInch map fcb buffer s → (x y : ℕ)
+  pub e : (img : Bytes) → ErasedDisk eightInch img → (map fcb buffer : Bytes) (s : Session) → Fitting eightInch map fcb buffer s → (x y : ℕ)
       → SpaceIs eightInch img (136 ∷ 7 ∷ 0 ∷ []) map fcb buffer s x y
   -- R = 262,143 is extent 2,047, record 127; 262,144 gives 6
   pub f-last : (n argument : ℕ) (l : Lent) (s : Session) → oneOf n randomCalls ≡ true → RandomIs (l .fcb) 255 255 3 → Last eightInch n argument l s

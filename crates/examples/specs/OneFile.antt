@@ -1,8 +1,8 @@
 -- A disk with one file: entry 0 of an erased disk is user 0's file A, of r records, and lists block 2.
-use mathlib.Core.Path.{_≡_, refl, sym, ap, subst, _∙_}
+use mathlib.Core.Path.{_≡_, refl, sym, ap, _∙_}
 use mathlib.Core.Bool.{true, false}
 use mathlib.Core.List.{[], _∷_, _++_}
-use Prim.Native.Nat.{ℕ, zero, suc, _*_, _≤_, _<_}
+use Prim.Native.Nat.{ℕ, zero, suc, _≤_, _<_}
 use native.Mathlib.Omega.{arith}
 use lib.ListN.{length, getD, replicate, getD-replicate}
 use lib.Seq.{getD-append-add}
@@ -27,10 +27,11 @@ use Rattle.model.specs.Lent.{Lent, lend, rowsOf, ended}
 use Rattle.model.specs.Entering.{threeBytes}
 use Rattle.model.specs.Calls.{done, sizeOf, fileSize}
 use Rattle.model.specs.Step.{step}
+use Rattle.fields.specs.Erased.{ErasedDisk, erased-empty, erased-unused}
 use Rattle.fields.specs.Size.{size-covers, size-high}
 use Rattle.table.specs.Facts.{Ready}
 use Rattle.table.specs.Total.{ask}
-use Rattle.examples.specs.Erased.{Erased, Fitting, SpaceIs, erased-empty, erased-unused, fresh-count, space-is, logged-ready}
+use Rattle.examples.specs.Erased.{Fitting, fresh-count, logged-ready}
 use Rattle.examples.specs.Numbers.{size-step, HasEntry, some-entry}
 
 -- the bytes before the slots
@@ -109,7 +110,7 @@ file-fine r h = record {
   high = λ j l real. let q : j ≡ 0 = slot-first j l (λ z. real (file-slot r j ∙ z)) in rw (file-slot r j, q) (omega arith);
 }
 
-module _ (img : Bytes) (erased : Erased eightInch img) (r : ℕ) (low : r ≤ 128) where
+module _ (img : Bytes) (erased : ErasedDisk eightInch img) (r : ℕ) (low : r ≤ 128) where
   rows : Rows
   rows = entryAt eightInch (oneFile img r)
 
@@ -177,13 +178,6 @@ module _ (img : Bytes) (erased : Erased eightInch img) (r : ℕ) (low : r ≤ 12
   one-count =
       fresh-count eightInch rows 3 (omega arith) (omega arith)
       (λ b h l. let q : b ≡ 2 = omega arith in rw q two-listed) rest-unlisted
-
-  -- 46 after it: 80H 07H 00H
-  pub one-space : (map fcb buffer : Bytes) (s : Session) → Fitting eightInch map fcb buffer s → (x y : ℕ)
-      → SpaceIs eightInch (oneFile img r) (128 ∷ 7 ∷ 0 ∷ []) map fcb buffer s x y
-  one-space map fcb buffer s fit x y =
-      subst (λ (k : ℕ). SpaceIs eightInch (oneFile img r) (threeBytes (8 * k)) map fcb buffer s x y) one-count
-      (space-is eightInch (oneFile img r) one-long one-consistent map fcb buffer s fit x y)
 
   -- ---- the size of file A, by 35
   only-named : (e : ℕ) → e < 64 → named false 0 fileFcb 1 (rows e) ≡ true → e ≡ 0

@@ -22,9 +22,10 @@ use Rattle.model.specs.Lent.{Lent, lend, Outcome, ends, ended}
 use Rattle.model.specs.Table.{oneOf, usesFcb, isCall}
 use Rattle.model.specs.Calls.{done}
 use Rattle.model.specs.Step.{refused, step}
+use Rattle.fields.specs.Erased.{ErasedDisk, all-erased, erased-consistent}
 use Rattle.table.specs.Own.{verdict-unlisted}
 use Rattle.table.specs.Total.{ask, total-refused}
-use Rattle.examples.specs.Erased.{Erased, Fitting, all-erased, login-step, space-step, erased-consistent, erased-count}
+use Rattle.examples.specs.Erased.{Fitting, login-step, space-step, erased-count}
 use Rattle.examples.specs.OneFile.{oneFile, fileFcb, length-fileFcb, one-long, one-consistent, one-count, one-sized}
 
 -- a build answers a call by its place in a run, counted from 0, and by what is asked, lent and handed on
@@ -77,7 +78,7 @@ module _ (img : Bytes) (long : length img ≡ imageBytes eightInch) (right : con
   unfolding splice
   space-byte count q = let two = space-step eightInch img long right notes fileFcb blank start fitting 0 in rw (two, q)
 
-module _ (img : Bytes) (erased : Erased eightInch img) where
+module _ (img : Bytes) (erased : ErasedDisk eightInch img) where
   -- the erased disk: 46 answers 0, and the first byte is 88H
   erased-answers : onLogged 46 img .answer .a ≡ 0
   erased-answers = space-answers img (erased .long) (erased-consistent eightInch img erased)
@@ -163,7 +164,7 @@ abbrev pub MakesUpSizes : Build → Type 0
 MakesUpSizes b = (k : ℕ) (l m : Lent) (s : Session) → SameBuffers l m → b k (ask 35 0) l s .lent .fcb ≡ b k (ask 35 0) m s .lent .fcb
 
 -- ---- each falls
-module _ (img : Bytes) (erased : Erased eightInch img) where
+module _ (img : Bytes) (erased : ErasedDisk eightInch img) where
   pub refuses-all-falls : (b : Build) → RefusesAll b → Falls b
   refuses-all-falls b r = record {
     place = 1;
@@ -207,10 +208,6 @@ module _ (img : Bytes) (erased : Erased eightInch img) where
   pub nothing-falls : (b : Build) → DoesNothing b → Falls b
   nothing-falls b f = record { place = 1; asked = ask 46 0; lent = after img; session = ended start; differs = kept-falls _ (f 1 (ask 46 0) (after img) (ended start)) }
 
-  -- its first call, a log-in, is right, and leaves what its second is asked on
-  pub first-only-runs : firstOnly 0 (ask 13 0) (lend img notes fileFcb blank) start ≡ done 0 start (after img)
-  first-only-runs = logged-is img (erased .long) (erased-consistent eightInch img erased)
-
   pub first-only-falls : Falls firstOnly
   first-only-falls = record { place = 1; asked = ask 46 0; lent = after img; session = ended start; differs = kept-falls _ refl }
 
@@ -239,6 +236,8 @@ pub record Useless : Type 0 where
   pub refuses-all : (b : Build) → RefusesAll b → Falls b
   pub fixed : (a : ℕ) (b : Build) → AnswersFixed a b → Falls b
   pub nothing : (b : Build) → DoesNothing b → Falls b
+  -- its first call, a log-in, is right, and leaves what its second is asked on
+  pub first-only-runs : (img : Bytes) → ErasedDisk eightInch img → firstOnly 0 (ask 13 0) (lend img notes fileFcb blank) start ≡ done 0 start (after img)
   pub first-only : Falls firstOnly
   pub made-up-space : (b : Build) → MakesUpSpace b → Falls b
   pub made-up-sizes : (b : Build) → MakesUpSizes b → Falls b
@@ -246,11 +245,12 @@ pub record Useless : Type 0 where
 pub useless : (size : ℕ) → size ≡ imageBytes eightInch → Useless
 useless size is =
     let img : Bytes = replicate size 229 in
-    let erased : Erased eightInch img = all-erased eight-sound size is in
+    let erased : ErasedDisk eightInch img = all-erased eight-sound size is in
     record {
       refuses-all = refuses-all-falls img erased;
       fixed = fixed-falls img erased;
       nothing = nothing-falls img erased;
+      first-only-runs = λ i e. logged-is i (e .long) (erased-consistent eightInch i e);
       first-only = first-only-falls img erased;
       made-up-space = space-falls img erased;
       made-up-sizes = sizes-fall img erased;

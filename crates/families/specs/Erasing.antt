@@ -10,7 +10,7 @@ use Rattle.lists.specs.Tests.{and-fails-left}
 use Rattle.lists.specs.Seen.{bit, bit-set}
 use Rattle.lists.specs.Fold.{foldBelow, fold-none, fold-more}
 use Rattle.lists.specs.Tab.{Filled, filled-none, filled-more, tab-cong}
-use Rattle.format.specs.Diskette.{Bytes, Geometry, Sound, imageBytes, entryBytes}
+use Rattle.format.specs.Diskette.{Bytes, Geometry, Sound, imageBytes}
 use Rattle.format.specs.Entries.{Rows, entryAt, slotsOf, used}
 use Rattle.format.specs.Notes.{noteAt, freeNote, pendingEntry, heldFor, mapRight, releasedMap}
 use Rattle.model.specs.Calls.{changedRow, changedRows, erasedRow}
@@ -75,14 +75,13 @@ module _ {G : Geometry} (S : Sound G) (picks : Bytes → Bool) (img map : Bytes)
   pub erasing-more : {old : Bytes} (i : ℕ) (img₁ map₁ marks₁ img₂ map₂ : Bytes) (mark : ℕ) → length old ≡ G .entries → i < G .entries
       → Erasing G picks img map old i img₁ map₁ marks₁ → Erased G picks img₁ map₁ i img₂ map₂ mark → Erasing G picks img map old (i + 1) img₂ map₂ (set marks₁ i mark)
   erasing-more {old} i img₁ map₁ marks₁ img₂ map₂ mark whole below s t =
-      let keeps : (r : Bytes) → length r ≡ entryBytes → length (erasedRow r) ≡ entryBytes = λ r h. length-erasedRow r ∙ h in
       let q : entryAt G img₁ i ≡ entryAt G img i =
-      ap (λ (x : Bytes). entryAt G x i) (s .image) ∙ row-to-come S picks erasedRow keeps img long i i (omega arith) below in
+      ap (λ (x : Bytes). entryAt G x i) (s .image) ∙ row-to-come S picks erasedRow length-erasedRow img long i i (omega arith) below in
       let next : img₂ ≡ foldBelow (changedRow G picks erasedRow) img (i + 1) = fold-more _ img img₁ img₂ i (s .image) (t .image) in
       let m : length marks₁ ≡ length old = s .marked .long in
       let z : map₂ ≡ cond (picks (entryAt G img₁ i)) (unlistedMap G (slotsOf (entryAt G img₁ i)) map₁) map₁ = t .notes in
       record {
-        size = ap length next ∙ length-changed S picks erasedRow keeps img long (i + 1) (omega arith) ∙ long;
+        size = ap length next ∙ length-changed S picks erasedRow length-erasedRow img long (i + 1) (omega arith) ∙ long;
         image = next;
         notes = rw (z, q)
             (cond-either (Freed (inEntries (entryAt G img) picked (i + 1)) map) (picked i)

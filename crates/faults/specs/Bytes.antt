@@ -1,12 +1,12 @@
 -- The bytes of a head, each by itself: the tables of what it may be, and that a fault shows exactly where it is not.
-use mathlib.Core.Path.{_≡_, refl, sym}
+use mathlib.Core.Path.{_≡_, refl}
 use mathlib.Core.Bool.{Bool, true, false, not, cond}
 use mathlib.Core.List.{List, [], _∷_}
 use Prim.Native.Nat.{ℕ, _<_}
 use lib.Dec.{eqb, leb, ltb}
 use lib.ListN.{getD}
 use lib.Bits.{bitAnd}
-use Rattle.lists.specs.Tests.{_and_, _or_}
+use Rattle.lists.specs.Tests.{_and_, _or_, agree, agree-same}
 use Rattle.lists.specs.Below.{allBelow, all-at}
 use Rattle.format.specs.Names.{sevenBits, nameByte}
 use Rattle.faults.specs.Faults.{headBytes, faultOf}
@@ -34,18 +34,6 @@ unfoldable pub byteOk : ℕ → ℕ → Bool
 byteOk i b =
     cond (eqb i 0) (leb b 15) (cond (ltb i 12) (nameByte false b and not (eqb i 1 and eqb (sevenBits b) 32))
     (cond (eqb i 12) (leb b 31) (cond (eqb i 14) (leb b 63) (cond (eqb i 15) (leb b 128) true))))
-
--- tests that agree are equal
-agree : Bool → Bool → Bool
-agree true b = b
-agree false b = not b
-
-agree-same : (a b : Bool) → agree a b ≡ true → a ≡ b
-unfolding agree
-agree-same true true h = refl
-agree-same true false h = sym h
-agree-same false true h = h
-agree-same false false h = refl
 
 told : ℕ → ℕ → Bool
 told i b = agree (eqb (byteFault i b) 0) (byteOk i b)

@@ -123,9 +123,9 @@ erased-in-place {G} S img long e h =
     splice-set img (entryPlace G e) entryBytes 0 229 (omega arith) (omega arith) ∙ ap (λ (k : ℕ). set img k 229) q
 
 module _ (row : Bytes) where
-  pub length-erasedRow : length (erasedRow row) ≡ length row
+  pub length-erasedRow : length row ≡ entryBytes → length (erasedRow row) ≡ entryBytes
   unfolding erasedRow
-  length-erasedRow = length-set row 0 229
+  length-erasedRow hr = length-set row 0 229 ∙ hr
 
   pub rest-erased : (n : ℕ) → Agree (erasedRow row) row 1 n
   unfolding erasedRow

@@ -8,4 +8,4 @@ pub mod Numbers
 pub mod Target
 pub mod Size
 pub mod Changing
-pub mod Naming
+pub mod Erased

@@ -1,5 +1,5 @@
 -- Where a record call's target is, and what reading and writing it leave, field by field.
-use mathlib.Core.Path.{_≡_, refl, _∙_}
+use mathlib.Core.Path.{_≡_, _∙_}
 use mathlib.Core.Bool.{true, false}
 use Prim.Native.Nat.{ℕ, _+_, _/_, _%_, _≤_, _<_}
 use native.Mathlib.Nat.{mod-lt}
@@ -15,10 +15,7 @@ use Rattle.format.specs.Notes.{noteAt, pendingFor, withNote}
 use Rattle.format.specs.Fcb.{crOf, randomOf}
 use Rattle.disk.specs.Places.{blockRecords, block-record}
 use Rattle.facts.specs.Slots.{slot-for-below}
-use Rattle.model.specs.Lent.{Lent, rowsOf}
-use Rattle.model.specs.Closing.{closedImage, closedMap}
-use Rattle.model.specs.Entering.{entered}
-use Rattle.model.specs.Target.{isRandom, targetExtent, targetRecord, crAfter, stays, targetSlot, placeIn, moved, writtenCount, writtenFcb, writtenMap}
+use Rattle.model.specs.Target.{isRandom, targetExtent, targetRecord, crAfter, stays, targetSlot, placeIn, writtenCount, writtenFcb, writtenMap}
 use Rattle.fields.specs.Agree.{Agree, SameName, name-cong, slot-cong, extent-cong, random-cong}
 
 -- ---- the target
@@ -87,20 +84,6 @@ module _ {G : Geometry} (S : Sound G) where
   pub place-below : (b r : ℕ) → b < G .blocks → placeIn G b r < blockRecords G
   unfolding placeIn
   place-below b r h = block-record G b (r % G .perBlock) h (mod-lt r (S .some-record))
-
--- ---- moving
-module _ (G : Geometry) (n : ℕ) (l : Lent) (e t : ℕ) where
-  pub image-moved : moved G n l e t .image ≡ closedImage G (l .image) e (l .fcb)
-  unfolding moved
-  image-moved = refl
-
-  pub map-moved : moved G n l e t .map ≡ closedMap (rowsOf G l e) (l .fcb) (l .map)
-  unfolding moved
-  map-moved = refl
-
-  pub fcb-moved : moved G n l e t .fcb ≡ entered (l .fcb) (rowsOf G l t)
-  unfolding moved
-  fcb-moved = refl
 
 -- ---- reading: the buffer gets the record, the FCB its cr
 module _ (fcb : Bytes) (cr : ℕ) where

@@ -6,7 +6,7 @@ use Prim.Native.Nat.{ℕ, _<_}
 use lib.Dec.{leb, ltb}
 use borrow.Author.Tests.{leb-true, leb-false, lt-ltb, le-ltb}
 use Rattle.lists.specs.Cases.{split, bool-cases}
-use Rattle.lists.specs.Tests.{_and_, and-left, and-right}
+use Rattle.lists.specs.Tests.{_and_, and-left, and-right, second-fails}
 use Rattle.format.specs.Diskette.{Bytes, Geometry}
 use Rattle.format.specs.Names.{nameRight}
 use Rattle.format.specs.Entries.{exOf}
@@ -16,7 +16,6 @@ use Rattle.model.specs.Lent.{Lent, rowsOf}
 use Rattle.model.specs.Table.{Row, when, askedEntry}
 use Rattle.facts.specs.Find.{file-says}
 use Rattle.table.specs.First.{Decides, here, later}
-use Rattle.table.specs.Reflect.{second-fails}
 
 -- the name obeys the name rule, and byte 12 is an ex
 unfoldable pub asksRight : Bytes → Bool

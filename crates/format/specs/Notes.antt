@@ -1,6 +1,6 @@
 -- Document 01 on the map: what a note says, when a map is right, and the fresh map.
 use mathlib.Core.Bool.{Bool, not, cond}
-use Prim.Native.Nat.{ℕ, _+_, _-_, _*_, _/_, _%_}
+use Prim.Native.Nat.{ℕ, _+_, _-_, _*_, _/_}
 use lib.Dec.{eqb, leb, ltb}
 use lib.ListN.{getD, set}
 use Rattle.lists.specs.Tests.{_and_, _or_}
@@ -28,15 +28,12 @@ recordedNote = 2
 unfoldable pub pendingFor : ℕ → ℕ → ℕ
 pendingFor e j = 16 + 16 * e + j
 
--- a note that is pending, and the entry and slot for which it is
+-- a note that is pending, and the entry for which it is
 unfoldable pub isPending : ℕ → Bool
 isPending n = leb 16 n
 
 unfoldable pub pendingEntry : ℕ → ℕ
 pendingEntry n = (n - 16) / 16
-
-unfoldable pub pendingSlot : ℕ → ℕ
-pendingSlot n = n % 16
 
 -- the note of a block
 abbrev pub noteAt : Bytes → ℕ → ℕ

@@ -11,7 +11,7 @@ use Rattle.lists.specs.Cases.{split, lt-or-le, eq-or-ne, bool-ext}
 use Rattle.lists.specs.Tests.{_and_, and-left, and-right, and-both, and-fails-left, and-fails-right, and-then}
 use Rattle.lists.specs.Bits.{or-left-zero, or-right-zero, or-both-zero}
 use Rattle.lists.specs.Tab.{tab, getD-tab}
-use Rattle.lanes.specs.Lanes.{wordAt, word-zero, zero-word, word-rest, rest-zero, zero-rest}
+use Rattle.lanes.specs.Lanes.{wordAt, bytes-zero, zero-bytes, word-rest, rest-zero, zero-rest}
 use Rattle.format.specs.Diskette.{Bytes}
 use Rattle.format.specs.Names.{nameBytes, sevenBits, nameByte, nameRight}
 use Rattle.format.specs.Entries.{used}
@@ -110,7 +110,7 @@ module _ (r : Bytes) (bytes : (i : ℕ) → i < headBytes → getD r i 0 < 256) 
     zero-at : wordAt out 0 / 256 ≡ 0 → wordAt out 8 ≡ 0 → (i : ℕ) → i < 15 → getD out (1 + i) 0 ≡ 0
     zero-at a b i h =
         split (lt-or-le i 7) (λ w. let p : 0 + suc i ≡ 1 + i = omega arith in rw p at (rest-zero out 0 byte a i w))
-        (λ w. let p : 8 + (i - 7) ≡ 1 + i = omega arith in rw p at (word-zero out 8 b (i - 7) (omega arith)))
+        (λ w. let p : 8 + (i - 7) ≡ 1 + i = omega arith in rw p at (bytes-zero 8 out 8 b (i - 7) (omega arith)))
 
     -- all but the first, by what is left of the first word without it
     pub fields-tell : eqb (bitOr (wordAt out 0 / 256) (wordAt out 8)) 0 ≡ fieldsRight r
@@ -120,7 +120,7 @@ module _ (r : Bytes) (bytes : (i : ℕ) → i < headBytes → getD r i 0 < 256) 
         ∙ zero-at (or-left-zero _ (wordAt out 8) (eqb-true _ _ t)) (or-right-zero (wordAt out 0 / 256) _ (eqb-true _ _ t)) i h))
         (λ t. eq-eqb _ _ (or-both-zero (wordAt out 0 / 256) (wordAt out 8)
         (zero-rest out 0 byte (λ i h. let p : 1 + i ≡ 0 + suc i = omega arith in rw p at (out-at (1 + i) (omega arith) ∙ fields-clear t i (omega arith))))
-        (zero-word out 8 (λ i h. let p : 1 + (7 + i) ≡ 8 + i = omega arith in rw p at (out-at (1 + (7 + i)) (omega arith) ∙ fields-clear t (7 + i) (omega arith))))))
+        (zero-bytes 8 out 8 (λ i h. let p : 1 + (7 + i) ≡ 8 + i = omega arith in rw p at (out-at (1 + (7 + i)) (omega arith) ∙ fields-clear t (7 + i) (omega arith))))))
 
     -- all sixteen
     pub words-tell : eqb (bitOr (wordAt out 0) (wordAt out 8)) 0 ≡ rowRight r
@@ -129,7 +129,7 @@ module _ (r : Bytes) (bytes : (i : ℕ) → i < headBytes → getD r i 0 < 256) 
         bool-ext _ _
         (λ t. let a = or-left-zero (wordAt out 0) (wordAt out 8) (eqb-true _ _ t) in let b = or-right-zero (wordAt out 0) (wordAt out 8) (eqb-true _ _ t) in
         let z : wordAt out 0 / 256 ≡ 0 = omega arith in
-        and-both _ _ (sym user-ok ∙ no-fault 0 (omega arith) (sym (out-at 0 (omega arith)) ∙ word-zero out 0 a 0 (omega arith)))
+        and-both _ _ (sym user-ok ∙ no-fault 0 (omega arith) (sym (out-at 0 (omega arith)) ∙ bytes-zero 8 out 0 a 0 (omega arith)))
         (sym fields-tell ∙ eq-eqb _ _ (or-both-zero (wordAt out 0 / 256) (wordAt out 8) z b)))
         (λ t. let f = eqb-true _ _ (fields-tell ∙ and-right _ _ t) in
         let u : getD out 0 0 ≡ 0 = out-at 0 (omega arith) ∙ ok-clear 0 (omega arith) (user-ok ∙ and-left _ _ t) in

@@ -11,19 +11,19 @@ use Rattle.lists.specs.Cases.{split, eq-or-ne, not-both}
 use Rattle.format.specs.Diskette.{Bytes, Geometry, Sound, slotCount}
 use Rattle.format.specs.Names.{nameRight}
 use Rattle.format.specs.Entries.{Rows, userOf, slotOf, used}
-use Rattle.format.specs.Notes.{recordedNote, pendingFor}
+use Rattle.format.specs.Notes.{freeNote, areaNote, recordedNote, pendingFor}
 use Rattle.consistency.specs.Facts.{Numbers, Fine, Stands, SameFile, Consistent}
 use Rattle.consistency.specs.Listed.{somewhere-listed}
 use Rattle.consistency.specs.Reflect.{used-low, low-used, same-sym}
-use Rattle.notes.specs.Numbers.{pending-once, pending-not-free, pending-not-area, pending-not-recorded}
+use Rattle.notes.specs.Numbers.{pending-once, pending-not}
 use Rattle.notes.specs.Right.{Spare, NoteOk, ok-area, ok-recorded, ok-free, ok-pending}
 use Rattle.invariant.specs.Inv.{Inv}
 use Rattle.invariant.specs.Carry.{same-trans, past-real, unlisted-never, never-unlisted, stands-row, change-dir, listed-on}
 
 -- a block that is noted pending is listed nowhere
 pub pending-spare : (G : Geometry) (d : Rows) (b e j n : ℕ) → NoteOk G d b n → n ≡ pendingFor e j → Spare G d b
-pending-spare G d b e j n (ok-area q a) p = absurd (pending-not-area e j (sym p ∙ q))
-pending-spare G d b e j n (ok-recorded q a t) p = absurd (pending-not-recorded e j (sym p ∙ q))
+pending-spare G d b e j n (ok-area q a) p = absurd (pending-not areaNote (omega arith) e j (sym p ∙ q))
+pending-spare G d b e j n (ok-recorded q a t) p = absurd (pending-not recordedNote (omega arith) e j (sym p ∙ q))
 pending-spare G d b e j n (ok-free q s) p = s
 pending-spare G d b e j n (ok-pending f k q l i u s) p = s
 
@@ -157,10 +157,10 @@ module _ {G : Geometry} (S : Sound G) (d d′ : Rows) (m m′ : ℕ → ℕ) (v 
   unheld b n q not j l h z = not j (sym (h .noted) ∙ q)
 
   closed-note : (b : ℕ) → b < G .blocks → NoteOk G d b (m b) → NoteOk G d′ b (m′ b)
-  closed-note b h (ok-area q a) = ok-area (left b h (unheld b _ q (pending-not-area e)) ∙ q) a
-  closed-note b h (ok-recorded q a t) = ok-recorded (left b h (unheld b _ q (pending-not-recorded e)) ∙ q) a (listed-on S d d′ b a (forth b) t)
+  closed-note b h (ok-area q a) = ok-area (left b h (unheld b _ q (pending-not areaNote (omega arith) e)) ∙ q) a
+  closed-note b h (ok-recorded q a t) = ok-recorded (left b h (unheld b _ q (pending-not recordedNote (omega arith) e)) ∙ q) a (listed-on S d d′ b a (forth b) t)
   closed-note b h (ok-free q s) =
-      ok-free (left b h (unheld b _ q (pending-not-free e)) ∙ q) (spare-still b (unheld b _ q (pending-not-free e)) s)
+      ok-free (left b h (unheld b _ q (pending-not freeNote (omega arith) e)) ∙ q) (spare-still b (unheld b _ q (pending-not freeNote (omega arith) e)) s)
   closed-note b h (ok-pending f k q l i u s) =
       split (eq-or-ne (slotOf (d′ e) k) b) (λ z. taken b k i s z)
       (λ z. let none : (j : ℕ) → j < slotCount → Held G d m e j b → slotOf (d′ e) j ≡ b → ⊥ =

@@ -3,6 +3,7 @@ use mathlib.Core.Path.{_≡_, refl, ap, sym, _∙_, subst}
 use mathlib.Core.Logic.{inl, inr}
 use mathlib.Core.Bool.{true, false}
 use Prim.Native.Nat.{ℕ, _≤_, _<_}
+use native.Mathlib.Omega.{arith}
 use lib.ListN.{length}
 use Rattle.lists.specs.Cases.{split, eq-or-ne}
 use Rattle.format.specs.Diskette.{Bytes, Geometry, Sound, slotCount}
@@ -10,10 +11,10 @@ use Rattle.format.specs.Entries.{entryAt, slotOf, extentOf, used}
 use Rattle.format.specs.Notes.{noteAt, freeNote, pendingFor}
 use Rattle.model.specs.Closing.{closedRow, closedImage, closedMap}
 use Rattle.consistency.specs.Facts.{SameFile}
-use Rattle.notes.specs.Numbers.{pending-not-free, pending-block}
+use Rattle.notes.specs.Numbers.{pending-not, pending-block}
 use Rattle.rows.specs.Entries.{length-entryAt}
 use Rattle.fields.specs.Images.{length-closedImage, row-closedImage, row-closedImage-other}
-use Rattle.fields.specs.Naming.{file-used}
+use Rattle.consistency.specs.Naming.{file-used}
 use Rattle.fields.specs.Closing.{right-closed, numbers-closed, slot-closed-new, slot-closed-cases, file-closed, length-closedMap, note-closed-taken, note-closed-left}
 use Rattle.facts.specs.Current.{Current}
 use Rattle.slots.specs.Slots.{SlotOk, slot-same, slot-pending}
@@ -79,7 +80,7 @@ module _ {G : Geometry} (S : Sound G) (img map : Bytes) (g : Good G img map) (us
   unfolding HeldIn
   closed-free b h f =
       note-closed-left (entryAt G img e) fcb map b (subst (λ (x : ℕ). b < x) (sym (g .map-long)) h)
-      (λ t. pending-not-free e (t .slot) (sym (brought (t .slot) b (t .below) (t .was) (t .is) (t .some) .noted) ∙ f)) ∙ f
+      (λ t. pending-not freeNote (omega arith) e (t .slot) (sym (brought (t .slot) b (t .below) (t .was) (t .is) (t .some) .noted) ∙ f)) ∙ f
 
   pub good-closed : Good G (closedImage G img e fcb) (closedMap (entryAt G img e) fcb map)
   unfolding HeldIn

@@ -14,7 +14,7 @@ use Rattle.model.specs.declared.Session.{Session}
 use Rattle.model.specs.Lent.{Lent, rowsOf}
 use Rattle.model.specs.Entering.{entered, nextRow}
 use Rattle.model.specs.Closing.{closedImage, closedMap}
-use Rattle.model.specs.Target.{targetExtent, targetRecord, targetSlot, crAfter, presentEntry, stays, targetEntry, blockThere, plan, moved, made, nextMade, haveRead, haveWritten, writtenMap}
+use Rattle.model.specs.Target.{targetExtent, targetRecord, targetSlot, crAfter, presentEntry, stays, targetEntry, blockThere, plan, moved, made, haveRead, haveWritten, writtenMap}
 use Rattle.model.specs.declared.Plan.{Plan}
 use Rattle.model.specs.Calls.{readAt, reading, read, writtenAt, writing, written}
 use Rattle.facts.specs.Names.{like-trans, like-intro}
@@ -29,7 +29,7 @@ use Rattle.fields.specs.Fine.{fine-next}
 use Rattle.fields.specs.Making.{length-nextRow, user-next, name-next, slot-next, extent-next}
 use Rattle.fields.specs.Entering.{slot-entered}
 use Rattle.facts.specs.Naming.{named-intro, file-intro, file-user, file-like}
-use Rattle.fields.specs.Naming.{file-used}
+use Rattle.consistency.specs.Naming.{file-used}
 use Rattle.fields.specs.Target.{map-written-kept, targetSlot-below}
 use Rattle.facts.specs.Current.{Current, current-says}
 use Rattle.slots.specs.Slots.{SlotOk, slot-same, slot-pending}
@@ -102,7 +102,7 @@ module _ {G : Geometry} (S : Sound G) (n : ℕ) (l : Lent) (s : Session) (g : Go
   pub good-present : Good G (closedImage G (l .image) e (l .fcb)) (closedMap (rowsOf G l e) (l .fcb) (l .map))
   good-present = good-closed S (l .image) (l .map) g (s .user) (f .user-low) (l .fcb) e present-current
 
-  pub good-moved : (t : ℕ) → Good G (moved G n l e t .image) (moved G n l e t .map)
+  pub good-moved : (t : ℕ) → Good G (moved G l e t .image) (moved G l e t .map)
   unfolding moved
   good-moved t = good-present
 
@@ -157,10 +157,10 @@ module _ {G : Geometry} (S : Sound G) (n : ℕ) (l : Lent) (s : Session) (g : Go
     target-used = file-used G (s .user) (l .fcb) 1 (targetExtent n (l .fcb)) (rowsOf G l t) target-file (f .user-low)
 
     pub good-move : (b : ℕ) → stays n (l .fcb) ≡ false → Block G n (s .user) l b
-        → Good G (writtenAt G s l n t b (moved G n l e t) .lent .image) (writtenAt G s l n t b (moved G n l e t) .lent .map)
+        → Good G (writtenAt G s l n t b (moved G l e t) .lent .image) (writtenAt G s l n t b (moved G l e t) .lent .map)
     unfolding writtenAt moved
     good-move b go k =
-        good-written S (moved G n l e t) (good-moved t) (f .buffer-long) t (targetSlot G n (l .fcb)) b (targetRecord n (l .fcb)) (crAfter n (l .fcb)) target-below slot-below
+        good-written S (moved G l e t) (good-moved t) (f .buffer-long) t (targetSlot G n (l .fcb)) b (targetRecord n (l .fcb)) (crAfter n (l .fcb)) target-below slot-below
         (used-cong (entryAt G (closedImage G (l .image) e (l .fcb)) t) (rowsOf G l t)
         (closed-file S (l .image) (l .map) g (s .user) (f .user-low) (l .fcb) e present-current t target-below .user) ∙ target-used) (serves k)
       where
@@ -177,6 +177,10 @@ module _ {G : Geometry} (S : Sound G) (n : ℕ) (l : Lent) (s : Session) (g : Go
 
   -- ---- a move that makes an entry for the target's extent
   module _ (t : ℕ) (room : findEmpty G (rowsOf G l) ≡ At t) (none : targetEntry G n (s .user) l ≡ Nothing) (low : targetExtent n (l .fcb) < extents) where
+    -- the buffers after it
+    abbrev came : Lent
+    came = made G (targetExtent n (l .fcb)) l e t
+
     room-below : t < G .entries
     room-below = empty-says G (rowsOf G l) t room .below
 
@@ -198,8 +202,8 @@ module _ {G : Geometry} (S : Sound G) (n : ℕ) (l : Lent) (s : Session) (g : Go
         (like-intro (rowsOf G l e) 1 row 1 (λ i b. sym (name-next (rowsOf G l e) ext long i b)))))
         (extent-next (rowsOf G l e) ext long)
 
-    pub good-next : Good G (made G n l e t .image) (made G n l e t .map)
-    unfolding made nextMade targetEntry
+    pub good-next : Good G (came .image) (came .map)
+    unfolding made targetEntry
     good-next =
         let ext : ℕ = targetExtent n (l .fcb) in
         let row : Bytes = nextRow (rowsOf G l e) ext in
@@ -211,8 +215,8 @@ module _ {G : Geometry} (S : Sound G) (n : ℕ) (l : Lent) (s : Session) (g : Go
         (closed-file S (l .image) (l .map) g (s .user) (f .user-low) (l .fcb) e present-current k h) ∙ no-file-says G (rowsOf G l) (s .user) (l .fcb) 1 ext none k h)
 
     -- the entry that was made
-    pub next-used : used (entryAt G (made G n l e t .image) t) ≡ true
-    unfolding made nextMade
+    pub next-used : used (entryAt G (came .image) t) ≡ true
+    unfolding made
     next-used =
         let row : Bytes = nextRow (rowsOf G l e) (targetExtent n (l .fcb)) in
         let full : length row ≡ 32 = length-nextRow (rowsOf G l e) (targetExtent n (l .fcb)) long in
@@ -220,14 +224,14 @@ module _ {G : Geometry} (S : Sound G) (n : ℕ) (l : Lent) (s : Session) (g : Go
         ∙ file-used G (s .user) (l .fcb) 1 (targetExtent n (l .fcb)) row next-file (f .user-low)
 
     pub good-make : (b : ℕ) → stays n (l .fcb) ≡ false → Block G n (s .user) l b
-        → Good G (writtenAt G s l n t b (made G n l e t) .lent .image) (writtenAt G s l n t b (made G n l e t) .lent .map)
+        → Good G (writtenAt G s l n t b came .lent .image) (writtenAt G s l n t b came .lent .map)
     unfolding writtenAt made
     good-make b go k =
-        good-written S (made G n l e t) good-next (f .buffer-long) t (targetSlot G n (l .fcb)) b (targetRecord n (l .fcb)) (crAfter n (l .fcb)) room-below slot-below next-used (serves k)
+        good-written S came good-next (f .buffer-long) t (targetSlot G n (l .fcb)) b (targetRecord n (l .fcb)) (crAfter n (l .fcb)) room-below slot-below next-used (serves k)
       where
-        serves : Block G n (s .user) l b → BlockFor G (made G n l e t .map) (made G n l e t .fcb) (targetSlot G n (l .fcb)) b
+        serves : Block G n (s .user) l b → BlockFor G (came .map) (came .fcb) (targetSlot G n (l .fcb)) b
         serves (there q real) = absurd (real (sym q ∙ make-block G n (s .user) l go none))
-        serves (free z q) = free-serves (made G n l e t .map) (made G n l e t .fcb) (targetSlot G n (l .fcb)) b q (still-free b q)
+        serves (free z q) = free-serves (came .map) (came .fcb) (targetSlot G n (l .fcb)) b q (still-free b q)
 
 -- ---- any plan of a record call
 module _ {G : Geometry} (S : Sound G) (n : ℕ) (l : Lent) (s : Session) (g : Good G (l .image) (l .map)) (f : Fits G l s) (low : targetExtent n (l .fcb) < extents) where

@@ -25,7 +25,7 @@ use Rattle.fields.specs.Making.{length-renamedRow, user-renamed, name-renamed, 
 use Rattle.fields.specs.Changing.{length-changedRows, row-picked, row-unpicked, length-erasedRow, empty-erased}
 use Rattle.facts.specs.Naming.{named-user, named-like, named-intro}
 use Rattle.consistency.specs.Reflect.{image-facts}
-use Rattle.fields.specs.Naming.{named-used}
+use Rattle.consistency.specs.Naming.{named-used}
 use Rattle.fields.specs.Target.{place-below}
 use Rattle.invariant.specs.Steps.{fresh-inv, take-inv, keep-inv, make-inv}
 use Rattle.invariant.specs.Change.{RenamedTo, erase-inv, rename-inv}
@@ -94,14 +94,13 @@ module _ {G : Geometry} (S : Sound G) (img map : Bytes) (g : Good G img map) whe
   -- 19: the rows that a test picks become empty, and their blocks free
   pub good-erased : (picks : Bytes → Bool) → Good G (changedRows G picks erasedRow img) (releasedMap G (entryAt G img) (λ (e : ℕ). picks (entryAt G img e)) map)
   good-erased picks =
-      let keeps : (r : Bytes) → length r ≡ entryBytes → length (erasedRow r) ≡ entryBytes = λ r h. length-erasedRow r ∙ h in
       record {
-        image-long = length-changedRows S picks erasedRow keeps img (g .image-long) ∙ g .image-long;
+        image-long = length-changedRows S picks erasedRow length-erasedRow img (g .image-long) ∙ g .image-long;
         map-long = length-released G (entryAt G img) (λ (e : ℕ). picks (entryAt G img e)) map;
         inv = erase-inv S (entryAt G img) (entryAt G (changedRows G picks erasedRow img)) (λ c. noteAt map c)
             (λ c. noteAt (releasedMap G (entryAt G img) (λ (e : ℕ). picks (entryAt G img e)) map) c) (g .inv) (λ (e : ℕ). picks (entryAt G img e))
-            (λ k l p. row-unpicked S picks erasedRow keeps img (g .image-long) k l p)
-            (λ k l p. ap empty (row-picked S picks erasedRow keeps img (g .image-long) k l p) ∙ empty-erased (entryAt G img k) (whole k l))
+            (λ k l p. row-unpicked S picks erasedRow length-erasedRow img (g .image-long) k l p)
+            (λ k l p. ap empty (row-picked S picks erasedRow length-erasedRow img (g .image-long) k l p) ∙ empty-erased (entryAt G img k) (whole k l))
             (λ b h. released-at G (entryAt G img) (λ (e : ℕ). picks (entryAt G img e)) map b h);
       }
 

@@ -9,7 +9,7 @@ use lib.ListN.{getD}
 use lib.Bits.{bitAnd, bitXor, and-mask, and-zero-r}
 use Rattle.lists.specs.Tests.{_and_}
 use Rattle.lists.specs.Below.{allBelow}
-use Rattle.lanes.specs.Lanes.{lanes, halfAt, wordAt, lanes-cong, lanes-and, lanes-short, five-lanes, eight-bytes}
+use Rattle.lanes.specs.Lanes.{lanes, bytesAt, halfAt, wordAt, lanes-cong, lanes-and, lanes-short, five-lanes, eight-bytes}
 use Rattle.format.specs.Diskette.{Bytes}
 use Rattle.format.specs.Names.{nameBytes, nameLike}
 use Rattle.format.specs.Entries.{userOf, exOf, extentOf}
@@ -115,11 +115,11 @@ high-masks = eight-bytes highMask refl
 
 module _ (r : Bytes) (in-low : (i : ℕ) → i < 8 → getD r i 0 < 256) (in-high : (i : ℕ) → i < 8 → getD r (8 + i) 0 < 256) where
   pub low-part : bitAnd (wordAt r 0) 9187201950435737599 ≡ lowPart r
-  unfolding wordAt lowPart lanes lowMask
+  unfolding bytesAt lowPart lanes lowMask
   low-part = lanes-and 8 (λ (i : ℕ). getD r i 0) lowMask in-low low-masks
 
   pub high-part : bitAnd (wordAt r 8) 135283048319 ≡ highPart r
-  unfolding wordAt highPart lanes highMask
+  unfolding bytesAt highPart lanes highMask
   high-part = lanes-and 8 (λ (i : ℕ). getD r (8 + i) 0) highMask in-high high-masks
 
 -- ---- the words of a name, masked: its first seven bytes, and four from a place on
@@ -132,11 +132,11 @@ seven-masks = eight-bytes sevenMask refl
 
 module _ (s : Bytes) (at : ℕ) where
   pub seven-part : ((i : ℕ) → i < 8 → getD s (at + i) 0 < 256) → bitAnd (wordAt s at) 35887507618889599 ≡ lanes 7 (λ (i : ℕ). bitAnd (getD s (at + i) 0) 127)
-  unfolding wordAt lanes sevenMask
+  unfolding bytesAt lanes sevenMask
   seven-part bytes =
       lanes-and 8 (λ (i : ℕ). getD s (at + i) 0) sevenMask bytes seven-masks
       ∙ lanes-short 7 (λ (i : ℕ). bitAnd (getD s (at + i) 0) (sevenMask i)) (and-zero-r (getD s (at + 7) 0))
 
   pub four-part : ((i : ℕ) → i < 4 → getD s (at + i) 0 < 256) → bitAnd (halfAt s at) 2139062143 ≡ lanes 4 (λ (i : ℕ). bitAnd (getD s (at + i) 0) 127)
-  unfolding halfAt lanes
+  unfolding bytesAt lanes
   four-part bytes = lanes-and 4 (λ (i : ℕ). getD s (at + i) 0) (λ (i : ℕ). 127) bytes (λ i h. omega arith)

@@ -18,12 +18,15 @@ unfoldable pub lanes : ℕ → (ℕ → ℕ) → ℕ
 lanes zero f = 0
 lanes (suc n) f = lanes n (λ (i : ℕ). f (suc i)) * 256 + f 0
 
--- four bytes of a list from a place on, and eight
-unfoldable pub halfAt : List ℕ → ℕ → ℕ
-halfAt l at = lanes 4 (λ (i : ℕ). getD l (at + i) 0)
+-- n bytes of a list from a place on: four make a half, eight a word
+unfoldable pub bytesAt : ℕ → List ℕ → ℕ → ℕ
+bytesAt n l at = lanes n (λ (i : ℕ). getD l (at + i) 0)
 
-unfoldable pub wordAt : List ℕ → ℕ → ℕ
-wordAt l at = lanes 8 (λ (i : ℕ). getD l (at + i) 0)
+abbrev pub halfAt : List ℕ → ℕ → ℕ
+halfAt = bytesAt 4
+
+abbrev pub wordAt : List ℕ → ℕ → ℕ
+wordAt = bytesAt 8
 
 pub lanes-cong : (n : ℕ) (f g : ℕ → ℕ) → ((i : ℕ) → i < n → f i ≡ g i) → lanes n f ≡ lanes n g
 unfolding lanes
@@ -79,16 +82,16 @@ zero-lanes (suc n) f p =
     let first = p 0 (omega arith) in
     omega arith
 
--- ---- bytes of a list: their sums, and four and eight that make 0
+-- ---- bytes of a list: their sums, and those that make 0
 pub half-sum : (l : List ℕ) (at : ℕ) → halfAt l at ≡ getD l at 0 + getD l (at + 1) 0 * 256 + getD l (at + 2) 0 * 65536 + getD l (at + 3) 0 * 16777216
-unfolding halfAt lanes
+unfolding bytesAt lanes
 half-sum l at = rw add-zero (omega arith)
 
 further : (l : List ℕ) (at m n : ℕ) → getD l (at + m + n) 0 ≡ getD l (at + (m + n)) 0
 further l at m n = ap (λ (k : ℕ). getD l k 0) (omega arith)
 
 pub word-sum : (l : List ℕ) (at : ℕ) → wordAt l at ≡ halfAt l at + halfAt l (at + 4) * 4294967296
-unfolding wordAt lanes
+unfolding bytesAt lanes
 word-sum l at =
     rw add-zero (omega (arith, half-sum l at, half-sum l (at + 4), further l at 4 1, further l at 4 2, further l at 4 3))
 
@@ -98,25 +101,17 @@ word-bytes l at p q i h =
     split (lt-or-le i 4) (λ w. p i w)
     (λ w. let e : at + 4 + (i - 4) ≡ at + i = omega arith in rw e at (q (i - 4) (omega arith)))
 
-pub half-zero : (l : List ℕ) (at : ℕ) → halfAt l at ≡ 0 → (i : ℕ) → i < 4 → getD l (at + i) 0 ≡ 0
-unfolding halfAt
-half-zero l at e i h = lanes-zero 4 (λ (k : ℕ). getD l (at + k) 0) e i h
+pub bytes-zero : (n : ℕ) (l : List ℕ) (at : ℕ) → bytesAt n l at ≡ 0 → (i : ℕ) → i < n → getD l (at + i) 0 ≡ 0
+unfolding bytesAt
+bytes-zero n l at e i h = lanes-zero n (λ (k : ℕ). getD l (at + k) 0) e i h
 
-pub zero-half : (l : List ℕ) (at : ℕ) → ((i : ℕ) → i < 4 → getD l (at + i) 0 ≡ 0) → halfAt l at ≡ 0
-unfolding halfAt
-zero-half l at p = zero-lanes 4 (λ (i : ℕ). getD l (at + i) 0) p
-
-pub word-zero : (l : List ℕ) (at : ℕ) → wordAt l at ≡ 0 → (i : ℕ) → i < 8 → getD l (at + i) 0 ≡ 0
-unfolding wordAt
-word-zero l at e i h = lanes-zero 8 (λ (k : ℕ). getD l (at + k) 0) e i h
-
-pub zero-word : (l : List ℕ) (at : ℕ) → ((i : ℕ) → i < 8 → getD l (at + i) 0 ≡ 0) → wordAt l at ≡ 0
-unfolding wordAt
-zero-word l at p = zero-lanes 8 (λ (i : ℕ). getD l (at + i) 0) p
+pub zero-bytes : (n : ℕ) (l : List ℕ) (at : ℕ) → ((i : ℕ) → i < n → getD l (at + i) 0 ≡ 0) → bytesAt n l at ≡ 0
+unfolding bytesAt
+zero-bytes n l at p = zero-lanes n (λ (i : ℕ). getD l (at + i) 0) p
 
 -- ---- a word without its first byte
 pub word-rest : (l : List ℕ) (at : ℕ) → wordAt l at ≡ lanes 7 (λ (i : ℕ). getD l (at + suc i) 0) * 256 + getD l at 0
-unfolding wordAt lanes
+unfolding bytesAt lanes
 word-rest l at = rw add-zero refl
 
 module _ (l : List ℕ) (at : ℕ) (byte : getD l at 0 < 256) where

@@ -1,6 +1,6 @@
 -- Conjunction and disjunction of tests. They are shut: `and-left h` finds what it is about, which it cannot through the library's
 -- `_&&_`, whose calls are written out wherever they stand.
-use mathlib.Core.Path.{_≡_, refl, sym}
+use mathlib.Core.Path.{_≡_, refl, sym, _∙_}
 use mathlib.Core.Logic.{_⊎_, inl, inr}
 use mathlib.Core.Bool.{Bool, true, false, not, cond}
 use Rattle.lists.specs.Cases.{clash}
@@ -49,6 +49,15 @@ unfolding _and_
 and-first true b q = q
 and-first false b q = refl
 
+-- the first test held and both together failed, so the second failed
+pub second-fails : (a b : Bool) → (a and b) ≡ false → a ≡ true → b ≡ false
+second-fails a b h t = sym (and-then a b t) ∙ h
+
+pub and-assoc : (a b c : Bool) → ((a and b) and c) ≡ (a and b and c)
+unfolding _and_
+and-assoc true b c = refl
+and-assoc false b c = refl
+
 -- a test and its contrary
 pub and-not : (a : Bool) → (a and not a) ≡ false
 unfolding _and_
@@ -85,9 +94,29 @@ unfolding _or_
 or-cases true b h = inl refl
 or-cases false b h = inr h
 
+-- neither of two tests holds
+pub not-or : (a b : Bool) → not (a or b) ≡ (not b and not a)
+unfolding _and_ _or_
+not-or true true = refl
+not-or true false = refl
+not-or false true = refl
+not-or false false = refl
+
 -- a choice made twice
 pub cond-or : {A : Type 0} (a b : Bool) (x y : A) → cond b x (cond a x y) ≡ cond (a or b) x y
 unfolding _or_
 cond-or true true x y = refl
 cond-or true false x y = refl
 cond-or false b x y = refl
+
+-- tests that agree are equal: where they are computed at every number of a range, one test shows that they are the same throughout
+unfoldable pub agree : Bool → Bool → Bool
+agree true b = b
+agree false b = not b
+
+pub agree-same : (a b : Bool) → agree a b ≡ true → a ≡ b
+unfolding agree
+agree-same true true h = refl
+agree-same true false h = sym h
+agree-same false true h = h
+agree-same false false h = refl

@@ -7,7 +7,7 @@ use lib.ListN.{getD}
 use lib.Bits.{bitAnd, and-mask}
 use Rattle.lists.specs.Cases.{refute}
 use Rattle.lists.specs.Below.{allBelow, all-intro}
-use Rattle.lanes.specs.Lanes.{lanes, wordAt, lanes-cong, lanes-and, lanes-same}
+use Rattle.lanes.specs.Lanes.{lanes, bytesAt, wordAt, lanes-cong, lanes-and, lanes-same}
 use Rattle.format.specs.Diskette.{Bytes}
 use Rattle.format.specs.Names.{byteLike, nameLike}
 use Rattle.facts.specs.Names.{nameBits, like-at, same-byte}
@@ -24,7 +24,7 @@ unfolding lanes
 sevens-lanes = refl
 
 pub seven-lanes : (l : Bytes) (at : ℕ) → ((i : ℕ) → i < eight → getD l (at + i) 0 < 256) → bitAnd (wordAt l at) sevens ≡ lanes eight (nameBits l at)
-unfolding wordAt
+unfolding bytesAt
 seven-lanes l at p =
     ap (bitAnd (lanes eight (λ (i : ℕ). getD l (at + i) 0))) sevens-lanes
     ∙ lanes-and eight (λ (i : ℕ). getD l (at + i) 0) (λ (i : ℕ). 127) p (λ i h. omega arith)

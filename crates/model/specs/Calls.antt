@@ -18,7 +18,7 @@ use Rattle.model.specs.declared.Plan.the-variants.{Stay, Move, Make}
 use Rattle.model.specs.Lent.{Lent, lend, rowsOf, Outcome, ends, ended, searching, withUser}
 use Rattle.model.specs.Closing.{closedImage, closedMap, closedFcb}
 use Rattle.model.specs.Entering.{copied, entered, madeRow, renamedRow, threeBytes}
-use Rattle.model.specs.Target.{targetRecord, targetSlot, crAfter, presentEntry, plan, moved, made, haveRead, haveWritten}
+use Rattle.model.specs.Target.{targetExtent, targetRecord, targetSlot, crAfter, presentEntry, plan, moved, made, haveRead, haveWritten}
 use Rattle.model.specs.Table.{askedEntry}
 use Rattle.model.specs.Search.{findHit}
 
@@ -119,8 +119,8 @@ module _ (G : Geometry) (s : Session) (l : Lent) where
   -- a read never makes an entry: the table refuses one of an extent without
   abbrev pub reading : ℕ → Plan → Outcome
   reading n (Stay e b) = readAt n b l
-  reading n (Move e t b) = readAt n b (moved G n l e t)
-  reading n (Make e t b) = readAt n b (made G n l e t)
+  reading n (Move e t b) = readAt n b (moved G l e t)
+  reading n (Make e t b) = readAt n b (made G (targetExtent n (l .fcb)) l e t)
 
   unfoldable pub read : ℕ → Outcome
   read n = reading n (plan G n (s .user) l)
@@ -131,8 +131,8 @@ module _ (G : Geometry) (s : Session) (l : Lent) where
 
   abbrev pub writing : ℕ → Plan → Outcome
   writing n (Stay e b) = writtenAt n e b l
-  writing n (Move e t b) = writtenAt n t b (moved G n l e t)
-  writing n (Make e t b) = writtenAt n t b (made G n l e t)
+  writing n (Move e t b) = writtenAt n t b (moved G l e t)
+  writing n (Make e t b) = writtenAt n t b (made G (targetExtent n (l .fcb)) l e t)
 
   unfoldable pub written : ℕ → Outcome
   written n = writing n (plan G n (s .user) l)

@@ -6,7 +6,7 @@ use lib.Dec.{eqb, ltb}
 use lib.ListN.{set}
 use Rattle.lists.specs.Tests.{_and_, _or_}
 use Rattle.format.specs.Diskette.{Bytes, Geometry, diskRecord, recordAt, withRecord, extentRecords}
-use Rattle.format.specs.Entries.{entryAt, withEntry, slotOf, countOf, extentOf, countIn, slotFor, findFile, findEmpty, readOnly}
+use Rattle.format.specs.Entries.{Rows, entryAt, withEntry, slotOf, countOf, extentOf, countIn, slotFor, findFile, findEmpty, readOnly}
 use Rattle.format.specs.Notes.{pendingFor, withNote, findFree}
 use Rattle.format.specs.Fcb.{crOf, randomOf, current}
 use Rattle.format.specs.Found.{numberOf}
@@ -46,6 +46,11 @@ stays n fcb = eqb (targetExtent n fcb) (extentOf fcb)
 unfoldable pub targetSlot : Geometry → ℕ → Bytes → ℕ
 targetSlot G n fcb = slotFor G (targetExtent n fcb) (targetRecord n fcb)
 
+-- t1' in the entry that was found
+abbrev pub readOnlyIn : Rows → Found → Bool
+readOnlyIn d (At t) = readOnly (d t)
+readOnlyIn d Nothing = false
+
 module _ (G : Geometry) (n user : ℕ) (l : Lent) where
   -- the target's own entry
   unfoldable pub targetEntry : Found
@@ -76,12 +81,8 @@ module _ (G : Geometry) (n user : ℕ) (l : Lent) where
   targetBlock = cond (eqb blockThere 0) (numberOf (G .blocks) (findFree G (l .map))) blockThere
 
   -- t1' in the FCB's entry or in the target's
-  abbrev pub readOnlyIn : Found → Bool
-  readOnlyIn (At t) = readOnly (rowsOf G l t)
-  readOnlyIn Nothing = false
-
   unfoldable pub readOnlyThere : Bool
-  readOnlyThere = readOnlyIn (presentEntry G user l) or readOnlyIn targetEntry
+  readOnlyThere = readOnlyIn (rowsOf G l) (presentEntry G user l) or readOnlyIn (rowsOf G l) targetEntry
 
   -- ---- the plan; it is read only where the table has passed, so the look-ups that it needs have found something
   abbrev pub planTo : ℕ → Found → Plan
@@ -96,18 +97,15 @@ module _ (G : Geometry) (n user : ℕ) (l : Lent) where
 
 -- ---- moving: the present extent (entry e) is closed, then the FCB takes the target's entry (t), which a write may have to make. The two
 -- are different entries, and a close leaves user, name and attributes, so both rows are read as they came
-module _ (G : Geometry) (n : ℕ) (l : Lent) where
-  unfoldable pub moved : ℕ → ℕ → Lent
-  moved e t =
-      lend (closedImage G (l .image) e (l .fcb)) (closedMap (rowsOf G l e) (l .fcb) (l .map)) (entered (l .fcb) (rowsOf G l t)) (l .buffer)
+unfoldable pub moved : Geometry → Lent → ℕ → ℕ → Lent
+moved G l e t =
+    lend (closedImage G (l .image) e (l .fcb)) (closedMap (rowsOf G l e) (l .fcb) (l .map)) (entered (l .fcb) (rowsOf G l t)) (l .buffer)
 
-  unfoldable pub nextMade : ℕ → Bytes
-  nextMade e = nextRow (rowsOf G l e) (targetExtent n (l .fcb))
-
-  unfoldable pub made : ℕ → ℕ → Lent
-  made e t =
-      lend (withEntry G (closedImage G (l .image) e (l .fcb)) t (nextMade e)) (closedMap (rowsOf G l e) (l .fcb) (l .map))
-      (entered (l .fcb) (nextMade e)) (l .buffer)
+-- ext is the new entry's extent
+unfoldable pub made : Geometry → ℕ → Lent → ℕ → ℕ → Lent
+made G ext l e t =
+    let next = nextRow (rowsOf G l e) ext in
+    lend (withEntry G (closedImage G (l .image) e (l .fcb)) t next) (closedMap (rowsOf G l e) (l .fcb) (l .map)) (entered (l .fcb) next) (l .buffer)
 
 -- ---- reading and writing record r of an extent, in block b, with the FCB come to that extent; cr afterwards is given
 unfoldable pub placeIn : Geometry → ℕ → ℕ → ℕ

@@ -1,13 +1,13 @@
 -- The numbers of notes: a pending note tells its entry and slot, and is no other kind of note.
 use mathlib.Core.Path.{_≡_, sym, _∙_}
 use mathlib.Core.Bool.{true, false}
-use Prim.Native.Nat.{ℕ, _≤_, _<_}
+use Prim.Native.Nat.{ℕ, _%_, _≤_, _<_}
 use native.Mathlib.Omega.{arith}
 use lib.ListN.{length, List·getD-eq-default}
 use borrow.Author.Tests.{le-leb, lt-leb, leb-true}
 use Rattle.lists.specs.Cases.{split, lt-or-le}
 use Rattle.format.specs.Diskette.{Bytes}
-use Rattle.format.specs.Notes.{freeNote, areaNote, recordedNote, pendingFor, isPending, pendingEntry, pendingSlot, noteAt}
+use Rattle.format.specs.Notes.{freeNote, pendingFor, isPending, pendingEntry, noteAt}
 
 pub pending-low : (e j : ℕ) → 16 ≤ pendingFor e j
 unfolding pendingFor
@@ -25,6 +25,10 @@ pub pending-once : (e j f k : ℕ) → j < 16 → k < 16 → pendingFor e j ≡ 
 unfolding pendingFor
 pending-once e j f k h l q = (omega arith, omega arith)
 
+-- the slot for which a note is pending
+unfoldable pub pendingSlot : ℕ → ℕ
+pendingSlot n = n % 16
+
 pub pending-slot-low : (n : ℕ) → pendingSlot n < 16
 unfolding pendingSlot
 pending-slot-low n = omega arith
@@ -39,16 +43,10 @@ pub settled-not : (n : ℕ) → n < 16 → isPending n ≡ false
 unfolding isPending
 settled-not n h = lt-leb 16 n h
 
-pub pending-not-free : (e j : ℕ) → pendingFor e j ≡ freeNote → ⊥
-pending-not-free e j q = omega (arith, pending-low e j)
-
-pub pending-not-area : (e j : ℕ) → pendingFor e j ≡ areaNote → ⊥
-pending-not-area e j q = omega (arith, pending-low e j)
-
-pub pending-not-recorded : (e j : ℕ) → pendingFor e j ≡ recordedNote → ⊥
-pending-not-recorded e j q = omega (arith, pending-low e j)
+pub pending-not : (n : ℕ) → n < 16 → (e j : ℕ) → pendingFor e j ≡ n → ⊥
+pending-not n h e j q = omega (arith, pending-low e j)
 
 -- only blocks have pending notes
 pub pending-block : (map : Bytes) (b e j : ℕ) → noteAt map b ≡ pendingFor e j → b < length map
 pending-block map b e j q =
-    split (lt-or-le b (length map)) (λ h. h) (λ h. absurd (pending-not-free e j (sym q ∙ List·getD-eq-default map 0 h)))
+    split (lt-or-le b (length map)) (λ h. h) (λ h. absurd (pending-not freeNote (omega arith) e j (sym q ∙ List·getD-eq-default map 0 h)))

@@ -12,8 +12,8 @@ use Rattle.lists.specs.Below.{all-at, all-intro}
 use Rattle.lists.specs.Tab.{length-tab, getD-tab, tab-cong}
 use Rattle.format.specs.Diskette.{Bytes, Geometry, slotCount}
 use Rattle.format.specs.Entries.{Rows, used}
-use Rattle.format.specs.Notes.{freeNote, areaNote, recordedNote, pendingFor, isPending, pendingEntry, pendingSlot, noteAt, isListed, heldByUsed, noteRight, mapRight, freshNote, freshMap, settledNote, freedMap}
-use Rattle.notes.specs.Numbers.{pending-is, pending-entry, pending-back, pending-slot-low, settled-not}
+use Rattle.format.specs.Notes.{freeNote, areaNote, recordedNote, pendingFor, isPending, pendingEntry, noteAt, isListed, heldByUsed, noteRight, mapRight, freshNote, freshMap, settledNote, freedMap}
+use Rattle.notes.specs.Numbers.{pending-is, pending-entry, pendingSlot, pending-back, pending-slot-low, settled-not}
 
 -- a block past the directory that no used entry lists
 pub record Spare (G : Geometry) (d : Rows) (b : ℕ) : Type 0 where

@@ -11,7 +11,7 @@ use Rattle.model.specs.declared.Code.the-variants.{Accepted}
 use Rattle.model.specs.declared.Plan.{Plan}
 use Rattle.model.specs.declared.Plan.the-variants.{Stay, Move, Make}
 use Rattle.model.specs.Lent.{Lent, answerOf, ended}
-use Rattle.model.specs.Target.{targetRecord, targetSlot, crAfter, moved, made, haveRead, haveWritten}
+use Rattle.model.specs.Target.{targetRecord, targetSlot, crAfter, moved, made, haveRead, haveWritten, targetExtent}
 use Rattle.model.specs.Table.{oneOf, readCalls, writeCalls}
 use Rattle.model.specs.Calls.{readAt, reading, writtenAt, writing}
 use Rattle.model.specs.Step.{refusedSession}
@@ -22,11 +22,11 @@ use Rattle.rulings.specs.Ruling.{readRuling, writeRuling}
 use Rattle.rulings.specs.Bounds.{Within}
 use Rattle.rulings.specs.Own.{own-read, own-write}
 
--- the buffers once the FCB has come to the target's extent
+-- the buffers once the FCB has come to the target's extent, ext
 abbrev pub arrived : Geometry → ℕ → Lent → Plan → Lent
-arrived G n l (Stay e b) = l
-arrived G n l (Move e t b) = moved G n l e t
-arrived G n l (Make e t b) = made G n l e t
+arrived G ext l (Stay e b) = l
+arrived G ext l (Move e t b) = moved G l e t
+arrived G ext l (Make e t b) = made G ext l e t
 
 -- the target's entry and block
 abbrev pub entryOf : Plan → ℕ
@@ -40,12 +40,12 @@ blockOf (Move e t b) = b
 blockOf (Make e t b) = b
 
 module _ (G : Geometry) (s : Session) (l : Lent) (n : ℕ) where
-  pub reading-by : (p : Plan) → reading G s l n p ≡ readAt G s l n (blockOf p) (arrived G n l p)
+  pub reading-by : (p : Plan) → reading G s l n p ≡ readAt G s l n (blockOf p) (arrived G (targetExtent n (l .fcb)) l p)
   reading-by (Stay e b) = refl
   reading-by (Move e t b) = refl
   reading-by (Make e t b) = refl
 
-  pub writing-by : (p : Plan) → writing G s l n p ≡ writtenAt G s l n (entryOf p) (blockOf p) (arrived G n l p)
+  pub writing-by : (p : Plan) → writing G s l n p ≡ writtenAt G s l n (entryOf p) (blockOf p) (arrived G (targetExtent n (l .fcb)) l p)
   writing-by (Stay e b) = refl
   writing-by (Move e t b) = refl
   writing-by (Make e t b) = refl
@@ -69,7 +69,7 @@ module _ (G : Geometry) (argument n : ℕ) (l : Lent) (s : Session) (r : Answer)
     read-refused code q h = rw (own-read G argument l s n which c, q, h)
 
     pub read-carried : (p : Plan) (left : Lent) → readRuling G n (s .user) l ≡ Follow p → r ≡ answerOf (Accepted 0) (ended s)
-        → left ≡ haveRead G (blockOf p) (targetRecord n (l .fcb)) (crAfter n (l .fcb)) (arrived G n l p)
+        → left ≡ haveRead G (blockOf p) (targetRecord n (l .fcb)) (crAfter n (l .fcb)) (arrived G (targetExtent n (l .fcb)) l p)
         → record { answer = r; lent = left } ≡ ownStep G argument l s c
     unfolding readAt
     read-carried p left q h k = rw (own-read G argument l s n which c, q, reading-by G s l n p, h, k)
@@ -80,7 +80,8 @@ module _ (G : Geometry) (argument n : ℕ) (l : Lent) (s : Session) (r : Answer)
     write-refused code q h = rw (own-write G argument l s n which c, q, h)
 
     pub write-carried : (p : Plan) (left : Lent) → writeRuling G n (s .user) l ≡ Follow p → r ≡ answerOf (Accepted 0) (ended s)
-        → left ≡ haveWritten G (entryOf p) (targetSlot G n (l .fcb)) (blockOf p) (targetRecord n (l .fcb)) (crAfter n (l .fcb)) (arrived G n l p)
+        → left ≡ haveWritten G (entryOf p) (targetSlot G n (l .fcb)) (blockOf p) (targetRecord n (l .fcb)) (crAfter n (l .fcb))
+        (arrived G (targetExtent n (l .fcb)) l p)
         → record { answer = r; lent = left } ≡ ownStep G argument l s c
     unfolding writtenAt
     write-carried p left q h k = rw (own-write G argument l s n which c, q, writing-by G s l n p, h, k)

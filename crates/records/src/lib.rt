@@ -8,7 +8,7 @@ ghost use Rattle.format.specs.Entries.{entryAt, slotFor};
 ghost use Rattle.format.specs.Consistent.{consistent};
 ghost use Rattle.format.specs.Fcb.{fcbBytes};
 ghost use Rattle.model.specs.Lent.{lend, outcome};
-ghost use Rattle.model.specs.Target.{targetExtent, moved, made, haveRead, haveWritten};
+ghost use Rattle.model.specs.Target.{moved, made, haveRead, haveWritten};
 ghost use Rattle.model.specs.Table.{oneOf, readCalls, writeCalls};
 ghost use Rattle.chains.specs.Chain.{Indexed};
 ghost use Rattle.table.specs.Own.{Call};
@@ -24,8 +24,8 @@ use targets::Target;
 // A move: the present extent, entry e, is closed, and the FCB takes entry t.
 fn move_to(image: &mut [u8], map: &mut [u16], fcb: &mut [u8], e: usize, t: usize)
     requires { ⌜ (length (now image) ≡ imageBytes eightInch) × (length (now fcb) ≡ fcbBytes) × (e < eightInch .entries) × (t < eightInch .entries) ⌝ }
-    ensures { λ _. ⌜ ((n : ℕ) (buffer : Bytes) → lend (now (image .exit)) (now (map .exit)) (now (fcb .exit)) buffer
-        ≡ moved eightInch n (lend (now (image .entry)) (now (map .entry)) (now (fcb .entry)) buffer) e t) ⌝ }
+    ensures { λ _. ⌜ ((buffer : Bytes) → lend (now (image .exit)) (now (map .exit)) (now (fcb .exit)) buffer
+        ≡ moved eightInch (lend (now (image .entry)) (now (map .entry)) (now (fcb .entry)) buffer) e t) ⌝ }
 {
     let row = rows::copy_row(image, t);
     closing::close_entry(image, map, e, fcb);
@@ -36,9 +36,8 @@ fn move_to(image: &mut [u8], map: &mut [u16], fcb: &mut [u8], e: usize, t: usize
 fn make_next(image: &mut [u8], map: &mut [u16], fcb: &mut [u8], e: usize, t: usize, extent: usize)
     requires { ⌜ (length (now image) ≡ imageBytes eightInch) × (length (now fcb) ≡ fcbBytes) × (e < eightInch .entries) × (t < eightInch .entries)
         × (extent < extents) ⌝ }
-    ensures { λ _. ⌜ ((n : ℕ) (buffer : Bytes) → extent ≡ targetExtent n (now (fcb .entry))
-        → lend (now (image .exit)) (now (map .exit)) (now (fcb .exit)) buffer
-        ≡ made eightInch n (lend (now (image .entry)) (now (map .entry)) (now (fcb .entry)) buffer) e t) ⌝ }
+    ensures { λ _. ⌜ ((buffer : Bytes) → lend (now (image .exit)) (now (map .exit)) (now (fcb .exit)) buffer
+        ≡ made eightInch extent (lend (now (image .entry)) (now (map .entry)) (now (fcb .entry)) buffer) e t) ⌝ }
 {
     let row = entering::next_row(rows::copy_row(image, e), extent);
     closing::close_entry(image, map, e, fcb);
@@ -49,9 +48,8 @@ fn make_next(image: &mut [u8], map: &mut [u16], fcb: &mut [u8], e: usize, t: usi
 // The FCB comes to the target's extent, as the plan says.
 fn arrive(image: &mut [u8], map: &mut [u16], fcb: &mut [u8], plan: Plan, extent: usize)
     requires { ⌜ (length (now image) ≡ imageBytes eightInch) × (length (now fcb) ≡ fcbBytes) × (extent < extents) × Within eightInch plan ⌝ }
-    ensures { λ _. ⌜ ((n : ℕ) (buffer : Bytes) → extent ≡ targetExtent n (now (fcb .entry))
-        → lend (now (image .exit)) (now (map .exit)) (now (fcb .exit)) buffer
-        ≡ arrived eightInch n (lend (now (image .entry)) (now (map .entry)) (now (fcb .entry)) buffer) plan) ⌝ }
+    ensures { λ _. ⌜ ((buffer : Bytes) → lend (now (image .exit)) (now (map .exit)) (now (fcb .exit)) buffer
+        ≡ arrived eightInch extent (lend (now (image .entry)) (now (map .entry)) (now (fcb .entry)) buffer) plan) ⌝ }
 {
     match plan {
         Plan::Stay(_, _) => {}
@@ -93,10 +91,9 @@ fn follow_read(
 )
     requires { ⌜ (length (now image) ≡ imageBytes eightInch) × (length (now fcb) ≡ fcbBytes) × (length (now buffer) ≡ recordBytes)
         × (target .extent < extents) × (target .after ≤ extentRecords) × Within eightInch plan ⌝ }
-    ensures { λ _. ⌜ ((n : ℕ) → target .extent ≡ targetExtent n (now (fcb .entry))
-        → lend (now (image .exit)) (now (map .exit)) (now (fcb .exit)) (now (buffer .exit))
+    ensures { λ _. ⌜ lend (now (image .exit)) (now (map .exit)) (now (fcb .exit)) (now (buffer .exit))
         ≡ haveRead eightInch (blockOf plan) (target .at) (target .after)
-        (arrived eightInch n (lend (now (image .entry)) (now (map .entry)) (now (fcb .entry)) (now (buffer .entry))) plan)) ⌝ }
+        (arrived eightInch (target .extent) (lend (now (image .entry)) (now (map .entry)) (now (fcb .entry)) (now (buffer .entry))) plan) ⌝ }
 {
     arrive(image, map, fcb, plan, target.extent);
     transfers::read_at(image, fcb, buffer, block_of(plan), target.at, target.after);
@@ -114,10 +111,9 @@ fn follow_write(
     requires { ⌜ (length (now image) ≡ imageBytes eightInch) × (length (now map) ≡ eightInch .blocks) × (length (now fcb) ≡ fcbBytes)
         × (length (now buffer) ≡ recordBytes) × (target .extent < extents) × (target .at < extentRecords) × (target .after ≤ extentRecords)
         × Within eightInch plan ⌝ }
-    ensures { λ _. ⌜ ((n : ℕ) → target .extent ≡ targetExtent n (now (fcb .entry))
-        → lend (now (image .exit)) (now (map .exit)) (now (fcb .exit)) (now (buffer .entry))
+    ensures { λ _. ⌜ lend (now (image .exit)) (now (map .exit)) (now (fcb .exit)) (now (buffer .entry))
         ≡ haveWritten eightInch (entryOf plan) (slotFor eightInch (target .extent) (target .at)) (blockOf plan) (target .at) (target .after)
-        (arrived eightInch n (lend (now (image .entry)) (now (map .entry)) (now (fcb .entry)) (now (buffer .entry))) plan)) ⌝ }
+        (arrived eightInch (target .extent) (lend (now (image .entry)) (now (map .entry)) (now (fcb .entry)) (now (buffer .entry))) plan) ⌝ }
 {
     arrive(image, map, fcb, plan, target.extent);
     let j = entries::slot_for(target.extent, target.at);

@@ -6,6 +6,7 @@ use native.Mathlib.Omega.{arith}
 use lib.ListN.{length}
 use borrow.Author.Tests.{leb-false, eq-eqb, not-false}
 use Rattle.lists.specs.Cases.{split, bool-cases}
+use Rattle.lists.specs.Tests.{second-fails}
 use Rattle.format.specs.Diskette.{Bytes, Geometry, Sound, slotCount, extents}
 use Rattle.format.specs.Entries.{slotOf, findFile}
 use Rattle.format.specs.Consistent.{consistent}
@@ -27,12 +28,12 @@ use Rattle.facts.specs.Find.{file-says, empty-says}
 use Rattle.facts.specs.Current.{Current, current-says}
 use Rattle.slots.specs.Slots.{SlotOk, slot-same, slot-pending}
 use Rattle.current.specs.Current.{fcb-says, current-slot, current-low}
-use Rattle.fields.specs.Naming.{file-used}
+use Rattle.consistency.specs.Naming.{file-used}
 use Rattle.fields.specs.Target.{record-below, crAfter-high, targetSlot-below}
 use Rattle.table.specs.First.{passed-none}
 use Rattle.table.specs.Present.{file-extent-below}
 use Rattle.table.specs.Facts.{Reads, Writes}
-use Rattle.table.specs.Reflect.{found, second-fails, either-found}
+use Rattle.table.specs.Reflect.{found, either-found}
 use Rattle.table.specs.Plans.{Block, there, free, There, Planned, stay, move, make, planned-read, planned-write}
 use Rattle.rulings.specs.declared.Ruling.the-variants.{Follow}
 use Rattle.rulings.specs.Ruling.{rulingOf, readRows, writeRows, readRuling, writeRuling}

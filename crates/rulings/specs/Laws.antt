@@ -21,7 +21,7 @@ use Rattle.model.specs.declared.Code.the-variants.{BadRecord, NotCurrent, ReadO
 use Rattle.model.specs.declared.Plan.{Plan}
 use Rattle.model.specs.declared.Plan.the-variants.{Make}
 use Rattle.model.specs.Lent.{Lent, rowsOf}
-use Rattle.model.specs.Target.{targetExtent, targetRecord, targetSlot, presentEntry, stays, targetEntry, blockThere, countThere, recordThere, targetBlock, readOnlyThere, planFrom, plan}
+use Rattle.model.specs.Target.{targetExtent, targetRecord, targetSlot, presentEntry, stays, targetEntry, blockThere, countThere, recordThere, targetBlock, readOnlyIn, readOnlyThere, planFrom, plan}
 use Rattle.model.specs.Table.{Row, firstRow}
 use Rattle.facts.specs.Current.{current-says}
 use Rattle.current.specs.Current.{fcb-says}
@@ -32,7 +32,7 @@ use Rattle.rulings.specs.declared.Ruling.{Ruling}
 use Rattle.rulings.specs.declared.Ruling.the-variants.{Refuse, Follow}
 use Rattle.targets.specs.declared.Target.{Target}
 use Rattle.targets.specs.Target.{TargetOf, overLast, missingCode, arrivedSlot, arrivedCount, goTo}
-use Rattle.rulings.specs.Ruling.{rulingOf, readRows, writeRows, readRuling, writeRuling, readTo, guarded, readOnlyFound, blockFor, withBlock, writeNew, writeTo}
+use Rattle.rulings.specs.Ruling.{rulingOf, readRows, writeRows, readRuling, writeRuling, readTo, guarded, blockFor, withBlock, writeNew, writeTo}
 
 -- ---- the ruling of a list of rows
 refuses : (c : Code) (rows : List Row) (p : Plan) → Decides c rows → rulingOf (firstRow rows) p ≡ Refuse c
@@ -222,6 +222,6 @@ module _ (d : Rows) (e : ℕ) (target : Found) where
   unfolding guarded
   guarded-here h = or-left _ _ h
 
-  pub guarded-there : (r : Found) → readOnly (d e) ≡ false → target ≡ r → guarded d e target ≡ readOnlyFound d r
+  pub guarded-there : (r : Found) → readOnly (d e) ≡ false → target ≡ r → guarded d e target ≡ readOnlyIn d r
   unfolding guarded
-  guarded-there r h q = or-then _ _ h ∙ ap (readOnlyFound d) q
+  guarded-there r h q = or-then _ _ h ∙ ap (readOnlyIn d) q

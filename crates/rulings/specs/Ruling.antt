@@ -1,7 +1,7 @@
 -- What the state says of a record call that the first three rows of the table have passed: refused with a code, or a plan to follow.
 -- 20 and 33 have one chain of rows, 21 and 34 another: the number decides only where document 01's table tells them apart.
 use mathlib.Core.Path.{_≡_}
-use mathlib.Core.Bool.{Bool, false, not, cond}
+use mathlib.Core.Bool.{Bool, not, cond}
 use mathlib.Core.List.{List, [], _∷_}
 use Prim.Native.Nat.{ℕ, _<_}
 use lib.Dec.{eqb, leb, ltb}
@@ -19,7 +19,7 @@ use Rattle.model.specs.declared.Verdict.the-variants.{Passed, Refused}
 use Rattle.model.specs.declared.Plan.{Plan}
 use Rattle.model.specs.declared.Plan.the-variants.{Make}
 use Rattle.model.specs.Lent.{Lent, rowsOf}
-use Rattle.model.specs.Target.{targetExtent, presentEntry, targetEntry, blockThere, recordThere, readOnlyThere, plan}
+use Rattle.model.specs.Target.{targetExtent, presentEntry, targetEntry, blockThere, recordThere, readOnlyThere, plan, readOnlyIn}
 use Rattle.model.specs.Table.{Row, when, firstRow}
 use Rattle.targets.specs.Target.{overLast, missingCode, arrivedSlot, arrivedCount, goTo}
 use Rattle.rulings.specs.declared.Ruling.{Ruling}
@@ -69,12 +69,8 @@ abbrev pub Among : ℕ → Found → Type 0
 Among n r = (k : ℕ) → r ≡ At k → k < n
 
 -- t1' in the FCB's entry or in the target's
-abbrev pub readOnlyFound : Rows → Found → Bool
-readOnlyFound d (At t) = readOnly (d t)
-readOnlyFound d Nothing = false
-
 unfoldable pub guarded : Rows → ℕ → Found → Bool
-guarded d e target = readOnly (d e) or readOnlyFound d target
+guarded d e target = readOnly (d e) or readOnlyIn d target
 
 -- a slot of 0 takes the first free block; where there is none, the disk is full
 unfoldable pub blockFor : Geometry → Bytes → ℕ → Found

@@ -2,8 +2,8 @@
 ghost use mathlib.Core.Path.{_≡_};
 ghost use Prim.Native.Nat.{_≤_, _<_};
 ghost use lib.ListN.{length};
-ghost use Rattle.format.specs.Diskette.{Bytes, eightInch, imageBytes, entryBytes, slotCount};
-ghost use Rattle.format.specs.Entries.{entryAt, readOnly};
+ghost use Rattle.format.specs.Diskette.{Bytes, eightInch, imageBytes, slotCount};
+ghost use Rattle.format.specs.Entries.{entryAt};
 ghost use Rattle.format.specs.Fcb.{fcbBytes};
 ghost use Rattle.model.specs.Lent.{lend};
 ghost use Rattle.chains.specs.Chain.{Indexed};

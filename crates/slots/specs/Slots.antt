@@ -2,13 +2,12 @@
 use mathlib.Core.Path.{_≡_, sym, ap, _∙_}
 use mathlib.Core.Bool.{Bool, true}
 use Prim.Native.Nat.{ℕ, _+_, _<_}
-use native.Mathlib.Nat.{zero-add}
 use lib.Dec.{eqb}
 use lib.ListN.{getD}
 use borrow.Author.Tests.{eqb-true, eq-eqb, ne-eqb}
 use Rattle.lists.specs.Cases.{split}
 use Rattle.lists.specs.Tests.{and-left, and-right, and-both, and-then, or-then, or-left, or-right, or-cases}
-use Rattle.lists.specs.Below.{allBelow, all-at, all-intro, all-cong, all-next}
+use Rattle.lists.specs.Below.{allBelow, all-at, all-intro, all-next}
 use lib.Bits.{bitOr, bitXor}
 use Rattle.lists.specs.Bits.{or-zero, xor-zero}
 use Rattle.format.specs.Diskette.{Bytes, slotCount}

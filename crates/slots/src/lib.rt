@@ -1,6 +1,6 @@
 // The slots of an FCB against an entry's: whether each is the entry's, or holds a block that is pending for it.
 ghost use mathlib.Core.Path.{_≡_};
-ghost use Prim.Native.Nat.{_+_, _≤_, _<_};
+ghost use Prim.Native.Nat.{_≤_, _<_};
 ghost use lib.ListN.{length};
 ghost use Rattle.format.specs.Diskette.{eightInch, slotCount};
 ghost use Rattle.format.specs.Fcb.{slotFits, slotsFit};

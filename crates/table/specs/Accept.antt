@@ -6,7 +6,7 @@ use native.Mathlib.Omega.{arith}
 use lib.Dec.{eqb, ltb}
 use borrow.Author.Tests.{leb-false, lt-leb, ltb-false, le-ltb, ne-eqb, eq-eqb, not-false}
 use Rattle.lists.specs.Cases.{split, bool-cases, eq-or-ne}
-use Rattle.lists.specs.Tests.{_and_, _or_, and-fails-left, and-fails-right}
+use Rattle.lists.specs.Tests.{_and_, _or_, and-fails-left, and-fails-right, second-fails}
 use Rattle.format.specs.Diskette.{Bytes, Geometry, extentRecords, extents, lastRecord}
 use Rattle.format.specs.Entries.{findEmpty}
 use Rattle.format.specs.Consistent.{consistent}
@@ -24,7 +24,7 @@ use Rattle.table.specs.First.{_&_, NoneHolds, passed-none, none-passed, 
 use Rattle.table.specs.Own.{Call, call13, call15, call16, call17, call18, call19, call20, call21, call22, call23, call32, call33, call34, call35, call36, call46, call98, call-of, ownRows, rowsFor, verdict-rows, verdict-unlisted}
 use Rattle.table.specs.Present.{there-target, file-extent-below}
 use Rattle.table.specs.Facts.{Reads, Writes, Own, Ready, AcceptedCall}
-use Rattle.table.specs.Reflect.{found, missed, second-fails, either-found, either-missed, pattern-of, pattern-right, argument-of, argument-right, parameters-right, disk-right, ready-of, some-of, some-right, none-of, none-right, writable-of, writable-right, positions-of, positions-right}
+use Rattle.table.specs.Reflect.{found, missed, either-found, either-missed, pattern-of, pattern-right, argument-of, argument-right, parameters-right, disk-right, ready-of, some-of, some-right, none-of, none-right, writable-of, writable-right, positions-of, positions-right}
 
 -- the target's extent of 33 and 34 is below 2,048 exactly where the random record is at most 262,143
 pub random-below : (n : ℕ) (fcb : Bytes) → isRandom n ≡ true → ltb lastRecord (randomOf fcb) ≡ false → targetExtent n fcb < extents

@@ -7,8 +7,8 @@ use native.Mathlib.Omega.{arith}
 use lib.Dec.{eqb, leb, ltb}
 use lib.ListN.{getD}
 use borrow.Author.Tests.{eqb-true, eq-eqb, ne-eqb, leb-true, le-leb, ltb-false, le-ltb, not-false}
-use Rattle.lists.specs.Cases.{split, bool-cases, eq-or-ne}
-use Rattle.lists.specs.Tests.{_and_, _or_, and-left, and-right, and-both, and-fails-left, and-fails-right, and-then, or-left, or-right, or-then, or-cases}
+use Rattle.lists.specs.Cases.{split, bool-cases, eq-or-ne, clash}
+use Rattle.lists.specs.Tests.{_and_, _or_, and-left, and-right, and-both, and-fails-left, and-fails-right, second-fails, or-left, or-right, or-then, or-cases}
 use Rattle.lists.specs.Below.{any-never, any-empty}
 use Rattle.format.specs.Diskette.{Geometry}
 use Rattle.format.specs.Entries.{named, readOnly, findNamed}
@@ -20,7 +20,7 @@ use Rattle.format.specs.declared.Found.{Found}
 use Rattle.format.specs.declared.Found.the-variants.{At, Nothing}
 use Rattle.model.specs.declared.Session.{Session}
 use Rattle.model.specs.Lent.{Lent, rowsOf}
-use Rattle.model.specs.Table.{usesFcb, lengthsRight, parametersRight, diskRight, anyNamed, anyReadOnly, positionRight}
+use Rattle.model.specs.Table.{oneOf, usesFcb, lengthsRight, parametersRight, diskRight, anyNamed, anyReadOnly, positionRight}
 use Rattle.table.specs.Facts.{Fits, Positions, Ready}
 
 -- ---- tests of look-ups
@@ -29,10 +29,6 @@ found r h = is-found r (not-false _ h)
 
 pub missed : (r : Found) → FoundAt r → not (isFound r) ≡ false
 missed r f = found-row r (f .is)
-
--- the second test failed though the first holds
-pub second-fails : (a b : Bool) → (a and b) ≡ false → a ≡ true → b ≡ false
-second-fails a b h t = sym (and-then a b t) ∙ h
 
 pub either-found : (r q : Found) → (not (isFound r) and not (isFound q)) ≡ false → r ≡ Nothing → FoundAt q
 either-found r q h z = found q (second-fails _ _ h (missed-row r z))
@@ -105,6 +101,11 @@ module _ (G : Geometry) (n : ℕ) (l : Lent) (s : Session) where
   -- what the first three rows say where they pass
   pub ready-of : parametersRight G l n s ≡ true → diskRight G l n ≡ true → Ready G n l s
   ready-of p d = record { fits = fits-of p; drive = drive-of p; image-right = image-of d; map-right = map-of d }
+
+-- a log-in takes any map, and no FCB
+pub login-ready : (G : Geometry) (l : Lent) (s : Session) → Fits G l s → consistent G (l .image) ≡ true → Ready G 13 l s
+unfolding usesFcb oneOf _or_
+login-ready G l s f c = record { fits = f; drive = λ u. clash (sym u); image-right = c; map-right = λ ne. absurd (ne refl) }
 
 -- ---- the tests of single calls
 module _ (G : Geometry) (l : Lent) (s : Session) where

@@ -5,7 +5,8 @@ use native.Mathlib.Omega.{arith}
 use borrow.Author.Tests.{not-true, not-false}
 use Rattle.lists.specs.Cases.{refute, not-both}
 use Rattle.format.specs.Diskette.{eightInch}
-use Rattle.admission.specs.Parameters.{fcb-length, lengths-are, user-is, place-is, drive-decides, drive-unused}
+use Rattle.table.specs.Reflect.{fits-of}
+use Rattle.admission.specs.Parameters.{fcb-length, lengths-are, drive-decides, drive-unused}
 use borrow.Author.Needs.{needs}
 use Rattle.admission.proofs.parameters_right.Statement.{statement}
 use Rattle.admission.proofs.parameters_right.Tie as tie
@@ -17,13 +18,13 @@ returns : tie.Need-returns
 returns c = refute _ (λ t. not-both _ (c .before .lengths-right .ensures ∙ lengths-are eightInch _ _ _ t) (not-true _ (c .if1 .taken)))
 
 returns-2 : tie.Need-returns-2
-returns-2 c = refute _ (λ t. let u = user-is eightInch _ _ _ t in omega arith)
+returns-2 c = refute _ (λ t. let u = fits-of eightInch _ _ _ t .user-low in omega arith)
 
 cast-place : tie.Need-cast-place
 cast-place c = search needs
 
 returns-3 : tie.Need-returns-3
-returns-3 c = refute _ (λ t. let u = place-is eightInch _ _ _ t in omega arith)
+returns-3 c = refute _ (λ t. let u = fits-of eightInch _ _ _ t .place-low in omega arith)
 
 uses-fcb-requires : tie.Need-uses-fcb-requires
 uses-fcb-requires c κs = search needs

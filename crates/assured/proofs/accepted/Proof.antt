@@ -1,10 +1,8 @@
 -- `assured::accepted` meets its contract: H first, then A by the kind of the call.
-use mathlib.Core.Path.{_≡_, sym, _∙_}
-use mathlib.Core.Bool.{true, false}
+use mathlib.Core.Path.{sym, _∙_}
 use borrow.Author.Needs.{needs}
 use borrow.Author.Tests.{eq-eqb, ne-eqb}
 use Rattle.lists.specs.Tests.{and-then, and-fails-left}
-use Rattle.model.specs.Table.{oneOf}
 use Rattle.effects.specs.Book.{acceptedAnswer}
 use Rattle.assured.proofs.accepted.Statement.{statement}
 use Rattle.assured.proofs.accepted.Tie as tie

@@ -1,6 +1,6 @@
 -- Four numbers that make 0 are 0 each, and taking them changes nothing.
 use Rattle.blocks.specs.Runs.{taken-zeros}
-use Rattle.lanes.specs.Lanes.{half-zero}
+use Rattle.lanes.specs.Lanes.{bytes-zero}
 use mathlib.Core.Path.{sym, _∙_}
 use borrow.Author.Needs.{needs}
 use Rattle.blocks.proofs.take_any.Statement.{statement}
@@ -12,7 +12,7 @@ half-requires c κs = search needs
 returns : tie.Need-returns
 returns c =
     let a = c .before .before .before .before in
-    taken-zeros (a .args .marks .now) (a .args .r .now) (a .args .at) (a .pre .1) 4 (half-zero (a .args .r .now) (a .args .at) (sym (c .before .half .ensures .0) ∙ c .if1 .taken))
+    taken-zeros (a .args .marks .now) (a .args .r .now) (a .args .at) (a .pre .1) 4 (bytes-zero 4 (a .args .r .now) (a .args .at) (sym (c .before .half .ensures .0) ∙ c .if1 .taken))
 
 take-four-requires : tie.Need-take-four-requires
 take-four-requires c κs = search needs

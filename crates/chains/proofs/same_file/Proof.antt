@@ -1,5 +1,5 @@
 -- Both rows are used, so that the look-up of one by the other decides.
-use Rattle.chains.specs.Walk.{file-same}
+use Rattle.chains.specs.Walk.{asks-same}
 use Rattle.format.specs.Diskette.{eightInch}
 use mathlib.Core.Path.{_∙_}
 use borrow.Author.Needs.{needs}
@@ -16,7 +16,7 @@ is-file-requires : tie.Need-is-file-requires
 is-file-requires c κs = search needs
 
 returns : tie.Need-returns
-returns c = let a = c .before .before .before .before .before in c .is-file .ensures ∙ file-same eightInch (a .args .r .now) (a .args .t .now) (c .before .extent .result) (a .pre .2) (a .pre .3) (c .before .extent .ensures .0)
+returns c = let a = c .before .before .before .before .before in c .is-file .ensures ∙ asks-same eightInch (a .args .r .now) (a .args .t .now) (c .before .extent .result) (a .pre .2) (a .pre .3) (c .before .extent .ensures .0)
 
 pub same-file-spec : {M : Type 1} → statement M
 same-file-spec =

@@ -1,7 +1,7 @@
 -- `current::current_entry` meets its contract: each way out is one case of the definition, and the look-up answers an entry of the
 -- directory, so that its row can be taken.
 use mathlib.Core.Bool.{true, false, cond}
-use mathlib.Core.Path.{_≡_, refl, sym, ap, _∙_}
+use mathlib.Core.Path.{_≡_, sym, ap, _∙_}
 use Prim.Native.Nat.{_<_}
 use borrow.Author.Needs.{needs}
 use borrow.Author.Tests.{not-true, not-false}

@@ -8,7 +8,7 @@ use borrow.Author.Needs.{needs}
 use Rattle.format.specs.Diskette.{eightInch}
 use Rattle.format.specs.Entries.{named}
 use Rattle.disk.specs.Eight.{eight-sound}
-use Rattle.fields.specs.Naming.{named-used}
+use Rattle.consistency.specs.Naming.{named-used}
 use Rattle.families.specs.Erasing.{Erasing, erasing-none, erasing-more, erasing-image, erasing-map}
 use Rattle.families.proofs.erase_entries.Statement.{statement}
 use Rattle.families.proofs.erase_entries.Tie as tie

@@ -19,7 +19,7 @@ make-next-requires : tie.Need-make-next-requires
 make-next-requires c κs = let h = rw (c .before .before .before .before .plan2 .given .1) at (c .before .before .before .before .before .before .before .before .before .pre .3) in search needs
 
 returns : tie.Need-returns
-returns c = λ n buffer q. rw (c .enum-told .given .1)
+returns c = λ buffer. rw (c .enum-told .given .1)
 
 same-length : tie.Need-same-length
 same-length c = search needs
@@ -31,7 +31,7 @@ same-length-3 : tie.Need-same-length-3
 same-length-3 c = search needs
 
 returns-2 : tie.Need-returns-2
-returns-2 c = λ n buffer q. rw (c .before .before .before .before .before .before .before .before .before .before .before .plan .given .1) (c .before .before .before .before .before .before .move-to .ensures n buffer)
+returns-2 c = λ buffer. rw (c .before .before .before .before .before .before .before .before .before .before .before .plan .given .1) (c .before .before .before .before .before .before .move-to .ensures buffer)
 
 same-length-4 : tie.Need-same-length-4
 same-length-4 c = search needs
@@ -43,7 +43,7 @@ same-length-6 : tie.Need-same-length-6
 same-length-6 c = search needs
 
 returns-3 : tie.Need-returns-3
-returns-3 c = λ n buffer q. rw (c .before .before .before .before .before .before .before .before .before .before .before .plan2 .given .1) (c .before .before .before .before .before .before .make-next .ensures n buffer q)
+returns-3 c = λ buffer. rw (c .before .before .before .before .before .before .before .before .before .before .before .plan2 .given .1) (c .before .before .before .before .before .before .make-next .ensures buffer)
 
 pub arrive-spec : {M : Type 1} → statement M
 arrive-spec =

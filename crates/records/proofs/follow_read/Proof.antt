@@ -33,9 +33,9 @@ same-length-4 c = search needs
 
 returns : tie.Need-returns
 returns c =
-    λ n q. let s = c .before .before .before .before .before .before .before .before .before .before .before .before .before .before .before .before .before .before .before .before .before .before .before in let t = s .args .target in
+    let s = c .before .before .before .before .before .before .before .before .before .before .before .before .before .before .before .before .before .before .before .before .before .before .before in let t = s .args .target in
     c .before .before .before .before .read-at .ensures (c .before .before .before .before .before .before .before .before .before .before .before .before .before .before .before .arrive .last .1 .0)
-    ∙ rw (c .before .before .before .before .before .block-of .ensures) (ap (haveRead eightInch (blockOf (s .args .plan)) (t .at) (t .after)) (c .before .before .before .before .before .before .before .before .before .before .before .before .before .before .before .arrive .ensures n (s .args .buffer .now) q))
+    ∙ rw (c .before .before .before .before .before .block-of .ensures) (ap (haveRead eightInch (blockOf (s .args .plan)) (t .at) (t .after)) (c .before .before .before .before .before .before .before .before .before .before .before .before .before .before .before .arrive .ensures (s .args .buffer .now)))
 
 pub follow-read-spec : {M : Type 1} → statement M
 follow-read-spec =

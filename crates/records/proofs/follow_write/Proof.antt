@@ -38,11 +38,11 @@ same-length-3 c = search needs
 
 returns : tie.Need-returns
 returns c =
-    λ n q. let s = c .before .before .before .before .before .before .before .before .before .before .before .before .before .before .before .before .before .before .before .before .before .before .before .before .before .before .before in let t = s .args .target in let p = s .args .plan in
+    let s = c .before .before .before .before .before .before .before .before .before .before .before .before .before .before .before .before .before .before .before .before .before .before .before .before .before .before .before in let t = s .args .target in let p = s .args .plan in
     c .before .before .before .before .before .before .write-at .ensures
     ∙ rw (c .before .before .before .before .before .before .before .block-of .ensures, c .before .before .before .before .before .before .before .before .entry-of .ensures, c .before .before .before .before .before .before .before .before .before .before .before .before .slot-for .ensures .0)
     (ap (haveWritten eightInch (entryOf p) (slotFor eightInch (t .extent) (t .at)) (blockOf p) (t .at) (t .after))
-    (c .before .before .before .before .before .before .before .before .before .before .before .before .before .before .before .before .before .before .before .arrive .ensures n (s .args .buffer .now) q))
+    (c .before .before .before .before .before .before .before .before .before .before .before .before .before .before .before .before .before .before .before .arrive .ensures (s .args .buffer .now)))
 
 pub follow-write-spec : {M : Type 1} → statement M
 follow-write-spec =

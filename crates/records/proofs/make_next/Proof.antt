@@ -1,5 +1,5 @@
 -- The new row is made before the close, from the present one.
-use Rattle.model.specs.Target.{made, nextMade}
+use Rattle.model.specs.Target.{made}
 use borrow.Author.Needs.{needs}
 use Rattle.records.proofs.make_next.Statement.{statement}
 use Rattle.records.proofs.make_next.Tie as tie
@@ -29,16 +29,15 @@ same-length-3 : tie.Need-same-length-3
 same-length-3 c = search needs
 
 returns : tie.Need-returns
-unfolding made nextMade
+unfolding made
 returns c =
-    λ n buffer q. rw (
+    λ buffer. rw (
       c .before .before .before .before .before .before .store-row .ensures,
       c .before .before .before .before .before .before .before .before .before .before .before .before .close-entry .ensures .0,
       c .before .before .before .before .before .before .before .before .before .before .before .before .close-entry .ensures .1,
       c .before .before .enter .ensures,
       c .before .before .before .before .before .before .before .before .before .before .before .before .before .before .before .before .next-row .ensures,
       c .before .before .before .before .before .before .before .before .before .before .before .before .before .before .before .before .before .copy-row .ensures,
-      q,
     )
 
 pub make-next-spec : {M : Type 1} → statement M

@@ -24,7 +24,7 @@ same-length-3 c = search needs
 
 returns : tie.Need-returns
 unfolding moved
-returns c = λ n buffer. rw (c .before .before .before .before .before .before .before .before .close-entry .ensures .0, c .before .before .before .before .before .before .before .before .close-entry .ensures .1, c .before .before .enter .ensures, c .before .before .before .before .before .before .before .before .before .before .before .before .copy-row .ensures)
+returns c = λ buffer. rw (c .before .before .before .before .before .before .before .before .close-entry .ensures .0, c .before .before .before .before .before .before .before .before .close-entry .ensures .1, c .before .before .enter .ensures, c .before .before .before .before .before .before .before .before .before .before .before .before .copy-row .ensures)
 
 pub move-to-spec : {M : Type 1} → statement M
 move-to-spec =

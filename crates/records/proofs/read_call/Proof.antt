@@ -80,7 +80,7 @@ returns-2 c =
     λ argument call. let s = c .before .before .before .before .before .before .before .before .before .before .before .before .before .before .before .before .before .before .before .before .before .before .before .before .before .before .before .before in let a = s .args in let t = c .before .before .before .before .before .before .before .before .before .before .before .before .before .before .before .before .before .before .before .before .before .target-of in let left = c .before .before .before .before .before .before .before .before .before .follow-read .last in
     read-carried eightInch argument (a .number) (lend (a .image .now) (a .map .now) (a .fcb .now) (a .buffer .now)) (a .session) (c .done .result) (s .pre .6) call (c .before .before .before .before .before .before .before .before .before .before .before .before .before .before .before .plan .given .0 .0)
     (lend (left .0) (left .1 .0) (left .1 .1 .0) (left .1 .1 .1 .0)) (follows (c .before .before .before .before .before .before .before .before .before .before .before .before .before .before)) (c .done .ensures)
-    (c .before .before .before .before .before .before .before .before .before .follow-read .ensures (a .number) (t .ensures .extent) ∙ rw (t .ensures .at, t .ensures .after))
+    (c .before .before .before .before .before .before .before .before .before .follow-read .ensures ∙ rw (t .ensures .extent, t .ensures .at, t .ensures .after))
 
 pub read-call-spec : {M : Type 1} → statement M
 read-call-spec =
