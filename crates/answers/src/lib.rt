@@ -8,7 +8,7 @@ use model::Code;
 use model::Session;
 
 // The session with its search ended: off, at place 0; the pattern stays.
-pub fn end_search(s: Session) -> Session
+fn end_search(s: Session) -> Session
     ensures { λ r. ⌜ r ≡ ended s ⌝ }
 {
     let mut t = s;

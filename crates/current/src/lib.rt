@@ -1,23 +1,15 @@
 // When an FCB is current: its fields are in range, it has an entry, and each of its slots is the entry's or pending for it.
 ghost use mathlib.Core.Path.{_≡_};
-ghost use Prim.Native.Nat.{_≤_, _<_};
+ghost use Prim.Native.Nat.{_≤_};
 ghost use lib.ListN.{length};
 ghost use Rattle.format.specs.Diskette.{eightInch, imageBytes};
 ghost use Rattle.format.specs.Entries.{entryAt};
-ghost use Rattle.format.specs.Fcb.{fcbBytes, randomOf, fcbRight, current};
+ghost use Rattle.format.specs.Fcb.{fcbBytes, fcbRight, current};
 ghost use Rattle.chains.specs.Chain.{Indexed};
 use format::Found;
 
-// The random record number of an FCB, as its three bytes give it: in range or not.
-pub fn random_of(fcb: &[u8]) -> usize
-    requires { ⌜ length (now fcb) ≡ fcbBytes ⌝ }
-    ensures { λ r. ⌜ (r ≡ randomOf (now (fcb .entry))) × (r < 16777216) ⌝ }
-{
-    lists::wide(fcb[33]) + 256 * lists::wide(fcb[34]) + 65536 * lists::wide(fcb[35])
-}
-
 // Whether an FCB's name, numbers and cr are in range.
-pub fn fcb_right(fcb: &[u8]) -> bool
+fn fcb_right(fcb: &[u8]) -> bool
     requires { ⌜ length (now fcb) ≡ fcbBytes ⌝ }
     ensures { λ r. ⌜ r ≡ fcbRight (now (fcb .entry)) ⌝ }
 {

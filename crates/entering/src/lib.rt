@@ -15,7 +15,7 @@ pub fn copy_fields(fcb: &mut [u8], row: [u8; 32])
 }
 
 // The row with the high bits of bytes 5 to 8 cleared: the interface attributes are the caller's, not the file's.
-pub fn clear_interface(row: [u8; 32]) -> [u8; 32]
+fn clear_interface(row: [u8; 32]) -> [u8; 32]
     ensures { λ r. ⌜ r ≡ interfaceCleared row ⌝ }
 {
     let mut r = row;

@@ -28,7 +28,7 @@ pub fn extent(r: &[u8]) -> usize
 }
 
 // Whether a row covers an extent.
-pub fn covers_extent(r: &[u8], ext: usize) -> bool
+fn covers_extent(r: &[u8], ext: usize) -> bool
     requires { ⌜ entryBytes ≤ length (now r) ⌝ }
     ensures { λ b. ⌜ b ≡ covers eightInch (now (r .entry)) ext ⌝ }
 {

@@ -1,5 +1,5 @@
 -- Document 01's checked examples, as one table: each says what the definitions give at the example's input.
-use mathlib.Core.Path.{_≡_}
+use mathlib.Core.Path.{_≡_, refl}
 use mathlib.Core.Logic.{inl, inr}
 use mathlib.Core.Bool.{true, false}
 use mathlib.Core.List.{[], _∷_}
@@ -17,6 +17,7 @@ use Rattle.model.specs.declared.Session.{Session}
 use Rattle.model.specs.Lent.{Lent}
 use Rattle.model.specs.Search.{patternOf, extentHit, hit}
 use Rattle.model.specs.Table.{oneOf, randomCalls}
+use Rattle.model.specs.Entering.{threeBytes}
 use Rattle.table.specs.Facts.{Ready}
 use Rattle.fields.specs.Erased.{ErasedDisk}
 use Rattle.examples.specs.Places.{place-a, place-b, place-c, place-d}
@@ -40,7 +41,8 @@ pub record Examples : Type 0 where
   pub b : offsetOf eightInch (diskRecord eightInch 0 1) ≡ 7424
   pub c : offsetOf eightInch (diskRecord eightInch 3 2) ≡ 9984
   pub d : offsetOf eightInch (diskRecord eightInch 242 7) ≡ 254336
-  -- an empty disk, logged in: space bytes 88H 07H 00H
+  -- an empty disk, logged in: space bytes 88H 07H 00H, which is 1,928
+  pub e-number : threeBytes 1928 ≡ 136 ∷ 7 ∷ 0 ∷ []
   pub e : (img : Bytes) → ErasedDisk eightInch img → (map fcb buffer : Bytes) (s : Session) → Fitting eightInch map fcb buffer s → (x y : ℕ)
       → SpaceIs eightInch img (136 ∷ 7 ∷ 0 ∷ []) map fcb buffer s x y
   -- R = 262,143 is extent 2,047, record 127; 262,144 gives 6
@@ -52,7 +54,7 @@ pub record Examples : Type 0 where
       → Gives eightInch 35 argument l s (0 ∷ 0 ∷ 4 ∷ [])
   -- 36 at extent 1, cr 128: 256
   pub h : (argument : ℕ) (l : Lent) (s : Session) → Ready eightInch 36 l s → extentOf (l .fcb) ≡ 1 → crOf (l .fcb) ≡ 128
-      → Gives eightInch 36 argument l s (0 ∷ 1 ∷ 0 ∷ [])
+      → Gives eightInch 36 argument l s (threeBytes 256)
   -- eleven 3FH match any name: in the name test, and in the pattern that 17 takes from an FCB, where byte 12 alone decides
   pub i-name : (s : Bytes) (q : ℕ) → AllAny s q → (user : ℕ) (row : Bytes) → userOf row ≡ user → named true user s q row ≡ true
   pub i-pattern : (fcb : Bytes) → length fcb ≡ fcbBytes → AllAny fcb 1 → (user : ℕ) (row : Bytes) → userOf row ≡ user
@@ -71,6 +73,7 @@ examples = record {
   b = place-b;
   c = place-c;
   d = place-d;
+  e-number = refl;
   e = erased-space;
   f-last = random-last eightInch;
   f-over = random-six eightInch;

@@ -35,25 +35,28 @@ random-is fcb r0 r1 r2 r = rw (r .low, r .middle, r .high)
 
 -- a call that the rows before its random record pass is refused with 6 and changes nothing
 pub record Six (G : Geometry) (n argument : ℕ) (l : Lent) (s : Session) : Type 0 where
+  pub is-number : randomOf (l .fcb) ≡ 262144
   pub refuses : step G (ask n argument) l s ≡ refused BadRecord s l
   pub is-a : step G (ask n argument) l s .answer .a ≡ 6
   pub is-h : step G (ask n argument) l s .answer .h ≡ 0
 
-six : (G : Geometry) (n argument : ℕ) (l : Lent) (s : Session) → step G (ask n argument) l s ≡ refused BadRecord s l → Six G n argument l s
+six : (G : Geometry) (n argument : ℕ) (l : Lent) (s : Session) → randomOf (l .fcb) ≡ 262144 → step G (ask n argument) l s ≡ refused BadRecord s l
+    → Six G n argument l s
 unfolding aOf hOf
-six G n argument l s q = record { refuses = q; is-a = rw q; is-h = rw q }
+six G n argument l s is q = record { is-number = is; refuses = q; is-a = rw q; is-h = rw q }
 
 pub random-six : (G : Geometry) (n argument : ℕ) (l : Lent) (s : Session) → oneOf n randomCalls ≡ true → Ready G n l s
     → RandomIs (l .fcb) 0 0 4 → Six G n argument l s
 random-six G n argument l s which ready r =
     let over = lt-ltb lastRecord (randomOf (l .fcb)) (omega (arith, random-is (l .fcb) 0 0 4 r)) in
-    six G n argument l s
+    six G n argument l s (random-is (l .fcb) 0 0 4 r)
     (at-one (λ (m : ℕ). Ready G m l s → step G (ask m argument) l s ≡ refused BadRecord s l) n randomCalls which
     ((λ p. step-refused G (ask 33 argument) l s call33 BadRecord p (here over refl))
     & (λ p. step-refused G (ask 34 argument) l s call34 BadRecord p (here over refl)) & tt) ready)
 
 -- 262,143 is the last that is taken: record 127 of extent 2,047
 pub record Last (G : Geometry) (n argument : ℕ) (l : Lent) (s : Session) : Type 0 where
+  pub is-number : randomOf (l .fcb) ≡ 262143
   pub extent : targetExtent n (l .fcb) ≡ 2047
   pub is-record : targetRecord n (l .fcb) ≡ 127
   pub not-six : verdict G n argument l s ≡ Refused BadRecord → ⊥
@@ -65,6 +68,7 @@ random-last G n argument l s which r =
     let is : randomOf (l .fcb) ≡ lastRecord = random-is (l .fcb) 255 255 3 r in
     let random = at-one (λ (m : ℕ). isRandom m ≡ true) n randomCalls which (refl & refl & tt) in
     record {
+      is-number = is;
       extent = extent-random n (l .fcb) random ∙ rw is;
       is-record = record-random n (l .fcb) random ∙ rw is;
       not-six = λ q. omega (arith, random-over G argument l s n q);

@@ -9,7 +9,8 @@ use Rattle.lists.specs.Cases.{split, eq-or-ne, clash}
 use Rattle.lists.specs.Tests.{_or_}
 use Rattle.lists.specs.Splice.{splice}
 use Rattle.format.specs.Diskette.{Bytes, imageBytes, eightInch}
-use Rattle.format.specs.Entries.{entryAt}
+use Rattle.format.specs.Entries.{extentOf, entryAt}
+use Rattle.format.specs.Fcb.{randomOf}
 use Rattle.format.specs.Consistent.{consistent}
 use Rattle.format.specs.Notes.{freshMap, freeCount}
 use Rattle.disk.specs.Eight.{eight-sound}
@@ -17,7 +18,8 @@ use Rattle.model.specs.declared.Asked.{Asked}
 use Rattle.model.specs.declared.Session.{Session}
 use Rattle.model.specs.declared.Code.{Code}
 use Rattle.model.specs.declared.Code.the-variants.{Accepted, NotListed, BadParameter, BadDisk, BadRecord, NotCurrent, Failed, BadName, SearchOver, ReadOnly, Exists, NotClosed, NoExtent, NoRecord, NoEntry, DiskFull}
-use Rattle.model.specs.Codes.{aOf}
+use Rattle.model.specs.Codes.{aOf, hOf}
+use Rattle.model.specs.Target.{targetExtent, targetRecord}
 use Rattle.model.specs.Lent.{Lent, lend, Outcome, ends, ended}
 use Rattle.model.specs.Table.{oneOf, usesFcb, isCall}
 use Rattle.model.specs.Calls.{done}
@@ -39,6 +41,19 @@ pub record Falls (b : Build) : Type 0 where
   pub lent : Lent
   pub session : Session
   pub differs : b place asked lent session ≡ step eightInch asked lent session → ⊥
+
+-- one that takes a write, by its answer, and does not give it back: call 33 comes next, for the same record, through the FCB handed back
+pub record Forgets (b : Build) : Type 0 where
+  pub place : ℕ
+  pub lent : Lent
+  pub session : Session
+  pub empty : Bytes
+  pub taken-a : b place (ask 21 0) lent session .answer .a ≡ 0
+  pub taken-h : b place (ask 21 0) lent session .answer .h ≡ 0
+  pub same-extent : targetExtent 33 (b place (ask 21 0) lent session .lent .fcb) ≡ targetExtent 21 (lent .fcb)
+  pub same-record : targetRecord 33 (b place (ask 21 0) lent session .lent .fcb) ≡ targetRecord 21 (lent .fcb)
+  pub lost : b (suc place) (ask 33 0) (lend (b place (ask 21 0) lent session .lent .image) (b place (ask 21 0) lent session .lent .map)
+      (b place (ask 21 0) lent session .lent .fcb) empty) (b place (ask 21 0) lent session .answer .session) .lent .buffer ≡ lent .buffer → ⊥
 
 -- ---- what the builds are run on: user 0 with no search, an empty buffer, an FCB of file A, and any map
 abbrev start : Session
@@ -211,6 +226,21 @@ module _ (img : Bytes) (erased : ErasedDisk eightInch img) where
   pub first-only-falls : Falls firstOnly
   first-only-falls = record { place = 1; asked = ask 46 0; lent = after img; session = ended start; differs = kept-falls _ refl }
 
+  -- what was written is not what is read: the buffer comes back as it was lent
+  pub first-only-forgets : Forgets firstOnly
+  unfolding aOf hOf fileFcb targetExtent targetRecord _or_ extentOf randomOf
+  first-only-forgets = record {
+    place = 1;
+    lent = lend img notes fileFcb (replicate 128 1);
+    session = ended start;
+    empty = blank;
+    taken-a = refl;
+    taken-h = refl;
+    same-extent = refl;
+    same-record = refl;
+    lost = λ q. let z : _≡_ {A = ℕ} 0 1 = ap (λ (x : Bytes). getD x 0 0) q in omega arith;
+  }
+
   -- an answer that does not go by the disk is wrong on one of two disks
   one-of-two : (b : Build) (asked : Asked) (l m : Lent) (s : Session) (byte : Outcome → ℕ)
       → byte (b 1 asked l s) ≡ byte (b 1 asked m s) → (byte (step eightInch asked l s) ≡ byte (step eightInch asked m s) → ⊥) → Falls b
@@ -239,6 +269,7 @@ pub record Useless : Type 0 where
   -- its first call, a log-in, is right, and leaves what its second is asked on
   pub first-only-runs : (img : Bytes) → ErasedDisk eightInch img → firstOnly 0 (ask 13 0) (lend img notes fileFcb blank) start ≡ done 0 start (after img)
   pub first-only : Falls firstOnly
+  pub first-only-write : Forgets firstOnly
   pub made-up-space : (b : Build) → MakesUpSpace b → Falls b
   pub made-up-sizes : (b : Build) → MakesUpSizes b → Falls b
 
@@ -252,6 +283,7 @@ useless size is =
       nothing = nothing-falls img erased;
       first-only-runs = λ i e. logged-is i (e .long) (erased-consistent eightInch i e);
       first-only = first-only-falls img erased;
+      first-only-write = first-only-forgets img erased;
       made-up-space = space-falls img erased;
       made-up-sizes = sizes-fall img erased;
     }

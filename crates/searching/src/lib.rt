@@ -33,7 +33,7 @@ fn extent_hit(x: u8, row: &[u8]) -> bool
 }
 
 // Whether a row is the user's and matches a pattern. The name is compared last: it takes longest.
-pub fn hit(user: u8, pattern: &[u8], row: &[u8]) -> bool
+fn hit(user: u8, pattern: &[u8], row: &[u8]) -> bool
     requires { ⌜ (patternBytes ≤ length (now pattern)) × (entryBytes ≤ length (now row)) ⌝ }
     ensures { λ r. ⌜ r ≡ hit user (now (pattern .entry)) (now (row .entry)) ⌝ }
 {
@@ -47,7 +47,7 @@ pub fn hit(user: u8, pattern: &[u8], row: &[u8]) -> bool
 }
 
 // The first entry from a place on that a pattern hits.
-pub fn find_hit(image: &[u8], user: u8, pattern: &[u8], from: usize) -> Found
+fn find_hit(image: &[u8], user: u8, pattern: &[u8], from: usize) -> Found
     requires { ⌜ (length (now image) ≡ imageBytes eightInch) × (patternBytes ≤ length (now pattern)) ⌝ }
     ensures { λ r. ⌜ r ≡ findHit eightInch (entryAt eightInch (now (image .entry))) user (now (pattern .entry)) from ⌝ }
 {

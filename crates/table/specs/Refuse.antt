@@ -1,21 +1,18 @@
 -- What a refusal says: which row it came from, and which codes a call can be refused with at all.
 use mathlib.Core.Path.{_≡_, refl, sym, ap, subst, _∙_}
-use mathlib.Core.Logic.{_⊎_}
 use mathlib.Core.Bool.{Bool, true, false, not}
 use mathlib.Core.List.{List, [], _∷_, _++_}
-use Prim.Native.Nat.{ℕ, _≤_, _<_}
+use Prim.Native.Nat.{ℕ, _<_}
 use lib.Dec.{eqb, ltb}
 use borrow.Author.Tests.{ltb-true, eqb-false, not-true, not-false}
 use Rattle.lists.specs.Cases.{split, bool-cases, clash, not-both}
 use Rattle.lists.specs.Tests.{_and_, _or_, and-left, and-right}
 use Rattle.format.specs.Diskette.{Geometry, lastRecord}
-use Rattle.format.specs.Names.{nameRight}
-use Rattle.format.specs.Entries.{exOf}
 use Rattle.format.specs.Consistent.{consistent}
 use Rattle.format.specs.Notes.{mapRight}
 use Rattle.format.specs.Fcb.{randomOf}
 use Rattle.format.specs.Found.{isFound}
-use Rattle.facts.specs.Found.{not-found, missed-row}
+use Rattle.facts.specs.Found.{not-found}
 use Rattle.format.specs.declared.Found.{Found}
 use Rattle.format.specs.declared.Found.the-variants.{Nothing}
 use Rattle.model.specs.declared.Session.{Session}
@@ -28,7 +25,7 @@ use Rattle.model.specs.Table.{oneOf, recordCalls, writeCalls, randomCalls, isCa
 use Rattle.table.specs.First.{_&_, NoneHolds, Decides, here, later, refused-same, refused-decides, decides-refused}
 use Rattle.table.specs.Own.{Call, call13, call15, call16, call17, call18, call19, call20, call21, call22, call23, call32, call33, call34, call35, call36, call46, call98, at-one, call-of, ownRows, rowsFor, verdict-rows, verdict-unlisted}
 use Rattle.table.specs.Facts.{Ready}
-use Rattle.table.specs.Reflect.{pattern-right, parameters-right, disk-right, ready-of}
+use Rattle.table.specs.Reflect.{parameters-right, disk-right, ready-of}
 
 -- ---- codes of a list of rows
 -- the test passes at every row's code
@@ -240,12 +237,3 @@ module _ (G : Geometry) (argument : ℕ) (l : Lent) (s : Session) where
       verdict-rows G argument l s c
       ∙ decides-refused code (rowsFor G argument l s c)
       (later (ap not (parameters-right G n l s (r .fits) (r .drive))) (later (ap not (disk-right G n l s (r .image-right) (r .map-right))) d))
-
-  pub over-first : Ready G 17 l s → nameRight true (l .fcb) 1 ≡ true → (exOf (l .fcb) ≤ 31) ⊎ (exOf (l .fcb) ≡ 63)
-      → findHit G (rowsOf G l) (s .user) (patternOf (l .fcb)) 0 ≡ Nothing → verdict G 17 argument l s ≡ Refused SearchOver
-  over-first r name ex none =
-      refused-own call17 SearchOver r (later (ap not name) (later (pattern-right _ ex) (here (missed-row _ none) refl)))
-
-  pub over-next : Ready G 18 l s → searchOn s ≡ true → findHit G (rowsOf G l) (s .user) (s .pattern) (s .place) ≡ Nothing
-      → verdict G 18 argument l s ≡ Refused SearchOver
-  over-next r on none = refused-own call18 SearchOver r (later (ap not on) (here (missed-row _ none) refl))

@@ -1,14 +1,17 @@
 -- Demand 1: every call either is refused, by the first row of the table that holds, with nothing changed, or is carried out.
 use mathlib.Core.Path.{_≡_, refl, sym, ap, subst, _∙_}
 use mathlib.Core.Logic.{_⊎_, inl, inr}
-use mathlib.Core.Bool.{true, false, cond}
+use mathlib.Core.Bool.{true, false, not, cond}
 use Prim.Native.Nat.{ℕ, _≤_, _<_}
 use native.Mathlib.Omega.{arith}
 use lib.Dec.{eqb}
 use borrow.Author.Tests.{eq-eqb, ne-eqb}
 use Rattle.lists.specs.Cases.{split}
 use Rattle.format.specs.Diskette.{Bytes, Geometry, eightInch}
-use Rattle.facts.specs.Found.{first-says}
+use Rattle.format.specs.Names.{nameRight}
+use Rattle.format.specs.Entries.{exOf}
+use Rattle.format.specs.declared.Found.the-variants.{Nothing}
+use Rattle.facts.specs.Found.{first-says, missed-row}
 use Rattle.model.specs.declared.Asked.{Asked}
 use Rattle.model.specs.declared.Session.{Session}
 use Rattle.model.specs.declared.Code.{Code}
@@ -16,13 +19,14 @@ use Rattle.model.specs.declared.Code.the-variants.{Accepted, NotListed, BadPara
 use Rattle.model.specs.declared.Verdict.{Verdict}
 use Rattle.model.specs.declared.Verdict.the-variants.{Passed, Refused}
 use Rattle.model.specs.Codes.{aOf, hOf}
-use Rattle.model.specs.Lent.{Lent, Outcome, rowsOf, ended, withUser}
-use Rattle.model.specs.Search.{findHit}
+use Rattle.model.specs.Lent.{Lent, Outcome, rowsOf, ended, withUser, searchOn}
+use Rattle.model.specs.Search.{patternOf, findHit}
 use Rattle.model.specs.Table.{table, verdict}
 use Rattle.model.specs.Step.{refusedSession, refused, effect, step}
-use Rattle.table.specs.First.{NoneHolds, Decides, passed-none, refused-decides}
+use Rattle.table.specs.First.{NoneHolds, Decides, here, later, passed-none, refused-decides}
 use Rattle.table.specs.Own.{Call, call13, call15, call16, call17, call18, call19, call20, call21, call22, call23, call32, call33, call34, call35, call36, call46, call98, ownRows}
 use Rattle.table.specs.Facts.{Own, Ready, AcceptedCall}
+use Rattle.table.specs.Reflect.{pattern-right}
 use Rattle.table.specs.Accept.{accepted, passes}
 use Rattle.table.specs.Refuse.{SearchEnds, search-over, Refuses, refuses, refused-own}
 use Rattle.table.specs.Carried.{carriedBy, GoesOn, Leaves, Done, effect-is, carried-done}
@@ -137,6 +141,20 @@ module _ (G : Geometry) (asked : Asked) (l : Lent) (s : Session) where
   -- exact: any two outcomes that meet the contract are equal
   pub exact : (o p : Outcome) → o ≡ step G asked l s → p ≡ step G asked l s → o ≡ p
   exact o p a b = a ∙ sym b
+
+-- ---- a search that finds no entry, or no more, is over
+module _ (G : Geometry) (argument : ℕ) (l : Lent) (s : Session) where
+  pub over-first : Ready G 17 l s → nameRight true (l .fcb) 1 ≡ true → (exOf (l .fcb) ≤ 31) ⊎ (exOf (l .fcb) ≡ 63)
+      → findHit G (rowsOf G l) (s .user) (patternOf (l .fcb)) 0 ≡ Nothing → step G (ask 17 argument) l s .answer .session ≡ ended s
+  over-first r name ex none =
+      ap (λ (o : Outcome). o .answer .session)
+      (step-refused G (ask 17 argument) l s call17 SearchOver r (later (ap not name) (later (pattern-right _ ex) (here (missed-row _ none) refl))))
+
+  pub over-next : Ready G 18 l s → searchOn s ≡ true → findHit G (rowsOf G l) (s .user) (s .pattern) (s .place) ≡ Nothing
+      → step G (ask 18 argument) l s .answer .session ≡ ended s
+  over-next r on none =
+      ap (λ (o : Outcome). o .answer .session)
+      (step-refused G (ask 18 argument) l s call18 SearchOver r (later (ap not on) (here (missed-row _ none) refl)))
 
 -- ---- the session stays in range: its user at most 15, its place at most the number of entries
 pub record InRange (G : Geometry) (s : Session) : Type 0 where

@@ -4,7 +4,7 @@ ghost use Prim.Native.Nat.{_≤_, _<_, max};
 ghost use lib.ListN.{length};
 ghost use Rattle.format.specs.Diskette.{eightInch, imageBytes, slotCount};
 ghost use Rattle.format.specs.Entries.{entryAt, extentOf, findFile};
-ghost use Rattle.format.specs.Fcb.{fcbBytes};
+ghost use Rattle.format.specs.Fcb.{fcbBytes, randomOf};
 ghost use Rattle.model.specs.Target.{isRandom};
 ghost use Rattle.chains.specs.Chain.{Indexed};
 ghost use Rattle.targets.specs.Target.{TargetOf, overLast, missingCode, arrivedSlot, arrivedCount, goTo};
@@ -20,7 +20,7 @@ pub struct Target {
 }
 
 // 33 and 34 go by the random record, 20 and 21 by cr.
-pub fn is_random(number: u8) -> bool
+fn is_random(number: u8) -> bool
     ensures { λ r. ⌜ r ≡ isRandom number ⌝ }
 {
     if number == 33 {
@@ -29,13 +29,21 @@ pub fn is_random(number: u8) -> bool
     number == 34
 }
 
+// The random record number of an FCB, as its three bytes give it: in range or not.
+fn random_of(fcb: &[u8]) -> usize
+    requires { ⌜ length (now fcb) ≡ fcbBytes ⌝ }
+    ensures { λ r. ⌜ (r ≡ randomOf (now (fcb .entry))) × (r < 16777216) ⌝ }
+{
+    lists::wide(fcb[33]) + 256 * lists::wide(fcb[34]) + 65536 * lists::wide(fcb[35])
+}
+
 // The target of a record call.
 pub fn target_of(number: u8, fcb: &[u8]) -> Target
     requires { ⌜ length (now fcb) ≡ fcbBytes ⌝ }
     ensures { λ r. ⌜ TargetOf number (now (fcb .entry)) r ⌝ }
 {
     if is_random(number) {
-        let r = current::random_of(fcb);
+        let r = random_of(fcb);
         return Target {
             extent: r / format::EXTENT_RECORDS,
             at: r % format::EXTENT_RECORDS,

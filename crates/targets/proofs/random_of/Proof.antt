@@ -1,9 +1,9 @@
--- `current::random_of` meets its contract: three bytes, each below 256.
+-- `targets::random_of` meets its contract: three bytes, each below 256.
 use native.Mathlib.Omega.{arith}
 use borrow.Author.Needs.{needs}
 use Rattle.format.specs.Fcb.{randomOf}
-use Rattle.current.proofs.random_of.Statement.{statement}
-use Rattle.current.proofs.random_of.Tie as tie
+use Rattle.targets.proofs.random_of.Statement.{statement}
+use Rattle.targets.proofs.random_of.Tie as tie
 
 shared-slice-read-wide : tie.Need-shared-slice-read-wide
 shared-slice-read-wide c = search needs
