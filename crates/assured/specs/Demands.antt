@@ -1,7 +1,7 @@
 -- What calls that meet the contract of `call` come to, as the demands speak of them.
 use mathlib.Core.Path.{_≡_, refl, ap, sym, subst, _∙_}
 use mathlib.Core.Bool.{Bool, true, false}
-use mathlib.Core.List.{List, [], _∷_}
+use mathlib.Core.List.{List}
 use Prim.Native.Nat.{ℕ, _+_, _*_, _<_}
 use lib.ListN.{length}
 use Rattle.lists.specs.Cases.{split}
@@ -16,7 +16,7 @@ use Rattle.model.specs.Lent.{Lent, lend, Outcome, outcome}
 use Rattle.model.specs.Naming.{names}
 use Rattle.model.specs.Entering.{threeBytes}
 use Rattle.model.specs.Target.{targetExtent, targetRecord}
-use Rattle.model.specs.Table.{oneOf}
+use Rattle.model.specs.Table.{oneOf, writeCalls}
 use Rattle.model.specs.Step.{refused, effect, step}
 use Rattle.table.specs.Total.{ask, RefusedBy, CarriedOut, eight-total}
 use Rattle.effects.specs.Where.{Frame}
@@ -113,7 +113,7 @@ pub data ReadsBack (d : Disk) (w : Request) (qs : List Request) (empty : Bytes) 
       → outcome (r .answer) image map fcb back ≡ readAfter d w qs empty
       → (LeftAlone d w qs → Gives (outcome (r .answer) image map fcb back) (w .buffer)) → ReadsBack d w qs empty r image map fcb written back
 
-module _ (d : Disk) (w : Request) (writes : oneOf (w .asked .number) (21 ∷ 34 ∷ []) ≡ true) (accepted : accepts eightInch d w ≡ true) where
+module _ (d : Disk) (w : Request) (writes : oneOf (w .asked .number) writeCalls ≡ true) (accepted : accepts eightInch d w ≡ true) where
   pub extent-low : targetExtent (w .asked .number) (w .fcb) < extents
   extent-low = wrote eight-sound d w writes accepted .extent
 

@@ -1,13 +1,12 @@
 // The demands once more, of `call` itself: functions above it that go by its contract alone.
 ghost use mathlib.Core.Path.{_≡_};
 ghost use mathlib.Core.Bool.{true};
-ghost use mathlib.Core.List.{[], _∷_};
 ghost use Prim.Native.Nat.{_+_, _*_, _≤_, _<_};
 ghost use lib.ListN.{length};
 ghost use Rattle.format.specs.Diskette.{eightInch, recordBytes, extents, extentRecords};
 ghost use Rattle.format.specs.Fcb.{fcbBytes};
 ghost use Rattle.model.specs.Lent.{lend, outcome};
-ghost use Rattle.model.specs.Table.{oneOf};
+ghost use Rattle.model.specs.Table.{oneOf, recordCalls, writeCalls};
 ghost use Rattle.model.specs.Step.{step};
 ghost use Rattle.table.specs.Total.{ask};
 ghost use Rattle.effects.specs.Book.{acceptedAnswer};
@@ -54,7 +53,7 @@ pub fn one_call(
 
 // Whether a call moves a record: 20, 21, 33 and 34.
 fn moves_record(number: u8) -> bool
-    ensures { λ r. ⌜ r ≡ oneOf number (20 ∷ 21 ∷ 33 ∷ 34 ∷ []) ⌝ }
+    ensures { λ r. ⌜ r ≡ oneOf number recordCalls ⌝ }
 {
     if number == 20 {
         return true;
@@ -195,7 +194,7 @@ pub fn write_and_read(
     back: &mut [u8],
     session: Session,
 ) -> ReadBack
-    requires { ⌜ (oneOf (asked .number) (21 ∷ 34 ∷ []) ≡ true) × (callBytes * n ≤ length (now script))
+    requires { ⌜ (oneOf (asked .number) writeCalls ≡ true) × (callBytes * n ≤ length (now script))
         × (length (now fcb) ≡ fcbBytes) × (length (now back) ≡ recordBytes) ⌝ }
     ensures { λ r. ⌜ ReadsBack (diskOf (now (image .entry)) (now (map .entry)) session)
         (request asked (now (fcb .entry)) (now (written .entry))) (requests (now (script .entry)) n) (now (back .entry))
