@@ -31,8 +31,15 @@ pub fn current_entry(image: &[u8], map: &[u16], chain: &[u8], user: u8, fcb: &[u
     let Found::At(e) = chains::find_file(image, chain, user, fcb, 1, entries::extent(fcb)) else {
         return Found::Nothing;
     };
-    let row = rows::row(image, e);
-    if !slots::slots_fit(map, e, entries::slots(row), entries::slots(fcb)) {
+    let mut es = [0u8; 16];
+    entries::copy_slots(rows::row(image, e), &mut es);
+    let mut fs = [0u8; 16];
+    entries::copy_slots(fcb, &mut fs);
+    // as a rule they are simply the entry's own
+    if slots::same(&es, &fs) {
+        return Found::At(e);
+    }
+    if !slots::slots_fit(map, e, es, fs) {
         return Found::Nothing;
     }
     Found::At(e)

@@ -9,13 +9,21 @@ ghost use Rattle.format.specs.Entries.{entryAt, slotsOf, extentOf, covers, coun
 use format::ENTRIES;
 use format::Found;
 
+// The sixteen slots of a row or an FCB, into s. Where they are only compared, a compiler copies them so as one vector.
+pub fn copy_slots(r: &[u8], s: &mut [u8])
+    requires { ⌜ (entryBytes ≤ length (now r)) × (length (now s) ≡ slotCount) ⌝ }
+    ensures { λ _. ⌜ now (s .exit) ≡ slotsOf (now (r .entry)) ⌝ }
+{
+    lists::get(r, 16, s);
+}
+
 // The sixteen slots of a row or an FCB.
 pub fn slots(r: &[u8]) -> [u8; 16]
     requires { ⌜ entryBytes ≤ length (now r) ⌝ }
     ensures { λ s. ⌜ s ≡ slotsOf (now (r .entry)) ⌝ }
 {
     let mut s = [0u8; 16];
-    lists::get(r, 16, &mut s);
+    copy_slots(r, &mut s);
     s
 }
 

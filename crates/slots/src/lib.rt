@@ -22,7 +22,7 @@ fn slot_fits(map: &[u16], e: usize, es: [u8; 16], fs: [u8; 16], j: usize) -> boo
 
 // Whether sixteen slots are the same in both: the bits in which they differ are or-ed together. Both are lent, so that a compiler takes
 // the sixteen at once.
-fn same(es: &[u8], fs: &[u8]) -> bool
+pub fn same(es: &[u8], fs: &[u8]) -> bool
     requires { ⌜ (slotCount ≤ length (now es)) × (slotCount ≤ length (now fs)) ⌝ }
     ensures { λ r. ⌜ r ≡ slotsSame (now (es .entry)) (now (fs .entry)) ⌝ }
 {
@@ -47,10 +47,6 @@ pub fn slots_fit(map: &[u16], e: usize, es: [u8; 16], fs: [u8; 16]) -> bool
     requires { ⌜ e < eightInch .entries ⌝ }
     ensures { λ r. ⌜ r ≡ slotsFit (now (map .entry)) e es fs ⌝ }
 {
-    // as a rule they are simply the entry's own
-    if slots_same(es, fs) {
-        return true;
-    }
     let mut j = 0;
     while j < format::SLOTS {
         if !slot_fits(map, e, es, fs, j) {

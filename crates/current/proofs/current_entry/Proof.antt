@@ -11,6 +11,7 @@ use Rattle.format.specs.Fcb.{fcbRight, current}
 use Rattle.format.specs.declared.Found.the-variants.{At, Nothing}
 use Rattle.facts.specs.Find.{file-says}
 use Rattle.facts.specs.Current.{current-wrong, current-missing}
+use Rattle.slots.specs.Slots.{same-slots-fit}
 use Rattle.current.specs.Current.{current-by}
 use Rattle.current.proofs.current_entry.Statement.{statement}
 use Rattle.current.proofs.current_entry.Tie as tie
@@ -64,32 +65,58 @@ low c =
 row-requires : tie.Need-row-requires
 row-requires c κs = let l = low c in search needs
 
-slots-requires : tie.Need-slots-requires
-slots-requires c κs = search needs
+slice-aggregate-copy-slots : tie.Need-slice-aggregate-copy-slots
+slice-aggregate-copy-slots c = search needs
 
-slots-requires-2 : tie.Need-slots-requires-2
-slots-requires-2 c κs = search needs
+copy-slots-requires : tie.Need-copy-slots-requires
+copy-slots-requires c κs = search needs
+
+slice-aggregate-copy-slots-2 : tie.Need-slice-aggregate-copy-slots-2
+slice-aggregate-copy-slots-2 c = search needs
+
+copy-slots-requires-2 : tie.Need-copy-slots-requires-2
+copy-slots-requires-2 c κs = search needs
+
+slice-aggregate-same : tie.Need-slice-aggregate-same
+slice-aggregate-same c = search needs
+
+slice-aggregate-same-2 : tie.Need-slice-aggregate-same-2
+slice-aggregate-same-2 c = search needs
+
+same-requires : tie.Need-same-requires
+same-requires c κs = search needs
+
+-- slots that are the entry's own fit
+returns-3 : tie.Need-returns-3
+returns-3 c =
+    let k = c .before .before .before .before .before .before .before .before .before .before .before in
+    let a = c .before .before .before .before .before .before .before .before .before .before .before .before .before .before .before .before .before .before .before .before .before .before .args in
+    let e = k .before .e .given .0 .0 in
+    let same = sym (c .before .same .ensures) ∙ c .if2 .taken in
+    current-by eightInch (entryAt eightInch (a .image .now)) (a .map .now) (a .user) (a .fcb .now) e _ _ true (known k .0) (known k .1)
+    (c .before .before .before .before .before .before .before .before .copy-slots .ensures ∙ ap slotsOf (c .before .before .before .before .before .before .before .before .before .before .row .ensures .0)) (c .before .before .before .before .before .copy-slots2 .ensures)
+    (sym (same-slots-fit (a .map .now) _ _ e same))
 
 slots-fit-requires : tie.Need-slots-fit-requires
-slots-fit-requires c κs = let l = low (c .before .before .before) in search needs
+slots-fit-requires c κs = let l = low (c .before .before .before .before .before .before .before .before .before .before .before) in search needs
 
--- the answer goes by whether the slots fit
+-- else the answer goes by whether they fit one by one
 fitted : (c : tie.After-slots-fit) →
-    let a = c .before .before .before .before .before .before .before .before .before .before .before .before .before .before .before .args in
-    cond (c .slots-fit .result) (At (c .before .before .before .before .before .e .given .0 .0)) Nothing
+    let a = c .before .before .before .before .before .before .before .before .before .before .before .before .before .before .before .before .before .before .before .before .before .before .before .args in
+    cond (c .slots-fit .result) (At (c .before .before .before .before .before .before .before .before .before .before .before .before .before .e .given .0 .0)) Nothing
     ≡ current eightInch (entryAt eightInch (a .image .now)) (a .map .now) (a .user) (a .fcb .now)
 fitted c =
-    let a = c .before .before .before .before .before .before .before .before .before .before .before .before .before .before .before .args in
-    let k = c .before .before .before .before in
+    let k = c .before .before .before .before .before .before .before .before .before .before .before .before in
+    let a = c .before .before .before .before .before .before .before .before .before .before .before .before .before .before .before .before .before .before .before .before .before .before .before .args in
     current-by eightInch (entryAt eightInch (a .image .now)) (a .map .now) (a .user) (a .fcb .now) (k .before .e .given .0 .0)
-    (c .before .before .slots .result) (c .before .slots2 .result) (c .slots-fit .result) (known k .0) (known k .1)
-    (c .before .before .slots .ensures ∙ ap slotsOf (c .before .before .before .row .ensures .0)) (c .before .slots2 .ensures) (c .slots-fit .ensures)
-
-returns-3 : tie.Need-returns-3
-returns-3 c = let t : c .before .slots-fit .result ≡ false = not-true _ (c .if2 .taken) in rw t at (fitted (c .before))
+    _ _ (c .slots-fit .result) (known k .0) (known k .1)
+    (c .before .before .before .before .before .before .before .before .before .copy-slots .ensures ∙ ap slotsOf (c .before .before .before .before .before .before .before .before .before .before .before .row .ensures .0)) (c .before .before .before .before .before .before .copy-slots2 .ensures) (c .slots-fit .ensures)
 
 returns-4 : tie.Need-returns-4
-returns-4 c = let t : c .before .slots-fit .result ≡ true = not-false _ (c .if2 .left) in rw t at (fitted (c .before))
+returns-4 c = let t : c .before .slots-fit .result ≡ false = not-true _ (c .if3 .taken) in rw t at (fitted (c .before))
+
+returns-5 : tie.Need-returns-5
+returns-5 c = let t : c .before .slots-fit .result ≡ true = not-false _ (c .if3 .left) in rw t at (fitted (c .before))
 
 pub current-entry-spec : {M : Type 1} → statement M
 current-entry-spec =
@@ -103,8 +130,14 @@ current-entry-spec =
     enum-told
     returns-2
     row-requires
-    slots-requires
-    slots-requires-2
-    slots-fit-requires
+    slice-aggregate-copy-slots
+    copy-slots-requires
+    slice-aggregate-copy-slots-2
+    copy-slots-requires-2
+    slice-aggregate-same
+    slice-aggregate-same-2
+    same-requires
     returns-3
-    returns-4)
+    slots-fit-requires
+    returns-4
+    returns-5)

@@ -1,4 +1,4 @@
--- `slots::slots_fit` meets its contract: slots that are the entry's own fit. The loop's invariant: the slots below j fit.
+-- `slots::slots_fit` meets its contract. The loop's invariant: the slots below j fit.
 use mathlib.Core.Bool.{true}
 use mathlib.Core.Path.{_≡_, sym, _∙_}
 use Prim.Native.Nat.{_-_, _≤_}
@@ -8,7 +8,6 @@ use borrow.Author.Tests.{not-true, not-false}
 use Rattle.lists.specs.Below.{allBelow, all-none, all-more, all-fails, all-done}
 use Rattle.format.specs.Diskette.{slotCount}
 use Rattle.format.specs.Fcb.{slotFits, slotsFit}
-use Rattle.slots.specs.Slots.{same-slots-fit}
 use Rattle.slots.proofs.slots_fit.Statement.{statement}
 use Rattle.slots.proofs.slots_fit.Tie as tie
 
@@ -18,23 +17,17 @@ Inv-loop map e es fs j₀ j = (allBelow (slotFits map e es fs) j ≡ true) × (j
 abbrev μ-loop : tie.MeasureT-loop
 μ-loop map e es fs j₀ j = slotCount - j
 
-slots-same-requires : tie.Need-slots-same-requires Inv-loop μ-loop
-slots-same-requires c κs = search needs
-
-returns : tie.Need-returns Inv-loop μ-loop
-returns c = let a = c .before .before .before .args in sym (same-slots-fit (a .map .now) (a .es) (a .fs) (a .e) (sym (c .before .slots-same .ensures) ∙ c .if1 .taken))
-
 loop-holds : tie.Need-loop-holds Inv-loop μ-loop
 loop-holds c = (all-none _, omega arith)
 
 slot-fits-requires : tie.Need-slot-fits-requires Inv-loop μ-loop
 slot-fits-requires c κs = search needs
 
-returns-2 : tie.Need-returns-2 Inv-loop μ-loop
+returns : tie.Need-returns Inv-loop μ-loop
 unfolding slotsFit
-returns-2 c =
+returns c =
     let l = c .before .before .before in
-    sym (all-fails _ slotCount (l .loop .j) (omega arith) (sym (c .before .slot-fits .ensures) ∙ not-true _ (c .if2 .taken)))
+    sym (all-fails _ slotCount (l .loop .j) (omega arith) (sym (c .before .slot-fits .ensures) ∙ not-true _ (c .if1 .taken)))
 
 add-j : tie.Need-add-j Inv-loop μ-loop
 add-j c = omega arith
@@ -45,11 +38,11 @@ loop-less c = omega arith
 loop-again : tie.Need-loop-again Inv-loop μ-loop
 loop-again c =
     let l = c .before .before .before in
-    (all-more _ (l .loop .j) (l .loop .inv .0) (sym (c .before .slot-fits .ensures) ∙ not-false _ (c .if2 .left)), omega arith)
+    (all-more _ (l .loop .j) (l .loop .inv .0) (sym (c .before .slot-fits .ensures) ∙ not-false _ (c .if1 .left)), omega arith)
 
-returns-3 : tie.Need-returns-3 Inv-loop μ-loop
+returns-2 : tie.Need-returns-2 Inv-loop μ-loop
 unfolding slotsFit
-returns-3 c = let l = c .before in all-done _ (l .loop .j) slotCount (omega arith) (omega arith) (l .loop .inv .0)
+returns-2 c = let l = c .before in all-done _ (l .loop .j) slotCount (omega arith) (omega arith) (l .loop .inv .0)
 
 pub slots-fit-spec : {M : Type 1} → statement M
 slots-fit-spec =
@@ -57,12 +50,10 @@ slots-fit-spec =
     (tie.spec
     Inv-loop
     μ-loop
-    slots-same-requires
-    returns
     loop-holds
     slot-fits-requires
-    returns-2
+    returns
     add-j
     loop-less
     loop-again
-    returns-3)
+    returns-2)
