@@ -2,9 +2,10 @@
 ghost use mathlib.Core.Path.{_≡_};
 ghost use Prim.Native.Nat.{_≤_};
 ghost use lib.ListN.{length};
-ghost use Rattle.format.specs.Diskette.{eightInch, imageBytes};
-ghost use Rattle.format.specs.Entries.{entryAt};
+ghost use Rattle.format.specs.Diskette.{eightInch, imageBytes, entryBytes};
+ghost use Rattle.format.specs.Entries.{entryAt, slotsOf};
 ghost use Rattle.format.specs.Fcb.{fcbBytes, fcbRight, current};
+ghost use Rattle.slots.specs.Slots.{slotsSame};
 ghost use Rattle.chains.specs.Chain.{Indexed};
 use format::Found;
 
@@ -19,6 +20,19 @@ fn fcb_right(fcb: &[u8]) -> bool
     fcb[32] <= 128
 }
 
+// Whether an FCB's slots are simply the entry's own, as they are as a rule. The arrays stay in this function: handed on by value they
+// would be taken apart, byte by byte.
+fn slots_own(row: &[u8], fcb: &[u8]) -> bool
+    requires { ⌜ (entryBytes ≤ length (now row)) × (entryBytes ≤ length (now fcb)) ⌝ }
+    ensures { λ r. ⌜ r ≡ slotsSame (slotsOf (now (row .entry))) (slotsOf (now (fcb .entry))) ⌝ }
+{
+    let mut es = [0u8; 16];
+    entries::copy_slots(row, &mut es);
+    let mut fs = [0u8; 16];
+    entries::copy_slots(fcb, &mut fs);
+    slots::same(&es, &fs)
+}
+
 // The entry of a current FCB.
 pub fn current_entry(image: &[u8], map: &[u16], chain: &[u8], user: u8, fcb: &[u8]) -> Found
     requires { ⌜ (length (now image) ≡ imageBytes eightInch) × (length (now fcb) ≡ fcbBytes) × (user ≤ 15)
@@ -31,15 +45,11 @@ pub fn current_entry(image: &[u8], map: &[u16], chain: &[u8], user: u8, fcb: &[u
     let Found::At(e) = chains::find_file(image, chain, user, fcb, 1, entries::extent(fcb)) else {
         return Found::Nothing;
     };
-    let mut es = [0u8; 16];
-    entries::copy_slots(rows::row(image, e), &mut es);
-    let mut fs = [0u8; 16];
-    entries::copy_slots(fcb, &mut fs);
-    // as a rule they are simply the entry's own
-    if slots::same(&es, &fs) {
+    let row = rows::row(image, e);
+    if slots_own(row, fcb) {
         return Found::At(e);
     }
-    if !slots::slots_fit(map, e, es, fs) {
+    if !slots::slots_fit(map, e, entries::slots(row), entries::slots(fcb)) {
         return Found::Nothing;
     }
     Found::At(e)

@@ -1,7 +1,7 @@
 -- `current::current_entry` meets its contract: each way out is one case of the definition, and the look-up answers an entry of the
 -- directory, so that its row can be taken.
 use mathlib.Core.Bool.{true, false, cond}
-use mathlib.Core.Path.{_≡_, sym, ap, _∙_}
+use mathlib.Core.Path.{_≡_, refl, sym, ap, _∙_}
 use Prim.Native.Nat.{_<_}
 use borrow.Author.Needs.{needs}
 use borrow.Author.Tests.{not-true, not-false}
@@ -65,52 +65,38 @@ low c =
 row-requires : tie.Need-row-requires
 row-requires c κs = let l = low c in search needs
 
-slice-aggregate-copy-slots : tie.Need-slice-aggregate-copy-slots
-slice-aggregate-copy-slots c = search needs
-
-copy-slots-requires : tie.Need-copy-slots-requires
-copy-slots-requires c κs = search needs
-
-slice-aggregate-copy-slots-2 : tie.Need-slice-aggregate-copy-slots-2
-slice-aggregate-copy-slots-2 c = search needs
-
-copy-slots-requires-2 : tie.Need-copy-slots-requires-2
-copy-slots-requires-2 c κs = search needs
-
-slice-aggregate-same : tie.Need-slice-aggregate-same
-slice-aggregate-same c = search needs
-
-slice-aggregate-same-2 : tie.Need-slice-aggregate-same-2
-slice-aggregate-same-2 c = search needs
-
-same-requires : tie.Need-same-requires
-same-requires c κs = search needs
+slots-own-requires : tie.Need-slots-own-requires
+slots-own-requires c κs = search needs
 
 -- slots that are the entry's own fit
 returns-3 : tie.Need-returns-3
 returns-3 c =
-    let k = c .before .before .before .before .before .before .before .before .before .before .before in
-    let a = c .before .before .before .before .before .before .before .before .before .before .before .before .before .before .before .before .before .before .before .before .before .before .args in
-    let e = k .before .e .given .0 .0 in
-    let same = sym (c .before .same .ensures) ∙ c .if2 .taken in
-    current-by eightInch (entryAt eightInch (a .image .now)) (a .map .now) (a .user) (a .fcb .now) e _ _ true (known k .0) (known k .1)
-    (c .before .before .before .before .before .before .before .before .copy-slots .ensures ∙ ap slotsOf (c .before .before .before .before .before .before .before .before .before .before .row .ensures .0)) (c .before .before .before .before .before .copy-slots2 .ensures)
-    (sym (same-slots-fit (a .map .now) _ _ e same))
+    let k = c .before .before .before in let a = k .before .before .before .before .before .before .before .before .before .before .before .args in
+    let r = c .before .before .row in let d = entryAt eightInch (a .image .now) in let e = k .before .e .given .0 .0 in
+    let same = sym (c .before .slots-own .ensures) ∙ c .if2 .taken in
+    current-by eightInch d (a .map .now) (a .user) (a .fcb .now) e _ _ true (known k .0) (known k .1)
+    (ap slotsOf (r .ensures .0)) refl (sym (same-slots-fit (a .map .now) _ _ e same))
+
+slots-requires : tie.Need-slots-requires
+slots-requires c κs = search needs
+
+slots-requires-2 : tie.Need-slots-requires-2
+slots-requires-2 c κs = search needs
 
 slots-fit-requires : tie.Need-slots-fit-requires
-slots-fit-requires c κs = let l = low (c .before .before .before .before .before .before .before .before .before .before .before) in search needs
+slots-fit-requires c κs = let l = low (c .before .before .before .before .before) in search needs
 
--- else the answer goes by whether they fit one by one
+-- and else the answer goes by whether they fit one by one
 fitted : (c : tie.After-slots-fit) →
-    let a = c .before .before .before .before .before .before .before .before .before .before .before .before .before .before .before .before .before .before .before .before .before .before .before .args in
-    cond (c .slots-fit .result) (At (c .before .before .before .before .before .before .before .before .before .before .before .before .before .e .given .0 .0)) Nothing
+    let a = c .before .before .before .before .before .before .before .before .before .before .before .before .before .before .before .before .before .args in
+    cond (c .slots-fit .result) (At (c .before .before .before .before .before .before .before .e .given .0 .0)) Nothing
     ≡ current eightInch (entryAt eightInch (a .image .now)) (a .map .now) (a .user) (a .fcb .now)
 fitted c =
-    let k = c .before .before .before .before .before .before .before .before .before .before .before .before in
-    let a = c .before .before .before .before .before .before .before .before .before .before .before .before .before .before .before .before .before .before .before .before .before .before .before .args in
+    let a = c .before .before .before .before .before .before .before .before .before .before .before .before .before .before .before .before .before .args in
+    let k = c .before .before .before .before .before .before in
     current-by eightInch (entryAt eightInch (a .image .now)) (a .map .now) (a .user) (a .fcb .now) (k .before .e .given .0 .0)
-    _ _ (c .slots-fit .result) (known k .0) (known k .1)
-    (c .before .before .before .before .before .before .before .before .before .copy-slots .ensures ∙ ap slotsOf (c .before .before .before .before .before .before .before .before .before .before .before .row .ensures .0)) (c .before .before .before .before .before .before .copy-slots2 .ensures) (c .slots-fit .ensures)
+    (c .before .before .slots .result) (c .before .slots2 .result) (c .slots-fit .result) (known k .0) (known k .1)
+    (c .before .before .slots .ensures ∙ ap slotsOf (c .before .before .before .before .before .row .ensures .0)) (c .before .slots2 .ensures) (c .slots-fit .ensures)
 
 returns-4 : tie.Need-returns-4
 returns-4 c = let t : c .before .slots-fit .result ≡ false = not-true _ (c .if3 .taken) in rw t at (fitted (c .before))
@@ -130,14 +116,10 @@ current-entry-spec =
     enum-told
     returns-2
     row-requires
-    slice-aggregate-copy-slots
-    copy-slots-requires
-    slice-aggregate-copy-slots-2
-    copy-slots-requires-2
-    slice-aggregate-same
-    slice-aggregate-same-2
-    same-requires
+    slots-own-requires
     returns-3
+    slots-requires
+    slots-requires-2
     slots-fit-requires
     returns-4
     returns-5)
