@@ -59,8 +59,9 @@ fn closed_count(row: &[u8], fcb: &[u8]) -> u8
     requires { ⌜ (entryBytes ≤ length (now row)) × (entryBytes ≤ length (now fcb)) ⌝ }
     ensures { λ r. ⌜ r ≡ closedCount eightInch (now (row .entry)) (now (fcb .entry)) ⌝ }
 {
-    if entries::count_in(row, entries::extent(fcb)) < fcb[15] {
-        return fcb[15];
+    let count = entries::count_of(fcb);
+    if entries::count_in(row, entries::extent(fcb)) < count {
+        return count;
     }
     row[15]
 }

@@ -5,7 +5,7 @@ ghost use lib.ListN.{length};
 ghost use Rattle.format.specs.Diskette.{eightInch, imageBytes, entryBytes, extentRecords, slotCount};
 ghost use Rattle.format.specs.Names.{nameBytes};
 ghost use Rattle.format.specs.Consistent.{extentRight};
-ghost use Rattle.format.specs.Entries.{entryAt, slotsOf, extentOf, covers, countIn, slotFor, readOnly, named, isFile, findNamed, findEmpty};
+ghost use Rattle.format.specs.Entries.{entryAt, slotsOf, extentOf, covers, countOf, countIn, slotFor, readOnly, named, isFile, findNamed, findEmpty};
 use format::ENTRIES;
 use format::Found;
 
@@ -43,12 +43,20 @@ fn covers_extent(r: &[u8], ext: usize) -> bool
     extent(r) == ext
 }
 
-// How many records of an extent a row or an FCB counts.
+// How many records a row or an FCB counts, in the extent that its ex and s2 give.
+pub fn count_of(r: &[u8]) -> u8
+    requires { ⌜ entryBytes ≤ length (now r) ⌝ }
+    ensures { λ n. ⌜ n ≡ countOf (now (r .entry)) ⌝ }
+{
+    r[15]
+}
+
+// How many records of an extent a row counts.
 pub fn count_in(r: &[u8], ext: usize) -> u8
     requires { ⌜ entryBytes ≤ length (now r) ⌝ }
     ensures { λ n. ⌜ n ≡ countIn eightInch (now (r .entry)) ext ⌝ }
 {
-    r[15]
+    count_of(r)
 }
 
 // The slot that holds record k of an extent.

@@ -33,15 +33,15 @@ oneOf n (c ∷ cs) = eqb n c or oneOf n cs
 abbrev pub fcbCalls : List ℕ
 fcbCalls = 15 ∷ 16 ∷ 17 ∷ 19 ∷ 20 ∷ 21 ∷ 22 ∷ 23 ∷ 33 ∷ 34 ∷ 35 ∷ 36 ∷ []
 
-abbrev pub plainCalls : List ℕ
-plainCalls = 13 ∷ 18 ∷ 32 ∷ 46 ∷ 98 ∷ []
+abbrev pub noFcbCalls : List ℕ
+noFcbCalls = 13 ∷ 18 ∷ 32 ∷ 46 ∷ 98 ∷ []
 
 unfoldable pub usesFcb : ℕ → Bool
 usesFcb n = oneOf n fcbCalls
 
 -- there is a call of this number
 unfoldable pub isCall : ℕ → Bool
-isCall n = usesFcb n or oneOf n plainCalls
+isCall n = usesFcb n or oneOf n noFcbCalls
 
 -- the record calls: all of them, those that read, those that write, and those that go by the random record
 abbrev pub recordCalls : List ℕ

@@ -19,7 +19,7 @@ use Rattle.model.specs.declared.Verdict.the-variants.{Refused}
 use Rattle.model.specs.Lent.{Lent, rowsOf, searchOn}
 use Rattle.model.specs.Target.{targetExtent, stays, presentEntry, targetEntry, blockThere, recordThere, readOnlyThere}
 use Rattle.model.specs.Search.{patternOf, findHit}
-use Rattle.model.specs.Table.{oneOf, fcbCalls, plainCalls, usesFcb, isCall, parametersRight, diskRight, anyNamed, askedEntry, anyReadOnly, positionRight, Row, when, firstRow, table, verdict}
+use Rattle.model.specs.Table.{oneOf, fcbCalls, noFcbCalls, usesFcb, isCall, parametersRight, diskRight, anyNamed, askedEntry, anyReadOnly, positionRight, Row, when, firstRow, table, verdict}
 use Rattle.table.specs.First.{_&_}
 
 -- the calls
@@ -86,9 +86,9 @@ at-call P n cs h x c =
 pub call-of : (n : ℕ) → isCall n ≡ true → Call n
 unfolding isCall usesFcb
 call-of n h =
-    split (or-cases (oneOf n fcbCalls) (oneOf n plainCalls) h)
+    split (or-cases (oneOf n fcbCalls) (oneOf n noFcbCalls) h)
     (λ e. at-one Call n fcbCalls e (call15 & call16 & call17 & call19 & call20 & call21 & call22 & call23 & call33 & call34 & call35 & call36 & tt))
-    (λ e. at-one Call n plainCalls e (call13 & call18 & call32 & call46 & call98 & tt))
+    (λ e. at-one Call n noFcbCalls e (call13 & call18 & call32 & call46 & call98 & tt))
 
 pub is-call : {n : ℕ} → Call n → isCall n ≡ true
 unfolding isCall usesFcb oneOf _or_

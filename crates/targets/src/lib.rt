@@ -134,7 +134,7 @@ pub fn arrived_count(image: &[u8], fcb: &[u8], e: usize, t: usize, extent: usize
 {
     let count = entries::count_in(rows::row(image, t), extent);
     if t == e {
-        return larger(fcb[15], count);
+        return larger(entries::count_of(fcb), count);
     }
     count
 }

@@ -11,15 +11,15 @@ row-requires c κs = search needs
 count-in-requires : tie.Need-count-in-requires
 count-in-requires c κs = search needs
 
-shared-slice-read-larger : tie.Need-shared-slice-read-larger
-shared-slice-read-larger c = search needs
+count-of-requires : tie.Need-count-of-requires
+count-of-requires c κs = search needs
 
 larger-requires : tie.Need-larger-requires
 larger-requires c κs = search needs
 
 returns : tie.Need-returns
 unfolding arrivedCount
-returns c = rw (eq-eqb _ _ (c .before .before .if1 .taken), c .larger .ensures, c .before .before .before .count-in .ensures, c .before .before .before .before .row .ensures .0)
+returns c = rw (eq-eqb _ _ (c .before .before .if1 .taken), c .larger .ensures, c .before .count-of .ensures, c .before .before .before .count-in .ensures, c .before .before .before .before .row .ensures .0)
 
 returns-2 : tie.Need-returns-2
 unfolding arrivedCount
@@ -31,7 +31,7 @@ arrived-count-spec =
     (tie.spec
     row-requires
     count-in-requires
-    shared-slice-read-larger
+    count-of-requires
     larger-requires
     returns
     returns-2)

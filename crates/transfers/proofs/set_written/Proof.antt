@@ -13,8 +13,8 @@ extent-requires c κs = search needs
 count-in-requires : tie.Need-count-in-requires
 count-in-requires c κs = search needs
 
-slice-read-larger : tie.Need-slice-read-larger
-slice-read-larger c = search needs
+count-of-requires : tie.Need-count-of-requires
+count-of-requires c κs = search needs
 
 larger-requires : tie.Need-larger-requires
 larger-requires c κs = search needs
@@ -51,7 +51,7 @@ same-length c = search needs
 
 returns : tie.Need-returns
 unfolding writtenFcb writtenCount
-returns c = rw (c .larger2 .ensures, c .before .larger .ensures, c .before .before .before .count-in .ensures, c .before .before .before .before .extent .ensures .0)
+returns c = rw (c .larger2 .ensures, c .before .larger .ensures, c .before .before .count-of .ensures, c .before .before .before .before .count-in .ensures, c .before .before .before .before .before .extent .ensures .0)
 
 pub set-written-spec : {M : Type 1} → statement M
 set-written-spec =
@@ -60,7 +60,7 @@ set-written-spec =
     slice-aggregate-count-in
     extent-requires
     count-in-requires
-    slice-read-larger
+    count-of-requires
     larger-requires
     add-larger
     cast-larger
