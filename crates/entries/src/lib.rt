@@ -111,12 +111,12 @@ pub fn is_file(user: u8, s: &[u8], q: usize, ext: usize, r: &[u8]) -> bool
     covers_extent(r, ext)
 }
 
-// The first entry from `from` on of this user whose name is asked for.
-pub fn find_named(image: &[u8], wild: bool, user: u8, s: &[u8], q: usize, from: usize) -> Found
+// The first entry of this user whose name is asked for.
+pub fn find_named(image: &[u8], wild: bool, user: u8, s: &[u8], q: usize) -> Found
     requires { ⌜ (length (now image) ≡ imageBytes eightInch) × (q + nameBytes ≤ length (now s)) ⌝ }
-    ensures { λ r. ⌜ r ≡ findNamed eightInch (entryAt eightInch (now (image .entry))) wild user (now (s .entry)) q from ⌝ }
+    ensures { λ r. ⌜ r ≡ findNamed eightInch (entryAt eightInch (now (image .entry))) wild user (now (s .entry)) q ⌝ }
 {
-    let mut e = from;
+    let mut e = 0;
     while e < ENTRIES {
         if is_named(wild, user, s, q, rows::row(image, e)) {
             return Found::At(e);

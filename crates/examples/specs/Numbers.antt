@@ -78,10 +78,10 @@ pub entry-size : (G : Geometry) (l : Lent) (s : Session) (ext count : ℕ) (h : 
 unfolding sizeOf countIn
 entry-size G l s ext count h = rw (h .extent, h .counted)
 
-pub some-entry : (G : Geometry) (l : Lent) (s : Session) (ext count : ℕ) → HasEntry G l s ext count → FoundAt (findNamed G (rowsOf G l) false (s .user) (l .fcb) 1 0)
+pub some-entry : (G : Geometry) (l : Lent) (s : Session) (ext count : ℕ) → HasEntry G l s ext count → FoundAt (findNamed G (rowsOf G l) false (s .user) (l .fcb) 1)
 unfolding findNamed
 some-entry G l s ext count h =
-    split (bool-cases (isFound (findNamed G (rowsOf G l) false (s .user) (l .fcb) 1 0))) (λ t. is-found _ t)
+    split (bool-cases (isFound (findNamed G (rowsOf G l) false (s .user) (l .fcb) 1))) (λ t. is-found _ t)
     (λ f. not-both _ (h .mine) (none-says (λ (e : ℕ). named false (s .user) (l .fcb) 1 (rowsOf G l e)) 0 (G .entries) (not-found _ f) (h .entry) (omega arith) (h .below)))
 
 -- no entry of a consistent image is larger than 262,144 records

@@ -21,11 +21,11 @@ use Rattle.table.specs.OwnStep.{ownStep, refuses-own, carries-own}
 
 -- ---- the test of a row that asks for a name, by what was looked up
 module _ (G : Geometry) (l : Lent) (wild : Bool) (user q : ℕ) where
-  pub some-named : (e : ℕ) → findNamed G (rowsOf G l) wild user (l .fcb) q 0 ≡ At e → anyNamed G l wild user q ≡ true
+  pub some-named : (e : ℕ) → findNamed G (rowsOf G l) wild user (l .fcb) q ≡ At e → anyNamed G l wild user q ≡ true
   unfolding anyNamed
   some-named e h = ap isFound h
 
-  pub none-named : findNamed G (rowsOf G l) wild user (l .fcb) q 0 ≡ Nothing → anyNamed G l wild user q ≡ false
+  pub none-named : findNamed G (rowsOf G l) wild user (l .fcb) q ≡ Nothing → anyNamed G l wild user q ≡ false
   unfolding anyNamed
   none-named h = ap isFound h
 

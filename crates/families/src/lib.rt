@@ -83,13 +83,13 @@ pub fn rename_file(image: &mut [u8], fcb: &[u8], session: Session) -> Answer
         return answers::refuse(Code::BadName, session);
     }
     let user = session.user;
-    let Found::At(_) = entries::find_named(image, false, user, fcb, 1, 0) else {
+    let Found::At(_) = entries::find_named(image, false, user, fcb, 1) else {
         return answers::refuse(Code::Failed, session);
     };
     if any_read_only(image, false, user, fcb) {
         return answers::refuse(Code::ReadOnly, session);
     }
-    let Found::Nothing = entries::find_named(image, false, user, fcb, 17, 0) else {
+    let Found::Nothing = entries::find_named(image, false, user, fcb, 17) else {
         return answers::refuse(Code::Exists, session);
     };
     rename_entries(image, user, fcb);
@@ -139,7 +139,7 @@ pub fn delete_file(image: &mut [u8], map: &mut [u16], fcb: &[u8], session: Sessi
         return answers::refuse(Code::BadName, session);
     }
     let user = session.user;
-    let Found::At(_) = entries::find_named(image, true, user, fcb, 1, 0) else {
+    let Found::At(_) = entries::find_named(image, true, user, fcb, 1) else {
         return answers::refuse(Code::Failed, session);
     };
     if any_read_only(image, true, user, fcb) {

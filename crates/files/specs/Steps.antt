@@ -65,12 +65,12 @@ module _ (G : Geometry) (l : Lent) (s : Session) (r : Answer) where
   pub size-wrong : nameRight false (l .fcb) 1 ≡ false → r ≡ answerOf BadName s → outcome r (l .image) (l .map) (l .fcb) (l .buffer) ≡ ownStep G 0 l s call35
   size-wrong h a = refuses-own G 0 l s call35 BadName r (here (ap not h) refl) a
 
-  pub size-missed : nameRight false (l .fcb) 1 ≡ true → findNamed G (rowsOf G l) false (s .user) (l .fcb) 1 0 ≡ Nothing → r ≡ answerOf Failed s
+  pub size-missed : nameRight false (l .fcb) 1 ≡ true → findNamed G (rowsOf G l) false (s .user) (l .fcb) 1 ≡ Nothing → r ≡ answerOf Failed s
       → outcome r (l .image) (l .map) (l .fcb) (l .buffer) ≡ ownStep G 0 l s call35
   unfolding anyNamed
   size-missed h q a = refuses-own G 0 l s call35 Failed r (later (ap not h) (here (missed-row _ q) refl)) a
 
-  pub size-done : (e : ℕ) (fcb : Bytes) → nameRight false (l .fcb) 1 ≡ true → findNamed G (rowsOf G l) false (s .user) (l .fcb) 1 0 ≡ At e
+  pub size-done : (e : ℕ) (fcb : Bytes) → nameRight false (l .fcb) 1 ≡ true → findNamed G (rowsOf G l) false (s .user) (l .fcb) 1 ≡ At e
       → r ≡ answerOf (Accepted 0) (ended s) → fcb ≡ splice (l .fcb) 33 (threeBytes (fileSize G (rowsOf G l) (named false (s .user) (l .fcb) 1)))
       → outcome r (l .image) (l .map) fcb (l .buffer) ≡ ownStep G 0 l s call35
   unfolding anyNamed sized

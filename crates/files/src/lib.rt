@@ -128,7 +128,7 @@ pub fn file_size(image: &[u8], fcb: &mut [u8], session: Session) -> Answer
     if !names::name_right(false, fcb, 1) {
         return answers::refuse(Code::BadName, session);
     }
-    let Found::At(_) = entries::find_named(image, false, session.user, fcb, 1, 0) else {
+    let Found::At(_) = entries::find_named(image, false, session.user, fcb, 1) else {
         return answers::refuse(Code::Failed, session);
     };
     let size = largest_size(image, session.user, fcb);

@@ -91,9 +91,9 @@ isFile G user s q ext row = named false user s q row and covers G row ext
 unfoldable pub findFile : Geometry → Rows → ℕ → Bytes → ℕ → ℕ → Found
 findFile G d user s q ext = foundBelow (G .entries) (firstIn (λ (e : ℕ). isFile G user s q ext (d e)) 0 (G .entries))
 
--- the first entry from i on of this user whose name is asked for
-unfoldable pub findNamed : Geometry → Rows → Bool → ℕ → Bytes → ℕ → ℕ → Found
-findNamed G d wild user s q i = foundBelow (G .entries) (firstIn (λ (e : ℕ). named wild user s q (d e)) i (G .entries))
+-- the first entry of this user whose name is asked for
+unfoldable pub findNamed : Geometry → Rows → Bool → ℕ → Bytes → ℕ → Found
+findNamed G d wild user s q = foundBelow (G .entries) (firstIn (λ (e : ℕ). named wild user s q (d e)) 0 (G .entries))
 
 -- the first empty entry
 unfoldable pub findEmpty : Geometry → Rows → Found

@@ -73,7 +73,7 @@ module _ (G : Geometry) (l : Lent) where
 
   -- some extent of the name in the FCB at q is there
   unfoldable pub anyNamed : Bool → ℕ → ℕ → Bool
-  anyNamed wild user q = isFound (findNamed G (rowsOf G l) wild user (l .fcb) q 0)
+  anyNamed wild user q = isFound (findNamed G (rowsOf G l) wild user (l .fcb) q)
 
   -- the entry of this name, with ex = byte 12 and s2 0: the extent of that number, since byte 12 and every ex are at most 31 here
   unfoldable pub askedEntry : ℕ → Found

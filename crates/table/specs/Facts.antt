@@ -31,7 +31,7 @@ pub record Fits (G : Geometry) (l : Lent) (s : Session) : Type 0 where
 module _ (G : Geometry) (l : Lent) (s : Session) where
   -- the files that a call names, by a pattern or not: there are some, and none of them is read-only
   pub record NamedFiles (wild : Bool) : Type 0 where
-    pub some : FoundAt (findNamed G (rowsOf G l) wild (s .user) (l .fcb) 1 0)
+    pub some : FoundAt (findNamed G (rowsOf G l) wild (s .user) (l .fcb) 1)
     pub writable : (e : ℕ) → e < G .entries → named wild (s .user) (l .fcb) 1 (rowsOf G l e) ≡ true → readOnly (rowsOf G l e) ≡ false
 
   pub record Opens : Type 0 where
@@ -69,7 +69,7 @@ module _ (G : Geometry) (l : Lent) (s : Session) where
 
   pub record Sizes : Type 0 where
     pub name : nameRight false (l .fcb) 1 ≡ true
-    pub some : FoundAt (findNamed G (rowsOf G l) false (s .user) (l .fcb) 1 0)
+    pub some : FoundAt (findNamed G (rowsOf G l) false (s .user) (l .fcb) 1)
 
   pub record Positions : Type 0 where
     pub ex : exOf (l .fcb) ≤ 31

@@ -109,11 +109,11 @@ login-ready G l s f c = record { fits = f; drive = λ u. clash (sym u); image-ri
 
 -- ---- the tests of single calls
 module _ (G : Geometry) (l : Lent) (s : Session) where
-  pub some-of : (wild : Bool) (q : ℕ) → not (anyNamed G l wild (s .user) q) ≡ false → FoundAt (findNamed G (rowsOf G l) wild (s .user) (l .fcb) q 0)
+  pub some-of : (wild : Bool) (q : ℕ) → not (anyNamed G l wild (s .user) q) ≡ false → FoundAt (findNamed G (rowsOf G l) wild (s .user) (l .fcb) q)
   unfolding anyNamed
   some-of wild q h = found _ h
 
-  pub some-right : (wild : Bool) (q : ℕ) → FoundAt (findNamed G (rowsOf G l) wild (s .user) (l .fcb) q 0) → not (anyNamed G l wild (s .user) q) ≡ false
+  pub some-right : (wild : Bool) (q : ℕ) → FoundAt (findNamed G (rowsOf G l) wild (s .user) (l .fcb) q) → not (anyNamed G l wild (s .user) q) ≡ false
   unfolding anyNamed
   some-right wild q f = missed _ f
 

@@ -43,7 +43,10 @@ fn set_written(fcb: &mut [u8], row: [u8; 32], j: usize, b: usize, r: usize, cr: 
     ensures { λ _. ⌜ now (fcb .exit) ≡ writtenFcb eightInch (now (fcb .entry)) row j b r cr ⌝ }
 {
     let count = entries::count_in(&row, entries::extent(fcb));
-    let rc = targets::larger(targets::larger(entries::count_of(fcb), count), (r + 1) as u8);
+    let rc = targets::larger(
+        targets::larger(entries::count_of(fcb), count),
+        (r + 1) as u8,
+    );
     fcb[16 + j] = b as u8;
     fcb[15] = rc;
     fcb[32] = cr as u8;

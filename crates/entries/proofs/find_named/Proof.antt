@@ -13,10 +13,10 @@ use Rattle.entries.proofs.find_named.Statement.{statement}
 use Rattle.entries.proofs.find_named.Tie as tie
 
 abbrev Inv-loop : tie.InvT-loop
-Inv-loop image wild user s q from e₀ e = firstIn (namedTest (entryAt eightInch image) wild user s q) e (eightInch .entries) ≡ firstIn (namedTest (entryAt eightInch image) wild user s q) from (eightInch .entries)
+Inv-loop image wild user s q e₀ e = firstIn (namedTest (entryAt eightInch image) wild user s q) e (eightInch .entries) ≡ firstIn (namedTest (entryAt eightInch image) wild user s q) 0 (eightInch .entries)
 
 abbrev μ-loop : tie.MeasureT-loop
-μ-loop image wild user s q from e₀ e = eightInch .entries - e
+μ-loop image wild user s q e₀ e = eightInch .entries - e
 
 -- the test at each entry
 abbrev test : tie.Start Inv-loop μ-loop → ℕ → Bool
@@ -37,7 +37,7 @@ returns c =
     let l = c .before .before .before .before in
     let m = l .before .before .before in
     let t : test m (l .loop .e) ≡ true = rw (c .before .is-named .ensures, c .before .before .row .ensures .0) at (c .if1 .taken) in
-    look-hit (test m) (m .args .from) (eightInch .entries) (l .loop .e) (l .loop .inv) (omega arith) t
+    look-hit (test m) 0 (eightInch .entries) (l .loop .e) (l .loop .inv) (omega arith) t
 
 add-e : tie.Need-add-e Inv-loop μ-loop
 add-e c = omega arith
@@ -57,7 +57,7 @@ unfolding findNamed
 returns-2 c =
     let l = c .before in
     let m = l .before .before .before in
-    look-end (test m) (m .args .from) (eightInch .entries) (l .loop .e) (l .loop .inv) (omega arith)
+    look-end (test m) 0 (eightInch .entries) (l .loop .e) (l .loop .inv) (omega arith)
 
 pub find-named-spec : {M : Type 1} → statement M
 find-named-spec =
