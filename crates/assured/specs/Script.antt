@@ -10,9 +10,9 @@ use Rattle.format.specs.Fcb.{fcbBytes}
 use Rattle.model.specs.declared.Session.{Session}
 use Rattle.demands.specs.Runs.{Request, Disk, after, run}
 
--- a number, an argument, 36 bytes and 128
+-- a number, an argument, an FCB and a buffer
 abbrev pub callBytes : ℕ
-callBytes = 166
+callBytes = 2 + fcbBytes + recordBytes
 
 -- call i
 unfoldable pub requestAt : Bytes → ℕ → Request
@@ -20,7 +20,7 @@ requestAt script i =
     record {
       asked = record { number = getD script (callBytes * i) 0; argument = getD script (callBytes * i + 1) 0 };
       fcb = part script (callBytes * i + 2) fcbBytes;
-      buffer = part script (callBytes * i + 38) recordBytes;
+      buffer = part script (callBytes * i + (2 + fcbBytes)) recordBytes;
     }
 
 -- n calls, from call i on

@@ -19,7 +19,9 @@ use model::Session;
 use targets::Target;
 
 // The bytes of a call in a script: its number, its argument, its FCB and its buffer.
-const CALL_BYTES: usize = 2 + format::FCB_BYTES + format::RECORD_BYTES;
+const BUFFER_AT: usize = 2 + format::FCB_BYTES;
+
+const CALL_BYTES: usize = BUFFER_AT + format::RECORD_BYTES;
 
 // What a run comes to: whether its first call was accepted, and the session that it left.
 pub struct Ran {
@@ -34,7 +36,8 @@ pub struct ReadBack {
 }
 
 // Demand 1, of `call` itself: it is refused, by the first row of the table that holds and with nothing changed, or carried out. And of
-// demand 3 what it says of one call: no byte changes but in the entries of the files that it names and in the record that it writes.
+// demand 3 what it says of one call: no byte changes but in the entries of the files that it names, in an empty entry that became
+// theirs, and in the one record that it wrote.
 pub fn one_call(
     asked: Asked,
     image: &mut [u8],
@@ -96,7 +99,7 @@ fn make_call(
     let mut fcb = [0u8; format::FCB_BYTES];
     lists::get(script, at + 2, &mut fcb);
     let mut buffer = [0u8; format::RECORD_BYTES];
-    lists::get(script, at + 38, &mut buffer);
+    lists::get(script, at + BUFFER_AT, &mut buffer);
     let asked = Asked {
         number: script[at],
         argument: script[at + 1],

@@ -1,4 +1,5 @@
-// What an entry says, and an FCB in the same bytes: its slots, its extent, its t1', whether it is asked for; and the look-ups of entries by it.
+// What an entry says, and an FCB in the same bytes: its slots, its extent, its count, its t1', whether it is asked for; and the look-ups
+// of entries by it.
 ghost use mathlib.Core.Path.{_≡_};
 ghost use Prim.Native.Nat.{_+_, _≤_, _<_};
 ghost use lib.ListN.{length};

@@ -118,8 +118,9 @@ fn a_save_keeps_the_owner_where_that_is_allowed() {
     assert_eq!(saved.mode() & 0o7777, 0o664);
 }
 
-#[test]
-fn a_folder_that_can_not_be_written_to_leaves_the_image_as_it_was() {
+/// Somebody without rights of their own can't save into a folder of this
+/// mode.
+fn a_folder_of_mode_leaves_the_image_as_it_was(mode: u32) {
     let folder = Folder::new();
     folder.done("new disk.img");
     folder.write("file", b"x");
@@ -127,25 +128,7 @@ fn a_folder_that_can_not_be_written_to_leaves_the_image_as_it_was() {
     let Some(mut command) = folder.command_by_anybody() else {
         return;
     };
-    folder.set_mode("", 0o555);
-    let ran = ran(command.args(["put", "disk.img", "file"]));
-    folder.set_mode("", 0o755);
-    assert_eq!(ran.status, Some(1));
-    assert!(ran.err.contains("disk.img can't be saved"), "{}", ran.err);
-    assert_eq!(folder.read("disk.img"), old);
-}
-
-/// Its folder can't be made to last, which is found out before the rename.
-#[test]
-fn a_folder_that_can_not_be_read_leaves_the_image_as_it_was() {
-    let folder = Folder::new();
-    folder.done("new disk.img");
-    folder.write("file", b"x");
-    let old = folder.read("disk.img");
-    let Some(mut command) = folder.command_by_anybody() else {
-        return;
-    };
-    folder.set_mode("", 0o333);
+    folder.set_mode("", mode);
     // By its own name; a path with links in it could not be followed.
     let ran = ran(command.args(["put", "disk.img", "file"]));
     folder.set_mode("", 0o755);
@@ -153,6 +136,17 @@ fn a_folder_that_can_not_be_read_leaves_the_image_as_it_was() {
     assert!(ran.err.contains("disk.img can't be saved"), "{}", ran.err);
     assert_eq!(folder.read("disk.img"), old);
     assert_eq!(folder.names(), ["disk.img", "file"]);
+}
+
+#[test]
+fn a_folder_that_can_not_be_written_to_leaves_the_image_as_it_was() {
+    a_folder_of_mode_leaves_the_image_as_it_was(0o555);
+}
+
+/// It can't be made to last, which is found out before the rename.
+#[test]
+fn a_folder_that_can_not_be_read_leaves_the_image_as_it_was() {
+    a_folder_of_mode_leaves_the_image_as_it_was(0o333);
 }
 
 #[test]
