@@ -6,16 +6,17 @@ use lib.Dec.{eqb, leb}
 use lib.ListN.{length, getD}
 use borrow.Author.Tests.{eqb-true, eq-eqb, le-leb}
 use Rattle.lists.specs.Tests.{_or_, and-left, and-right, and-then, or-then, or-left}
-use Rattle.format.specs.Diskette.{Geometry, imageBytes, recordBytes}
+use Rattle.format.specs.Diskette.{Geometry, Long, recordBytes}
 use Rattle.format.specs.Fcb.{fcbBytes}
+use Rattle.facts.specs.Long.{long-says, long-is}
 use Rattle.model.specs.declared.Session.{Session}
 use Rattle.model.specs.Lent.{Lent}
 use Rattle.model.specs.Table.{usesFcb, lengthsRight, parametersRight}
 
 module _ (G : Geometry) (l : Lent) where
-  pub image-length : lengthsRight G l ≡ true → length (l .image) ≡ imageBytes G
+  pub image-length : lengthsRight G l ≡ true → Long G (l .image)
   unfolding lengthsRight
-  image-length t = eqb-true _ _ (and-left _ _ t)
+  image-length t = long-says G (l .image) (and-left _ _ t)
 
   pub map-length : lengthsRight G l ≡ true → length (l .map) ≡ G .blocks
   unfolding lengthsRight
@@ -26,11 +27,11 @@ module _ (G : Geometry) (l : Lent) where
   fcb-length t = eqb-true _ _ (and-left _ _ (and-right _ _ (and-right _ _ t)))
 
   -- the last length decides where the others are right
-  pub buffer-decides : length (l .image) ≡ imageBytes G → length (l .map) ≡ G .blocks → length (l .fcb) ≡ fcbBytes
+  pub buffer-decides : Long G (l .image) → length (l .map) ≡ G .blocks → length (l .fcb) ≡ fcbBytes
       → lengthsRight G l ≡ eqb (length (l .buffer)) recordBytes
   unfolding lengthsRight
   buffer-decides i m f =
-      and-then _ _ (eq-eqb _ _ i) ∙ and-then _ _ (eq-eqb _ _ m) ∙ and-then _ _ (eq-eqb _ _ f)
+      and-then _ _ (long-is G (l .image) i) ∙ and-then _ _ (eq-eqb _ _ m) ∙ and-then _ _ (eq-eqb _ _ f)
 
   module _ (n : ℕ) (s : Session) where
     pub lengths-are : parametersRight G l n s ≡ true → lengthsRight G l ≡ true

@@ -32,7 +32,7 @@ barred G b = ltb b (G .area) or leb (G .blocks) b
 -- the marks after the first x slots of all entries
 pub record BlockMarks (G : Geometry) (d : Rows) (x : ℕ) (l : Bytes) : Type 0 where
   pub long : length l ≡ markCount
-  pub seen : Seen (barred G) (listed d) x l
+  pub seen : Seen (barred G) (listed G d) x l
 
 -- the first j slots of a row marked, and whether each slot may list what it lists
 unfoldable pub markSlots : Bytes → Bytes → ℕ → Bytes
@@ -115,63 +115,72 @@ module _ (G : Geometry) (d : Rows) (l : Bytes) (h : length l ≡ markCount) (som
   pub marks-start : BlockMarks G d 0 (startMarks G l)
   marks-start = record {
     long = long-start;
-    seen = seen-start (barred G) (listed d) (startMarks G l) (unmarked 0 (inl (omega arith)) (omega arith))
+    seen = seen-start (barred G) (listed G d) (startMarks G l) (unmarked 0 (inl (omega arith)) (omega arith))
         (λ b p k. start-mark b p (omega (arith, long-start)));
   }
 
 module _ (G : Geometry) (d : Rows) where
   -- ---- a slot: marked, or listing none
-  marks-kept : (x : ℕ) (l : Bytes) → listed d x ≡ 0 → BlockMarks G d x l → BlockMarks G d (x + 1) l
-  marks-kept x l q m = record { long = m .long; seen = seen-kept (barred G) (listed d) l x (m .seen) q }
+  marks-kept : (x : ℕ) (l : Bytes) → listed G d x ≡ 0 → BlockMarks G d x l → BlockMarks G d (x + 1) l
+  marks-kept x l q m = record { long = m .long; seen = seen-kept (barred G) (listed G d) l x (m .seen) q }
 
-  marks-more : (x v : ℕ) (l : Bytes) → listed d x ≡ v → v < markCount → BlockMarks G d x l → BlockMarks G d (x + 1) (markNumber l v)
+  marks-more : (x v : ℕ) (l : Bytes) → listed G d x ≡ v → v < markCount → BlockMarks G d x l → BlockMarks G d (x + 1) (markNumber l v)
   unfolding markNumber
   marks-more x v l q h m =
       let long = m .long in
       record {
         long = length-set l v v ∙ m .long;
-        seen = seen-more (barred G) (listed d) l x (m .seen) v (sym q) (omega arith);
+        seen = seen-more (barred G) (listed G d) l x (m .seen) v (sym q) (omega arith);
       }
 
   -- the look at the mark is both tests of the slot
-  mark-decides : (x v : ℕ) (l : Bytes) → listed d x ≡ v → v < markCount → BlockMarks G d x l → numberFree l v ≡ (slotRight G v and listedOnce d x)
+  mark-decides : (x v : ℕ) (l : Bytes) → listed G d x ≡ v → v < markCount → BlockMarks G d x l → numberFree l v ≡ (slotRight G v and listedOnce G d x)
   unfolding numberFree listedOnce
   mark-decides x v l q h m =
       let long = m .long in
       split (eq-or-ne v 0)
       (λ z. rw z (eq-eqb _ _ (m .seen .none)) ∙ sym (and-both _ _ (zero-right G v z) (or-left _ _ (eq-eqb _ _ (q ∙ z)))))
-      (λ z. let once : (eqb (listed d x) 0 or not (taken (listed d) x (listed d x))) ≡ not (taken (listed d) x v) = rw q (or-then _ _ (ne-eqb v 0 z)) in
-      m .seen .mark v (omega arith) (omega arith) ∙ rw (once, right-open G v z) (not-or (taken (listed d) x v) (barred G v)))
+      (λ z. let once : (eqb (listed G d x) 0 or not (taken (listed G d) x (listed G d x))) ≡ not (taken (listed G d) x v) = rw q (or-then _ _ (ne-eqb v 0 z)) in
+      m .seen .mark v (omega arith) (omega arith) ∙ rw (once, right-open G v z) (not-or (taken (listed G d) x v) (barred G v)))
 
   -- ---- the slots of an entry that is not used
   skipped : (e j : ℕ) (l : Bytes) → used (d e) ≡ false → j ≤ slotCount → BlockMarks G d (slotCount * e) l → BlockMarks G d (slotCount * e + j) l
   skipped e zero l u h m = rw add-zero m
   skipped e (suc j) l u h m =
       let q : slotCount * e + suc j ≡ slotCount * e + j + 1 = omega arith in
-      rw q (marks-kept (slotCount * e + j) l (listed-unused d e j h u) (skipped e j l u (omega arith) m))
+      rw q (marks-kept (slotCount * e + j) l (listed-unused G d e j h u) (skipped e j l u (omega arith) m))
 
   pub marks-skip : (e : ℕ) (l : Bytes) → used (d e) ≡ false → BlockMarks G d (slotCount * e) l → BlockMarks G d (slotCount * (e + 1)) l
   marks-skip e l u m =
       let q : slotCount * (e + 1) ≡ slotCount * e + slotCount = omega arith in rw q (skipped e slotCount l u (omega arith) m)
 
-  -- ---- the slots of a used entry
-  module _ (e : ℕ) (l : Bytes) (u : used (d e) ≡ true) (bytes : (j : ℕ) → j < slotCount → slotOf (d e) j < markCount) (m : BlockMarks G d (slotCount * e) l) where
+  -- ---- the slots of a used entry, on a disk whose block numbers are one byte
+  module _ (narrow : (r : Bytes) (j : ℕ) → j < slotCount → slotOf G r j ≡ getD r (16 + j) 0) (e : ℕ) (l : Bytes) (u : used (d e) ≡ true)
+      (bytes : (j : ℕ) → j < slotCount → slotOf G (d e) j < markCount) (m : BlockMarks G d (slotCount * e) l) where
+    -- the byte of a slot is its block
+    byte-listed : (j : ℕ) → j < slotCount → listed G d (slotCount * e + j) ≡ getD (d e) (16 + j) 0
+    byte-listed j h = listed-used G d e j h u ∙ narrow (d e) j h
+
+    byte-low : (j : ℕ) → j < slotCount → getD (d e) (16 + j) 0 < markCount
+    byte-low j h = rw (narrow (d e) j h) at (bytes j h)
+
     passed : (j : ℕ) → j ≤ slotCount → BlockMarks G d (slotCount * e + j) (markRun l (d e) 16 j)
-    unfolding markRun foldBelow slotOf
+    unfolding markRun foldBelow
     passed zero h = rw add-zero m
     passed (suc j) h =
         let q : slotCount * e + suc j ≡ slotCount * e + j + 1 = omega arith in
-        rw q (marks-more (slotCount * e + j) (slotOf (d e) j) (markRun l (d e) 16 j) (listed-used d e j h u) (bytes j h) (passed j (omega arith)))
+        rw q (marks-more (slotCount * e + j) (getD (d e) (16 + j) 0) (markRun l (d e) 16 j) (byte-listed j h) (byte-low j h) (passed j (omega arith)))
 
     pub marks-row : BlockMarks G d (slotCount * (e + 1)) (markSlots l (d e) slotCount)
     unfolding markSlots
     marks-row = let q : slotCount * (e + 1) ≡ slotCount * e + slotCount = omega arith in rw q (passed slotCount (omega arith))
 
-    free-right : (j : ℕ) → j < slotCount → numberFree (markRun l (d e) 16 j) (slotOf (d e) j) ≡ (slotRight G (slotOf (d e) j) and listedOnce d (slotCount * e + j))
-    free-right j h = mark-decides (slotCount * e + j) (slotOf (d e) j) (markRun l (d e) 16 j) (listed-used d e j h u) (bytes j h) (passed j (omega arith))
+    free-right : (j : ℕ) → j < slotCount → numberFree (markRun l (d e) 16 j) (getD (d e) (16 + j) 0) ≡ (slotRight G (slotOf G (d e) j) and listedOnce G d (slotCount * e + j))
+    free-right j h =
+        rw (narrow (d e) j h) (mark-decides (slotCount * e + j) (getD (d e) (16 + j) 0) (markRun l (d e) 16 j) (byte-listed j h) (byte-low j h) (passed j (omega arith)))
 
-    pub slots-right : slotsFree l (d e) ≡ (slotsRight G (d e) and allBelow (λ (j : ℕ). listedOnce d (slotCount * e + j)) slotCount)
-    unfolding slotsFree runFree slotsRight slotOf
+    pub slots-right : slotsFree l (d e) ≡ (slotsRight G (d e) and allBelow (λ (j : ℕ). listedOnce G d (slotCount * e + j)) slotCount)
+    unfolding slotsFree runFree slotsRight
     slots-right = all-cong _ _ slotCount free-right ∙ all-both _ _ slotCount
 
 -- ---- the end: after all slots the marks tell which blocks are listed

@@ -9,11 +9,11 @@ use Rattle.lists.specs.Cases.{split, lt-or-le, refute}
 use Rattle.lists.specs.Tests.{and-then}
 use Rattle.lists.specs.Below.{any-at, any-empty, lastBelow, last-high, last-holds, last-after}
 use Rattle.format.specs.Diskette.{Bytes, Geometry}
-use Rattle.format.specs.Entries.{Rows, userOf, used, isFile, extentOf, findFile}
+use Rattle.format.specs.Entries.{Rows, userOf, used, isFile, extentOf, findFile, runOf}
 use Rattle.format.specs.Consistent.{sameFile, alone}
 use Rattle.format.specs.declared.Found.the-variants.{At, Nothing}
 use Rattle.facts.specs.Find.{fileTest, no-file-is}
-use Rattle.facts.specs.Naming.{file-user, file-like, file-extent}
+use Rattle.facts.specs.Naming.{file-user, file-like, file-run}
 use Rattle.consistency.specs.Naming.{file-used, alone-found}
 use Rattle.consistency.specs.Reflect.{same-elim, same-used-right}
 use Rattle.keys.specs.Key.{keyCount, keyOf, fileKey, key-same, key-asked}
@@ -74,8 +74,8 @@ module _ (G : Geometry) (d : Rows) (e : ℕ) where
   abbrev pub sameAs : ℕ → Bool
   sameAs g = sameFile G (d e) (d g)
 
-  pub same-only : (g : ℕ) → sameAs g ≡ true → keyIn d g ≡ keyOf (d e)
-  same-only g t = key-used d g (same-used-right G (d e) (d g) t) ∙ sym (key-same (d e) (d g) (same-elim G (d e) (d g) t))
+  pub same-only : (single : (x : ℕ) → runOf G x ≡ x) (g : ℕ) → sameAs g ≡ true → keyIn d g ≡ keyOf (d e)
+  same-only single g t = key-used d g (same-used-right G (d e) (d g) t) ∙ sym (key-same G single (d e) (d g) (same-elim G (d e) (d g) t))
 
   pub alone-hit : (f : ℕ) → Walk d sameAs (keyOf (d e)) e f → 0 < f → sameAs (f - 1) ≡ true → alone G d e ≡ false
   unfolding alone
@@ -92,10 +92,11 @@ asks-same G r t ext u v q = sym (and-then _ _ u ∙ and-then _ _ v ∙ rw q)
 
 -- ---- the look-up of a file: the test is what is asked for
 module _ (G : Geometry) (d : Rows) (user : ℕ) (s : Bytes) (q ext : ℕ) (real : user ≤ 15) where
-  pub file-only : (g : ℕ) → fileTest G d user s q ext g ≡ true → keyIn d g ≡ fileKey user s q ext
-  file-only g t =
+  pub file-only : (single : (x : ℕ) → runOf G x ≡ x) (g : ℕ) → fileTest G d user s q ext g ≡ true → keyIn d g ≡ fileKey user s q ext
+  file-only single g t =
       key-used d g (file-used G user s q ext (d g) t real)
-      ∙ key-asked (d g) user s q ext (file-user G user s q ext (d g) t) (file-like G user s q ext (d g) t) (file-extent G user s q ext (d g) t)
+      ∙ key-asked (d g) user s q ext (file-user G user s q ext (d g) t) (file-like G user s q ext (d g) t)
+      (sym (single (extentOf (d g))) ∙ file-run G user s q ext (d g) t ∙ single ext)
 
   pub find-hit : (chain : Bytes) (e : ℕ) → Indexed G d chain → e < G .entries → fileTest G d user s q ext e ≡ true → findFile G d user s q ext ≡ At e
   find-hit chain e i h t = alone-found G d user real s q ext e h t (i .single e h)

@@ -1,17 +1,16 @@
 -- What the steps of a close come to, and call 16 by the entry of its FCB.
-use mathlib.Core.Path.{_≡_, refl, sym, _∙_}
-use mathlib.Core.Bool.{true, false}
-use Prim.Native.Nat.{ℕ, _<_}
-use lib.Dec.{eqb}
-use lib.ListN.{length, getD, set}
-use borrow.Author.Tests.{eqb-true}
-use Rattle.lists.specs.Splice.{splice}
-use Rattle.lists.specs.Tests.{and-not}
-use Rattle.lists.specs.Below.{all-at}
-use Rattle.lists.specs.Tab.{tab-getD, tab-cong}
+use mathlib.Core.Path.{_≡_, refl, ap, sym, _∙_}
+use mathlib.Core.Bool.{Bool, true, false, not}
+use Prim.Native.Nat.{ℕ, _≤_, _<_}
+use native.Mathlib.Omega.{arith}
+use lib.Dec.{ltb}
+use lib.ListN.{length, set}
+use borrow.Author.Tests.{le-ltb, not-true}
+use Rattle.lists.specs.Splice.{part, length-part, splice, splice-own}
+use Rattle.lists.specs.Tests.{_and_, and-left, and-right}
 use Rattle.lists.specs.Fold.{foldBelow, fold-keeps}
-use Rattle.format.specs.Diskette.{Bytes, Geometry, slotCount}
-use Rattle.format.specs.Entries.{entryAt, withEntry, slotsOf}
+use Rattle.format.specs.Diskette.{Bytes, Geometry, Sound, Long, entryBytes, slotBytes, slotCount}
+use Rattle.format.specs.Entries.{entryAt, withEntry, exOf, s2Of, countOf, withNumbers, endOf, slotsOf}
 use Rattle.format.specs.Fcb.{current}
 use Rattle.facts.specs.Found.{found-row, missed-row}
 use Rattle.format.specs.declared.Found.{Found}
@@ -20,39 +19,82 @@ use Rattle.model.specs.declared.Session.{Session}
 use Rattle.model.specs.declared.Answer.{Answer}
 use Rattle.model.specs.declared.Code.the-variants.{Accepted, Failed}
 use Rattle.model.specs.Lent.{lend, outcome, answerOf, ended}
-use Rattle.model.specs.Closing.{takesSlot, mergedSlot, mergedSlots, closedCount, closedRow, closedNote, closedMap, closedImage, closedFcb}
+use Rattle.model.specs.Closing.{mergedSlots, endsLater, laterEnd, closedRow, closedNote, closedMap, closedImage, closedFcb}
 use Rattle.model.specs.Target.{presentEntry}
 use Rattle.model.specs.Calls.{entryNumber, closedAt, closed}
 use Rattle.table.specs.First.{_&_, here}
 use Rattle.table.specs.Own.{call16}
+use Rattle.rows.specs.Entries.{length-entryAt, entry-own}
+use Rattle.fields.specs.Closing.{takes-none, merged-same, later-stays}
+use Rattle.facts.specs.Counts.{end-none, end-some}
 use Rattle.facts.specs.Current.{current-says}
-use Rattle.slots.specs.Slots.{slotsSame}
+use Rattle.facts.specs.Slots.{short-slotsOf}
+use Rattle.slots.specs.Slots.{slotsSame, same-slot}
 use Rattle.current.specs.Current.{current-low}
 use Rattle.table.specs.OwnStep.{ownStep, refuses-own, carries-own}
 
 -- ---- slots that are the same: nothing is taken, so nothing changes
-module _ (es fs : Bytes) (same : slotsSame es fs ≡ true) where
-  slot-is : (j : ℕ) → j < slotCount → getD fs j 0 ≡ getD es j 0
-  unfolding slotsSame
-  slot-is j h = eqb-true _ _ (all-at _ slotCount same j h)
+module _ (G : Geometry) (es fs : Bytes) (l : length es ≤ slotBytes) (k : length fs ≤ slotBytes) (same : slotsSame es fs ≡ true) where
+  pub same-merged : length es ≡ slotBytes → es ≡ mergedSlots G es fs
+  same-merged q = sym (merged-same G es fs (same-slot G es fs l k same) q)
 
-  takes-none : (j : ℕ) → j < slotCount → takesSlot es fs j ≡ false
-  unfolding takesSlot
-  takes-none j h = rw (slot-is j h) (and-not (eqb (getD es j 0) 0))
-
-  pub same-merged : length es ≡ slotCount → es ≡ mergedSlots es fs
-  unfolding mergedSlots mergedSlot
-  same-merged l = sym (tab-getD es slotCount l) ∙ tab-cong slotCount _ _ (λ j h. sym (rw (takes-none j h) refl))
-
-  pub same-recorded : (map : Bytes) → map ≡ foldBelow (closedNote es fs) map slotCount
+  pub same-recorded : (map : Bytes) → map ≡ foldBelow (closedNote G es fs) map slotCount
   unfolding closedNote
-  same-recorded map = sym (fold-keeps (λ (m : Bytes). m ≡ map) (closedNote es fs) map slotCount refl (λ m j h q. rw (takes-none j h) q))
+  same-recorded map =
+      sym (fold-keeps (λ (m : Bytes). m ≡ map) (closedNote G es fs) map slotCount refl
+      (λ m j h q. rw (takes-none G es fs (same-slot G es fs l k same) j) q))
+
+-- ---- the end
+module _ (row fcb : Bytes) where
+  -- by a test of the FCB's count, then of the two ends
+  pub never-later : countOf fcb ≡ 0 → endsLater row fcb ≡ false
+  unfolding endsLater
+  never-later z = rw (end-none fcb z) (le-ltb (endOf row) 0 (omega arith))
+
+  pub later-by : (countOf fcb ≡ 0 → ⊥) → endsLater row fcb ≡ ltb (endOf row) (endOf fcb)
+  unfolding endsLater
+  later-by n = rw (end-some fcb n)
+
+  pub later-takes : (n : ℕ) → endsLater row fcb ≡ true → n ≡ countOf fcb → set (set (set row 12 (exOf fcb)) 14 (s2Of fcb)) 15 n ≡ laterEnd row fcb
+  unfolding laterEnd withNumbers
+  later-takes n t q = rw (q, t)
+
+-- ---- a close that leaves the row as it is: the FCB's slots are the row's, and its end is no later
+unfoldable pub closeKeeps : Bytes → Bytes → Bool
+closeKeeps row fcb = slotsSame (slotsOf row) (slotsOf fcb) and not (endsLater row fcb)
+
+module _ (G : Geometry) (row fcb : Bytes) (h : closeKeeps row fcb ≡ true) where
+  same-slots : slotsSame (slotsOf row) (slotsOf fcb) ≡ true
+  unfolding closeKeeps
+  same-slots = and-left _ _ h
+
+  no-later : endsLater row fcb ≡ false
+  unfolding closeKeeps
+  no-later = not-true _ (and-right _ _ h)
+
+  kept-row : length row ≡ entryBytes → closedRow G row fcb ≡ row
+  unfolding closedRow slotsOf
+  kept-row long =
+      let l : length (part row 16 slotBytes) ≡ slotBytes = length-part row 16 slotBytes (omega arith) in
+      ap (λ (r : Bytes). splice r 16 (mergedSlots G (slotsOf row) (slotsOf fcb))) (later-stays row fcb no-later)
+      ∙ ap (splice row 16) (sym (same-merged G (slotsOf row) (slotsOf fcb) (short-slotsOf row) (short-slotsOf fcb) same-slots l))
+      ∙ splice-own row 16 slotBytes (omega arith)
+
+  pub kept-map : (map : Bytes) → closedMap G row fcb map ≡ map
+  unfolding closedMap
+  kept-map map = sym (same-recorded G (slotsOf row) (slotsOf fcb) (short-slotsOf row) (short-slotsOf fcb) same-slots map)
+
+pub kept-image : {G : Geometry} (S : Sound G) (img : Bytes) (long : Long G img) (e : ℕ) (below : e < G .entries) (fcb : Bytes)
+    → closeKeeps (entryAt G img e) fcb ≡ true → img ≡ closedImage G img e fcb
+unfolding closedImage
+kept-image {G} S img long e below fcb h =
+    sym (ap (withEntry G img e) (kept-row G (entryAt G img e) fcb h (length-entryAt S img long e below)) ∙ entry-own S img long e below)
 
 -- ---- a row and a map, from their parts
-pub closed-row : (G : Geometry) (row fcb es fs m r : Bytes) (n : ℕ) → es ≡ slotsOf row → fs ≡ slotsOf fcb → m ≡ mergedSlots es fs → n ≡ closedCount G row fcb
-    → r ≡ splice (set row 15 n) 16 m → r ≡ closedRow G row fcb
+pub closed-row : (G : Geometry) (row fcb es fs m n r : Bytes) → es ≡ slotsOf row → fs ≡ slotsOf fcb → m ≡ mergedSlots G es fs → n ≡ laterEnd row fcb
+    → r ≡ splice n 16 m → r ≡ closedRow G row fcb
 unfolding closedRow
-closed-row G row fcb es fs m r n a b c d e = rw (e, c, d, a, b)
+closed-row G row fcb es fs m n r a b c d e = rw (e, c, d, a, b)
 
 pub closed-image : (G : Geometry) (img fcb row r i : Bytes) (e : ℕ) → row ≡ entryAt G img e → r ≡ closedRow G row fcb → i ≡ withEntry G img e r
     → i ≡ closedImage G img e fcb
@@ -60,7 +102,7 @@ unfolding closedImage
 closed-image G img fcb row r i e a b c = rw (c, b, a)
 
 pub closed-map : (G : Geometry) (img fcb row es fs map m : Bytes) (e : ℕ) → row ≡ entryAt G img e → es ≡ slotsOf row → fs ≡ slotsOf fcb
-    → m ≡ foldBelow (closedNote es fs) map slotCount → m ≡ closedMap (entryAt G img e) fcb map
+    → m ≡ foldBelow (closedNote G es fs) map slotCount → m ≡ closedMap G (entryAt G img e) fcb map
 unfolding closedMap
 closed-map G img fcb row es fs map m e a b c d = rw (d, b, c, a)
 
@@ -78,7 +120,7 @@ module _ (G : Geometry) (img map fcb : Bytes) (s : Session) (found : Found) (is 
       current-low G (entryAt G img) map (s .user) fcb e (current-says G (entryAt G img) map (s .user) fcb e (sym is ∙ q))
 
   pub close-carried : (buffer : Bytes) (e : ℕ) (r : Answer) (i m f : Bytes) → found ≡ At e → r ≡ answerOf (Accepted (entryNumber e)) (ended s)
-      → i ≡ closedImage G img e fcb → m ≡ closedMap (entryAt G img e) fcb map → f ≡ closedFcb fcb
+      → i ≡ closedImage G img e fcb → m ≡ closedMap G (entryAt G img e) fcb map → f ≡ closedFcb fcb
       → outcome r i m f buffer ≡ ownStep G 0 (lend img map fcb buffer) s call16
   unfolding presentEntry closed closedAt
   close-carried buffer e r i m f q a b c d =

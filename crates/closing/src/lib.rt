@@ -3,14 +3,15 @@ ghost use mathlib.Core.Path.{_≡_};
 ghost use Prim.Native.Nat.{_≤_, _<_};
 ghost use lib.ListN.{length};
 ghost use Rattle.lists.specs.Fold.{foldBelow};
-ghost use Rattle.format.specs.Diskette.{Bytes, eightInch, imageBytes, entryBytes, slotCount};
+ghost use Rattle.format.specs.Diskette.{Bytes, eightInch, imageBytes, entryBytes, slotBytes, slotCount};
 ghost use Rattle.format.specs.Entries.{entryAt};
 ghost use Rattle.format.specs.Fcb.{fcbBytes};
 ghost use Rattle.model.specs.Lent.{lend, outcome};
-ghost use Rattle.model.specs.Closing.{takesSlot, mergedSlot, mergedSlots, closedCount, closedRow, closedNote, closedMap, closedImage, closedFcb};
+ghost use Rattle.model.specs.Closing.{takesSlot, mergedByte, mergedSlots, endsLater, laterEnd, closedRow, closedNote, closedMap, closedImage, closedFcb};
 ghost use Rattle.table.specs.Own.{call16};
 ghost use Rattle.table.specs.OwnStep.{ownStep};
 ghost use Rattle.chains.specs.Chain.{Indexed};
+ghost use Rattle.closing.specs.Laws.{closeKeeps};
 use format::Found;
 use model::Answer;
 use model::Code;
@@ -19,7 +20,7 @@ use model::Session;
 // Whether slot j takes the FCB's block: the entry has none there, and the FCB has one.
 fn takes_slot(es: [u8; 16], fs: [u8; 16], j: usize) -> bool
     requires { ⌜ j < slotCount ⌝ }
-    ensures { λ r. ⌜ r ≡ takesSlot es fs j ⌝ }
+    ensures { λ r. ⌜ r ≡ takesSlot eightInch es fs j ⌝ }
 {
     if es[j] != 0 {
         return false;
@@ -27,20 +28,20 @@ fn takes_slot(es: [u8; 16], fs: [u8; 16], j: usize) -> bool
     fs[j] != 0
 }
 
-// The block of slot j after a close. A block that the entry has stays.
-fn merged_slot(es: [u8; 16], fs: [u8; 16], j: usize) -> u8
-    requires { ⌜ j < slotCount ⌝ }
-    ensures { λ r. ⌜ r ≡ mergedSlot es fs j ⌝ }
+// Byte i of the slots after a close: on this disk slot i. A block that the entry has stays.
+fn merged_byte(es: [u8; 16], fs: [u8; 16], i: usize) -> u8
+    requires { ⌜ i < slotBytes ⌝ }
+    ensures { λ r. ⌜ r ≡ mergedByte eightInch es fs i ⌝ }
 {
-    if takes_slot(es, fs, j) {
-        return fs[j];
+    if takes_slot(es, fs, i) {
+        return fs[i];
     }
-    es[j]
+    es[i]
 }
 
 // The slots after a close: as they are, where the FCB's are the same.
 fn merge(es: [u8; 16], fs: [u8; 16]) -> [u8; 16]
-    ensures { λ r. ⌜ r ≡ mergedSlots es fs ⌝ }
+    ensures { λ r. ⌜ r ≡ mergedSlots eightInch es fs ⌝ }
 {
     if slots::slots_same(es, fs) {
         return es;
@@ -48,22 +49,34 @@ fn merge(es: [u8; 16], fs: [u8; 16]) -> [u8; 16]
     let mut r = [0u8; 16];
     let mut j = 0;
     while j < format::SLOTS {
-        r[j] = merged_slot(es, fs, j);
+        r[j] = merged_byte(es, fs, j);
         j += 1;
     }
     r
 }
 
-// The entry's count after a close: it stays unless the FCB's is larger.
-fn closed_count(row: &[u8], fcb: &[u8]) -> u8
+// Whether an FCB's end is later than a row's. One whose count is 0 has none.
+fn ends_later(row: &[u8], fcb: &[u8]) -> bool
     requires { ⌜ (entryBytes ≤ length (now row)) × (entryBytes ≤ length (now fcb)) ⌝ }
-    ensures { λ r. ⌜ r ≡ closedCount eightInch (now (row .entry)) (now (fcb .entry)) ⌝ }
+    ensures { λ r. ⌜ r ≡ endsLater (now (row .entry)) (now (fcb .entry)) ⌝ }
 {
-    let count = entries::count_of(fcb);
-    if entries::count_in(row, entries::extent(fcb)) < count {
-        return count;
+    if entries::count_of(fcb) == 0 {
+        return false;
     }
-    row[15]
+    entries::end_of(row) < entries::end_of(fcb)
+}
+
+// A row takes the FCB's end where that is later, and else stays as it is.
+fn later_end(row: &mut [u8], fcb: &[u8])
+    requires { ⌜ (entryBytes ≤ length (now row)) × (entryBytes ≤ length (now fcb)) ⌝ }
+    ensures { λ _. ⌜ now (row .exit) ≡ laterEnd (now (row .entry)) (now (fcb .entry)) ⌝ }
+{
+    if !ends_later(row, fcb) {
+        return;
+    }
+    row[12] = fcb[12];
+    row[14] = fcb[14];
+    row[15] = entries::count_of(fcb);
 }
 
 // The entry's row after a close.
@@ -73,7 +86,7 @@ fn closed_row(row: [u8; 32], fcb: &[u8]) -> [u8; 32]
 {
     let merged = merge(entries::slots(&row), entries::slots(fcb));
     let mut r = row;
-    r[15] = closed_count(&row, fcb);
+    later_end(&mut r, fcb);
     lists::put(&mut r, 16, &merged);
     r
 }
@@ -81,7 +94,7 @@ fn closed_row(row: [u8; 32], fcb: &[u8]) -> [u8; 32]
 // The block that slot j takes becomes recorded; a number past the last block is none.
 fn record_block(map: &mut [u16], es: [u8; 16], fs: [u8; 16], j: usize)
     requires { ⌜ j < slotCount ⌝ }
-    ensures { λ _. ⌜ now (map .exit) ≡ closedNote es fs (now (map .entry)) j ⌝ }
+    ensures { λ _. ⌜ now (map .exit) ≡ closedNote eightInch es fs (now (map .entry)) j ⌝ }
 {
     if !takes_slot(es, fs, j) {
         return;
@@ -94,7 +107,7 @@ fn record_block(map: &mut [u16], es: [u8; 16], fs: [u8; 16], j: usize)
 
 // The blocks that the entry takes become recorded: none, where the FCB's slots are the same.
 fn record_blocks(map: &mut [u16], es: [u8; 16], fs: [u8; 16])
-    ensures { λ _. ⌜ now (map .exit) ≡ foldBelow (closedNote es fs) (now (map .entry)) slotCount ⌝ }
+    ensures { λ _. ⌜ now (map .exit) ≡ foldBelow (closedNote eightInch es fs) (now (map .entry)) slotCount ⌝ }
 {
     if slots::slots_same(es, fs) {
         return;
@@ -106,12 +119,26 @@ fn record_blocks(map: &mut [u16], es: [u8; 16], fs: [u8; 16])
     }
 }
 
-// Entry e takes the FCB's blocks, which become recorded, and its count where that is larger.
+// Whether a close leaves a row as it is, as most do that a move begins with: the FCB brings no block and no later end.
+fn close_keeps(row: &[u8], fcb: &[u8]) -> bool
+    requires { ⌜ (entryBytes ≤ length (now row)) × (entryBytes ≤ length (now fcb)) ⌝ }
+    ensures { λ r. ⌜ r ≡ closeKeeps (now (row .entry)) (now (fcb .entry)) ⌝ }
+{
+    if !current::slots_own(row, fcb) {
+        return false;
+    }
+    !ends_later(row, fcb)
+}
+
+// Entry e takes the FCB's blocks, which become recorded, and its end where that is later.
 pub fn close_entry(image: &mut [u8], map: &mut [u16], e: usize, fcb: &[u8])
     requires { ⌜ (length (now image) ≡ imageBytes eightInch) × (length (now fcb) ≡ fcbBytes) × (e < eightInch .entries) ⌝ }
     ensures { λ _. ⌜ (now (image .exit) ≡ closedImage eightInch (now (image .entry)) e (now (fcb .entry)))
-        × (now (map .exit) ≡ closedMap (entryAt eightInch (now (image .entry)) e) (now (fcb .entry)) (now (map .entry))) ⌝ }
+        × (now (map .exit) ≡ closedMap eightInch (entryAt eightInch (now (image .entry)) e) (now (fcb .entry)) (now (map .entry))) ⌝ }
 {
+    if close_keeps(rows::row(image, e), fcb) {
+        return;
+    }
     let row = rows::copy_row(image, e);
     record_blocks(map, entries::slots(&row), entries::slots(fcb));
     rows::store_row(image, e, closed_row(row, fcb));

@@ -5,7 +5,7 @@ use mathlib.Core.Bool.{true, false}
 use Prim.Native.Nat.{ℕ, _≤_, _<_}
 use Rattle.format.specs.Diskette.{Bytes, Geometry, slotCount}
 use Rattle.format.specs.Names.{nameRight, nameLike}
-use Rattle.format.specs.Entries.{Rows, userOf, exOf, s2Of, rcOf, slotOf, empty, used, extentOf}
+use Rattle.format.specs.Entries.{Rows, userOf, exOf, s2Of, rcOf, slotOf, empty, used, extentOf, runOf}
 
 -- the numbers of a row or an FCB are in range
 pub record Numbers (r : Bytes) : Type 0 where
@@ -18,22 +18,22 @@ pub record Fine (G : Geometry) (r : Bytes) : Type 0 where
   pub user : userOf r ≤ 15
   pub name : nameRight false r 1 ≡ true
   pub numbers : Numbers r
-  pub low : (j : ℕ) → j < slotCount → (slotOf r j ≡ 0 → ⊥) → G .area ≤ slotOf r j
-  pub high : (j : ℕ) → j < slotCount → (slotOf r j ≡ 0 → ⊥) → slotOf r j < G .blocks
+  pub low : (j : ℕ) → j < slotCount → (slotOf G r j ≡ 0 → ⊥) → G .area ≤ slotOf G r j
+  pub high : (j : ℕ) → j < slotCount → (slotOf G r j ≡ 0 → ⊥) → slotOf G r j < G .blocks
 
 -- block b stands in slot j of the used entry e
 pub record Stands (G : Geometry) (d : Rows) (b e j : ℕ) : Type 0 where
   pub entry : e < G .entries
   pub place : j < slotCount
   pub uses : used (d e) ≡ true
-  pub is : slotOf (d e) j ≡ b
+  pub is : slotOf G (d e) j ≡ b
   pub real : b ≡ 0 → ⊥
 
--- the rows agree in user, seven-bit name and extent
-pub record SameFile (r t : Bytes) : Type 0 where
+-- the rows agree in user and seven-bit name, and cover the same extents
+pub record SameFile (G : Geometry) (r t : Bytes) : Type 0 where
   pub user : userOf r ≡ userOf t
   pub name : nameLike false t 1 r 1 ≡ true
-  pub extent : extentOf r ≡ extentOf t
+  pub run : runOf G (extentOf r) ≡ runOf G (extentOf t)
 
 pub record Consistent (G : Geometry) (d : Rows) : Type 0 where
   -- an entry is fine or empty
@@ -43,4 +43,4 @@ pub record Consistent (G : Geometry) (d : Rows) : Type 0 where
   pub once-entry : (b e j f k : ℕ) → Stands G d b e j → Stands G d b f k → e ≡ f
   pub once-slot : (b e j f k : ℕ) → Stands G d b e j → Stands G d b f k → j ≡ k
   -- one entry a user, name and extent
-  pub apart : (e f : ℕ) → e < G .entries → f < G .entries → used (d e) ≡ true → used (d f) ≡ true → SameFile (d e) (d f) → e ≡ f
+  pub apart : (e f : ℕ) → e < G .entries → f < G .entries → used (d e) ≡ true → used (d f) ≡ true → SameFile G (d e) (d f) → e ≡ f

@@ -15,40 +15,40 @@ use Rattle.format.specs.Notes.{isListed}
 use Rattle.consistency.specs.Facts.{Stands}
 
 -- slot j of entry e, among all slots
-pub listed-at : (d : Rows) (e j : ℕ) → j < slotCount → listed d (slotCount * e + j) ≡ cond (used (d e)) (slotOf (d e) j) 0
+pub listed-at : (G : Geometry) (d : Rows) (e j : ℕ) → j < slotCount → listed G d (slotCount * e + j) ≡ cond (used (d e)) (slotOf G (d e) j) 0
 unfolding listed
-listed-at d e j h =
+listed-at G d e j h =
     let q : (slotCount * e + j) / slotCount ≡ e = omega arith in
     let m : (slotCount * e + j) % slotCount ≡ j = omega arith in
     rw (q, m)
 
-pub listed-used : (d : Rows) (e j : ℕ) → j < slotCount → used (d e) ≡ true → listed d (slotCount * e + j) ≡ slotOf (d e) j
-listed-used d e j h u = listed-at d e j h ∙ rw u
+pub listed-used : (G : Geometry) (d : Rows) (e j : ℕ) → j < slotCount → used (d e) ≡ true → listed G d (slotCount * e + j) ≡ slotOf G (d e) j
+listed-used G d e j h u = listed-at G d e j h ∙ rw u
 
-pub listed-unused : (d : Rows) (e j : ℕ) → j < slotCount → used (d e) ≡ false → listed d (slotCount * e + j) ≡ 0
-listed-unused d e j h u = listed-at d e j h ∙ rw u
+pub listed-unused : (G : Geometry) (d : Rows) (e j : ℕ) → j < slotCount → used (d e) ≡ false → listed G d (slotCount * e + j) ≡ 0
+listed-unused G d e j h u = listed-at G d e j h ∙ rw u
 
 module _ (G : Geometry) (d : Rows) where
   -- a slot that lists a block, as the place at which the block stands
-  pub stands-at : (x b : ℕ) → x < slotsInAll G → listed d x ≡ b → (b ≡ 0 → ⊥) → Stands G d b (x / slotCount) (x % slotCount)
+  pub stands-at : (x b : ℕ) → x < slotsInAll G → listed G d x ≡ b → (b ≡ 0 → ⊥) → Stands G d b (x / slotCount) (x % slotCount)
   stands-at x b h q r =
       let split-x : x ≡ slotCount * (x / slotCount) + x % slotCount = omega arith in
-      let at : listed d (slotCount * (x / slotCount) + x % slotCount) ≡ b = ap (listed d) (sym split-x) ∙ q in
+      let at : listed G d (slotCount * (x / slotCount) + x % slotCount) ≡ b = ap (listed G d) (sym split-x) ∙ q in
       split (bool-cases (used (d (x / slotCount))))
       (λ u. record {
         entry = omega arith;
         place = omega arith;
         uses = u;
-        is = sym (listed-used d (x / slotCount) (x % slotCount) (omega arith) u) ∙ at;
+        is = sym (listed-used G d (x / slotCount) (x % slotCount) (omega arith) u) ∙ at;
         real = r;
       })
-      (λ u. absurd (r (sym at ∙ listed-unused d (x / slotCount) (x % slotCount) (omega arith) u)))
+      (λ u. absurd (r (sym at ∙ listed-unused G d (x / slotCount) (x % slotCount) (omega arith) u)))
 
   pub stands-place : (b e j : ℕ) → Stands G d b e j → slotCount * e + j < slotsInAll G
   stands-place b e j s = let h = s .entry in let l = s .place in omega arith
 
-  pub stands-listed : (b e j : ℕ) → Stands G d b e j → listed d (slotCount * e + j) ≡ b
-  stands-listed b e j s = listed-used d e j (s .place) (s .uses) ∙ s .is
+  pub stands-listed : (b e j : ℕ) → Stands G d b e j → listed G d (slotCount * e + j) ≡ b
+  stands-listed b e j s = listed-used G d e j (s .place) (s .uses) ∙ s .is
 
   -- some used entry lists block b
   pub record Somewhere (b : ℕ) : Type 0 where
@@ -59,7 +59,7 @@ module _ (G : Geometry) (d : Rows) where
   pub listed-somewhere : (b : ℕ) → (b ≡ 0 → ⊥) → isListed G d b ≡ true → Somewhere b
   unfolding isListed taken
   listed-somewhere b r t =
-      let s : Some (λ (x : ℕ). eqb (listed d x) b) (slotsInAll G) = any-some _ (slotsInAll G) t in
+      let s : Some (λ (x : ℕ). eqb (listed G d x) b) (slotsInAll G) = any-some _ (slotsInAll G) t in
       record {
         e = s .place / slotCount;
         j = s .place % slotCount;

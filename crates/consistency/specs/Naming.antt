@@ -9,7 +9,7 @@ use Rattle.format.specs.Entries.{Rows, used, named, isFile, findFile}
 use Rattle.format.specs.Consistent.{alone}
 use Rattle.format.specs.declared.Found.the-variants.{At}
 use Rattle.facts.specs.Find.{file-is}
-use Rattle.facts.specs.Naming.{named-user, file-named, file-user, file-like, file-extent}
+use Rattle.facts.specs.Naming.{named-user, file-named, file-user, file-like, file-run}
 use Rattle.facts.specs.Names.{like-sym, like-trans}
 use Rattle.consistency.specs.Facts.{SameFile, Consistent}
 use Rattle.consistency.specs.Reflect.{low-used, same-intro, alone-elim, facts-alone}
@@ -21,11 +21,11 @@ pub file-used : (G : Geometry) (user : ℕ) (s : Bytes) (q ext : ℕ) (r : Bytes
 file-used G user s q ext r h hu = named-used false user s q r (file-named G user s q ext r h) hu
 
 -- two rows of one name and extent
-file-same : (G : Geometry) (user : ℕ) (s : Bytes) (q ext : ℕ) (r t : Bytes) → isFile G user s q ext r ≡ true → isFile G user s q ext t ≡ true → SameFile r t
+file-same : (G : Geometry) (user : ℕ) (s : Bytes) (q ext : ℕ) (r t : Bytes) → isFile G user s q ext r ≡ true → isFile G user s q ext t ≡ true → SameFile G r t
 file-same G user s q ext r t h k = record {
   user = file-user G user s q ext r h ∙ sym (file-user G user s q ext t k);
   name = like-trans t 1 s q r 1 (like-sym s q t 1 (file-like G user s q ext t k)) (file-like G user s q ext r h);
-  extent = file-extent G user s q ext r h ∙ sym (file-extent G user s q ext t k);
+  run = file-run G user s q ext r h ∙ sym (file-run G user s q ext t k);
 }
 
 -- the entry of a user, name and extent is the one that is found, if none before it is of the same file

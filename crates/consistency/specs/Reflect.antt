@@ -76,8 +76,8 @@ module _ (G : Geometry) where
         user = used-low r u;
         name = and-left _ _ rest;
         numbers = numbers-elim r (and-left _ _ (and-right _ _ rest));
-        low = λ j l. slot-low (slotOf r j) (all-at _ slotCount slots j l);
-        high = λ j l. slot-high (slotOf r j) (all-at _ slotCount slots j l);
+        low = λ j l. slot-low (slotOf G r j) (all-at _ slotCount slots j l);
+        high = λ j l. slot-high (slotOf G r j) (all-at _ slotCount slots j l);
       }
 
   pub fine-intro : (r : Bytes) → Fine G r → entryRight G r ≡ true
@@ -87,7 +87,7 @@ module _ (G : Geometry) where
       (and-both _ _ (low-used r (f .user))
       (and-both _ _ (f .name)
       (and-both _ _ (numbers-intro r (f .numbers))
-      (all-intro _ slotCount (λ j l. slot-right (slotOf r j) (f .low j l) (f .high j l))))))
+      (all-intro _ slotCount (λ j l. slot-right (slotOf G r j) (f .low j l) (f .high j l))))))
 
   pub empty-right : (r : Bytes) → empty r ≡ true → entryRight G r ≡ true
   unfolding entryRight
@@ -99,31 +99,31 @@ module _ (G : Geometry) where
   unused-empty r u h = sym (or-first _ _ (and-fails-left _ _ u)) ∙ h
 
 -- ---- a block stands at one place
-module _ (d : Rows) where
-  pub once-elim : (x y : ℕ) → listedOnce d y ≡ true → x < y → listed d x ≡ listed d y → listed d y ≡ 0
+module _ (G : Geometry) (d : Rows) where
+  pub once-elim : (x y : ℕ) → listedOnce G d y ≡ true → x < y → listed G d x ≡ listed G d y → listed G d y ≡ 0
   unfolding listedOnce taken
   once-elim x y t h e =
       split (or-cases _ _ t) (λ z. eqb-true _ _ z)
-      (λ n. absurd (eqb-false (listed d x) (listed d y) (any-never _ y (not-true _ n) x h) e))
+      (λ n. absurd (eqb-false (listed G d x) (listed G d y) (any-never _ y (not-true _ n) x h) e))
 
-  pub once-intro : (y : ℕ) → ((x : ℕ) → x < y → listed d x ≡ listed d y → listed d y ≡ 0) → listedOnce d y ≡ true
+  pub once-intro : (y : ℕ) → ((x : ℕ) → x < y → listed G d x ≡ listed G d y → listed G d y ≡ 0) → listedOnce G d y ≡ true
   unfolding listedOnce taken
   once-intro y f =
-      split (eq-or-ne (listed d y) 0) (λ z. or-left _ _ (eq-eqb _ _ z))
-      (λ z. or-right _ _ (ap not (any-empty (λ (k : ℕ). eqb (listed d k) (listed d y)) y (λ x h. ne-eqb _ _ (λ e. z (f x h e))))))
+      split (eq-or-ne (listed G d y) 0) (λ z. or-left _ _ (eq-eqb _ _ z))
+      (λ z. or-right _ _ (ap not (any-empty (λ (k : ℕ). eqb (listed G d k) (listed G d y)) y (λ x h. ne-eqb _ _ (λ e. z (f x h e))))))
 
 -- ---- one entry a user, name and extent
-pub same-elim : (G : Geometry) (r t : Bytes) → sameFile G r t ≡ true → SameFile r t
+pub same-elim : (G : Geometry) (r t : Bytes) → sameFile G r t ≡ true → SameFile G r t
 unfolding sameFile isFile named covers
 same-elim G r t h =
     let f = and-right _ _ (and-right _ _ h) in
     let n = and-left _ _ f in
-    record { user = eqb-true _ _ (and-left _ _ n); name = and-right _ _ n; extent = eqb-true _ _ (and-right _ _ f) }
+    record { user = eqb-true _ _ (and-left _ _ n); name = and-right _ _ n; run = eqb-true _ _ (and-right _ _ f) }
 
-pub same-intro : (G : Geometry) (r t : Bytes) → used r ≡ true → used t ≡ true → SameFile r t → sameFile G r t ≡ true
+pub same-intro : (G : Geometry) (r t : Bytes) → used r ≡ true → used t ≡ true → SameFile G r t → sameFile G r t ≡ true
 unfolding sameFile isFile named covers
 same-intro G r t u v s =
-    and-both _ _ u (and-both _ _ v (and-both _ _ (and-both _ _ (eq-eqb _ _ (s .user)) (s .name)) (eq-eqb _ _ (s .extent))))
+    and-both _ _ u (and-both _ _ v (and-both _ _ (and-both _ _ (eq-eqb _ _ (s .user)) (s .name)) (eq-eqb _ _ (s .run))))
 
 pub same-used-left : (G : Geometry) (r t : Bytes) → sameFile G r t ≡ true → used r ≡ true
 unfolding sameFile
@@ -133,8 +133,8 @@ pub same-used-right : (G : Geometry) (r t : Bytes) → sameFile G r t ≡ true �
 unfolding sameFile
 same-used-right G r t h = and-left _ _ (and-right _ _ h)
 
-pub same-sym : (r t : Bytes) → SameFile r t → SameFile t r
-same-sym r t s = record { user = sym (s .user); name = like-sym t 1 r 1 (s .name); extent = sym (s .extent) }
+pub same-sym : (G : Geometry) (r t : Bytes) → SameFile G r t → SameFile G t r
+same-sym G r t s = record { user = sym (s .user); name = like-sym t 1 r 1 (s .name); run = sym (s .run) }
 
 module _ (G : Geometry) (d : Rows) where
   pub alone-elim : (e f : ℕ) → alone G d e ≡ true → f < e → sameFile G (d e) (d f) ≡ true → ⊥
@@ -147,19 +147,19 @@ module _ (G : Geometry) (d : Rows) where
 
 -- ---- the directory
 module _ (G : Geometry) (d : Rows) where
-  once-place : (t : allBelow (listedOnce d) (slotsInAll G) ≡ true) (b e j f k : ℕ) → Stands G d b e j → Stands G d b f k → slotCount * e + j ≡ slotCount * f + k
+  once-place : (t : allBelow (listedOnce G d) (slotsInAll G) ≡ true) (b e j f k : ℕ) → Stands G d b e j → Stands G d b f k → slotCount * e + j ≡ slotCount * f + k
   once-place t b e j f k s u =
       let x : ℕ = slotCount * e + j in
       let y : ℕ = slotCount * f + k in
-      let q : listed d x ≡ b = stands-listed G d b e j s in
-      let r : listed d y ≡ b = stands-listed G d b f k u in
+      let q : listed G d x ≡ b = stands-listed G d b e j s in
+      let r : listed G d y ≡ b = stands-listed G d b f k u in
       split (lt-or-le x y)
-      (λ l. absurd (s .real (sym r ∙ once-elim d x y (all-at _ (slotsInAll G) t y (stands-place G d b f k u)) l (q ∙ sym r))))
+      (λ l. absurd (s .real (sym r ∙ once-elim G d x y (all-at _ (slotsInAll G) t y (stands-place G d b f k u)) l (q ∙ sym r))))
       (λ l. split (lt-or-le y x)
-      (λ m. absurd (s .real (sym q ∙ once-elim d y x (all-at _ (slotsInAll G) t x (stands-place G d b e j s)) m (r ∙ sym q))))
+      (λ m. absurd (s .real (sym q ∙ once-elim G d y x (all-at _ (slotsInAll G) t x (stands-place G d b e j s)) m (r ∙ sym q))))
       (λ m. omega arith))
 
-  apart-order : (t : allBelow (alone G d) (G .entries) ≡ true) (e f : ℕ) → e < G .entries → used (d e) ≡ true → used (d f) ≡ true → SameFile (d e) (d f) → f < e → ⊥
+  apart-order : (t : allBelow (alone G d) (G .entries) ≡ true) (e f : ℕ) → e < G .entries → used (d e) ≡ true → used (d f) ≡ true → SameFile G (d e) (d f) → f < e → ⊥
   apart-order t e f l u v s h = alone-elim G d e f (all-at _ (G .entries) t e l) h (same-intro G (d e) (d f) u v s)
 
   pub consistent-facts : consistentRows G d ≡ true → Consistent G d
@@ -174,21 +174,21 @@ module _ (G : Geometry) (d : Rows) where
         once-entry = λ b e j f k s u. let q = once-place once b e j f k s u in let p = s .place in let r = u .place in omega arith;
         once-slot = λ b e j f k s u. let q = once-place once b e j f k s u in let p = s .place in let r = u .place in omega arith;
         apart = λ e f h l u v s. split (lt-or-le f e) (λ w. absurd (apart-order alones e f h u v s w))
-            (λ w. split (lt-or-le e f) (λ z. absurd (apart-order alones f e l v u (same-sym (d e) (d f) s) z)) (λ z. omega arith));
+            (λ w. split (lt-or-le e f) (λ z. absurd (apart-order alones f e l v u (same-sym G (d e) (d f) s) z)) (λ z. omega arith));
       }
 
   facts-entry : Consistent G d → (e : ℕ) → e < G .entries → entryRight G (d e) ≡ true
   facts-entry c e h =
       split (bool-cases (used (d e))) (λ u. fine-intro G (d e) (c .fine e h u)) (λ u. empty-right G (d e) (c .other e h u))
 
-  facts-once : Consistent G d → (y : ℕ) → y < slotsInAll G → listedOnce d y ≡ true
+  facts-once : Consistent G d → (y : ℕ) → y < slotsInAll G → listedOnce G d y ≡ true
   facts-once c y h =
-      once-intro d y
-      (λ x l q. split (eq-or-ne (listed d y) 0) (λ z. z)
-      (λ z. let s = stands-at G d x (listed d y) (omega arith) q z in
-      let u = stands-at G d y (listed d y) h refl z in
-      let a : x / slotCount ≡ y / slotCount = c .once-entry (listed d y) (x / slotCount) (x % slotCount) (y / slotCount) (y % slotCount) s u in
-      let b : x % slotCount ≡ y % slotCount = c .once-slot (listed d y) (x / slotCount) (x % slotCount) (y / slotCount) (y % slotCount) s u in
+      once-intro G d y
+      (λ x l q. split (eq-or-ne (listed G d y) 0) (λ z. z)
+      (λ z. let s = stands-at G d x (listed G d y) (omega arith) q z in
+      let u = stands-at G d y (listed G d y) h refl z in
+      let a : x / slotCount ≡ y / slotCount = c .once-entry (listed G d y) (x / slotCount) (x % slotCount) (y / slotCount) (y % slotCount) s u in
+      let b : x % slotCount ≡ y % slotCount = c .once-slot (listed G d y) (x / slotCount) (x % slotCount) (y / slotCount) (y % slotCount) s u in
       absurd (omega arith)))
 
   pub facts-alone : Consistent G d → (e : ℕ) → e < G .entries → alone G d e ≡ true

@@ -4,6 +4,7 @@ use mathlib.Core.Bool.{Bool, true, false}
 use Prim.Native.Nat.{ℕ, zero, suc, _+_, _*_, _/_, _%_, _<_}
 use native.Mathlib.Nat.{add-zero}
 use native.Mathlib.Omega.{arith}
+use lib.ListN.{getD}
 use borrow.Author.Tests.{eq-eqb}
 use Rattle.lists.specs.Cases.{bool-ext, refute, not-both}
 use Rattle.lists.specs.Tests.{_and_, and-left, and-right, and-both, and-then, and-assoc, and-fails-left, or-left, or-then}
@@ -21,7 +22,7 @@ use Rattle.chains.specs.Chain.{Chained, chained-skip, Indexed}
 -- entry e passes: it is right, its blocks do not stand before, and it is alone
 unfoldable pub entryFits : Geometry → Rows → ℕ → Bool
 entryFits G d e =
-    entryRight G (d e) and allBelow (λ (j : ℕ). listedOnce d (slotCount * e + j)) slotCount and alone G d e
+    entryRight G (d e) and allBelow (λ (j : ℕ). listedOnce G d (slotCount * e + j)) slotCount and alone G d e
 
 -- what stands after the first n entries
 pub record Passed (G : Geometry) (d : Rows) (n : ℕ) (marks chain : Bytes) : Type 0 where
@@ -30,13 +31,13 @@ pub record Passed (G : Geometry) (d : Rows) (n : ℕ) (marks chain : Bytes) : Ty
 
 -- ---- the directory is consistent when each entry passes
 module _ (G : Geometry) (d : Rows) where
-  slot-once : allBelow (entryFits G d) (G .entries) ≡ true → (x : ℕ) → x < slotsInAll G → listedOnce d x ≡ true
+  slot-once : allBelow (entryFits G d) (G .entries) ≡ true → (x : ℕ) → x < slotsInAll G → listedOnce G d x ≡ true
   unfolding entryFits
   slot-once t x h =
       let e : ℕ = x / slotCount in
       let j : ℕ = x % slotCount in
       let q : x ≡ slotCount * e + j = omega arith in
-      rw q (all-at (λ (k : ℕ). listedOnce d (slotCount * e + k)) slotCount (and-left _ _ (and-right _ _ (all-at _ (G .entries) t e (omega arith)))) j (omega arith))
+      rw q (all-at (λ (k : ℕ). listedOnce G d (slotCount * e + k)) slotCount (and-left _ _ (and-right _ _ (all-at _ (G .entries) t e (omega arith)))) j (omega arith))
 
   pub pass-all : consistentRows G d ≡ allBelow (entryFits G d) (G .entries)
   unfolding consistentRows entryFits
@@ -56,9 +57,9 @@ unfolding rowRight
 row-used r h = and-left _ _ h
 
 module _ (G : Geometry) (d : Rows) (e : ℕ) where
-  unused-once : used (d e) ≡ false → (j : ℕ) → j < slotCount → listedOnce d (slotCount * e + j) ≡ true
+  unused-once : used (d e) ≡ false → (j : ℕ) → j < slotCount → listedOnce G d (slotCount * e + j) ≡ true
   unfolding listedOnce
-  unused-once u j h = or-left _ _ (eq-eqb _ _ (listed-unused d e j h u))
+  unused-once u j h = or-left _ _ (eq-eqb _ _ (listed-unused G d e j h u))
 
   pub empty-fits : empty (d e) ≡ true → entryFits G d e ≡ true
   unfolding entryFits
@@ -77,12 +78,14 @@ module _ (G : Geometry) (d : Rows) (e : ℕ) where
   unfolding entryFits
   row-fails h r = and-fails-left _ _ (full-right h ∙ and-fails-left _ _ r)
 
-  module _ (l : Bytes) (bytes : (j : ℕ) → j < slotCount → slotOf (d e) j < markCount) (r : rowRight (d e) ≡ true) (m : BlockMarks G d (slotCount * e) l) where
+  -- on a disk whose block numbers are one byte
+  module _ (narrow : (r : Bytes) (j : ℕ) → j < slotCount → slotOf G r j ≡ getD r (16 + j) 0) (l : Bytes)
+      (bytes : (j : ℕ) → j < slotCount → slotOf G (d e) j < markCount) (r : rowRight (d e) ≡ true) (m : BlockMarks G d (slotCount * e) l) where
     full : empty (d e) ≡ false
     full = used-full (d e) (row-used (d e) r)
 
-    free : slotsFree l (d e) ≡ (slotsRight G (d e) and allBelow (λ (j : ℕ). listedOnce d (slotCount * e + j)) slotCount)
-    free = slots-right G d e l (row-used (d e) r) bytes m
+    free : slotsFree l (d e) ≡ (slotsRight G (d e) and allBelow (λ (j : ℕ). listedOnce G d (slotCount * e + j)) slotCount)
+    free = slots-right G d narrow e l (row-used (d e) r) bytes m
 
     pub slots-fail : slotsFree l (d e) ≡ false → entryFits G d e ≡ false
     unfolding entryFits
@@ -114,11 +117,12 @@ module _ (G : Geometry) (d : Rows) where
         let q : n + k + 1 ≡ n + suc k = omega arith in
         rw q at (passed-empty (n + k) marks chain (h k (omega arith)) (passed-all-empty k marks chain (λ i l. h i (omega arith)) p))
 
-  pub passed-used : (e : ℕ) (marks chain marks′ chain′ : Bytes) → rowRight (d e) ≡ true
-      → ((j : ℕ) → j < slotCount → slotOf (d e) j < markCount) → Passed G d e marks chain → marks′ ≡ markSlots marks (d e) slotCount
+  -- an entry that is used, on a disk whose block numbers are one byte
+  pub passed-used : (narrow : (r : Bytes) (j : ℕ) → j < slotCount → slotOf G r j ≡ getD r (16 + j) 0) (e : ℕ) (marks chain marks′ chain′ : Bytes) → rowRight (d e) ≡ true
+      → ((j : ℕ) → j < slotCount → slotOf G (d e) j < markCount) → Passed G d e marks chain → marks′ ≡ markSlots marks (d e) slotCount
       → Chained G d (e + 1) chain′ → Passed G d (e + 1) marks′ chain′
-  passed-used e marks chain marks′ chain′ r bytes p q l = record {
-    blocks = rw q (marks-row G d e marks (row-used (d e) r) bytes (p .blocks));
+  passed-used narrow e marks chain marks′ chain′ r bytes p q l = record {
+    blocks = rw q (marks-row G d narrow e marks (row-used (d e) r) bytes (p .blocks));
     chained = l;
   }
 

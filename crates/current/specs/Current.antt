@@ -44,7 +44,7 @@ fcb-fields fcb = sym (and-assoc _ _ _)
 module _ (G : Geometry) (d : Rows) (map : Bytes) (user : ℕ) (fcb : Bytes) where
   -- from the slots taken out and the test of them
   pub current-by : (e : ℕ) (es fs : Bytes) (f : Bool) → fcbRight fcb ≡ true → findFile G d user fcb 1 (extentOf fcb) ≡ At e
-      → es ≡ slotsOf (d e) → fs ≡ slotsOf fcb → f ≡ slotsFit map e es fs → cond f (At e) Nothing ≡ current G d map user fcb
+      → es ≡ slotsOf (d e) → fs ≡ slotsOf fcb → f ≡ slotsFit G map e es fs → cond f (At e) Nothing ≡ current G d map user fcb
   current-by e es fs f t q he hf h = rw (h, he, hf) (sym (current-fitting G d map user fcb e t q))
 
   -- the entry of a current FCB is the first of its file
@@ -54,5 +54,5 @@ module _ (G : Geometry) (d : Rows) (map : Bytes) (user : ℕ) (fcb : Bytes) wher
   pub current-low : (e : ℕ) → Current G d map user fcb e → e < G .entries
   current-low e c = current-file e c .below
 
-  pub current-slot : (e : ℕ) → Current G d map user fcb e → (j : ℕ) → j < slotCount → SlotOk map e (d e) fcb j
-  current-slot e c = slots-say map e (d e) fcb (c .fits)
+  pub current-slot : (e : ℕ) → Current G d map user fcb e → (j : ℕ) → j < slotCount → SlotOk G map e (d e) fcb j
+  current-slot e c = slots-say G map e (d e) fcb (c .fits)

@@ -22,7 +22,7 @@ fn fcb_right(fcb: &[u8]) -> bool
 
 // Whether an FCB's slots are simply the entry's own, as they are as a rule. The arrays stay in this function: handed on by value they
 // would be taken apart, byte by byte.
-fn slots_own(row: &[u8], fcb: &[u8]) -> bool
+pub fn slots_own(row: &[u8], fcb: &[u8]) -> bool
     requires { ⌜ (entryBytes ≤ length (now row)) × (entryBytes ≤ length (now fcb)) ⌝ }
     ensures { λ r. ⌜ r ≡ slotsSame (slotsOf (now (row .entry))) (slotsOf (now (fcb .entry))) ⌝ }
 {

@@ -37,7 +37,7 @@ use Rattle.fields.specs.Erased.{ErasedDisk, erased-empty, erased-unused, erased
 use Rattle.table.specs.Own.{Call, call21, call22}
 use Rattle.table.specs.Facts.{Fits, Writes, Makes, Own}
 use Rattle.table.specs.Accept.{passes}
-use Rattle.table.specs.Present.{target-present, numbers-extent}
+use Rattle.table.specs.Present.{stays-within, target-present, numbers-extent}
 use Rattle.table.specs.Carried.{effect-is}
 use Rattle.table.specs.Total.{InRange, CarriedOut, total-accepted}
 use Rattle.invariant.specs.Good.{Good, good-consistent, good-right}
@@ -68,7 +68,7 @@ module _ {G : Geometry} (S : Sound G) (asked : Asked) (number : asked .number �
   there = eq-eqb _ _ same-extent
 
   target : targetEntry G 21 (s .user) l ≡ At e
-  target = target-present G 21 (s .user) l e at there
+  target = target-present G 21 (s .user) l e at (stays-within G 21 (s .user) l there)
 
   unlocked : readOnlyThere G 21 (s .user) l ≡ false
   unfolding readOnlyThere _or_

@@ -8,11 +8,11 @@ use borrow.Author.Tests.{eq-eqb, ne-eqb, lt-ltb}
 use Rattle.lists.specs.Cases.{not-both}
 use Rattle.lists.specs.Tests.{_or_, and-both}
 use Rattle.lists.specs.Splice.{splice}
-use Rattle.format.specs.Diskette.{Bytes, Geometry, Sound, recordAt, slotCount, extents, extentRecords}
-use Rattle.format.specs.Entries.{slotOf, slotFor, rcOf, extentOf}
+use Rattle.format.specs.Diskette.{Bytes, Geometry, Sound, recordAt, extents, extentRecords}
+use Rattle.format.specs.Entries.{slotOf, slotFor, countOf, extentOf}
 use Rattle.format.specs.Fcb.{fcbBytes, fcbRight, randomOf}
 use Rattle.format.specs.declared.Found.the-variants.{At}
-use Rattle.facts.specs.Slots.{slot-for-below}
+use Rattle.facts.specs.Counts.{fcb-count-there}
 use Rattle.model.specs.declared.Asked.{Asked}
 use Rattle.model.specs.declared.Session.{Session}
 use Rattle.model.specs.declared.Plan.{Plan}
@@ -24,17 +24,16 @@ use Rattle.model.specs.Table.{verdict}
 use Rattle.model.specs.Calls.{readAt, reading, read}
 use Rattle.model.specs.Step.{effect, step}
 use Rattle.current.specs.Current.{fcb-says}
-use Rattle.fields.specs.Agree.{Agree, SameName, name-cong, slot-cong, extent-cong}
+use Rattle.fields.specs.Agree.{Agree, SameName, name-cong, slot-cong, extent-cong, count-cong}
 use Rattle.fields.specs.Numbers.{below-three, length-three, random-three}
-use Rattle.fields.specs.Target.{extent-random, record-random}
+use Rattle.fields.specs.Target.{extent-random, record-random, stays-extent}
 use Rattle.table.specs.Own.{call33}
 use Rattle.table.specs.Facts.{Fits, Reads, Ready}
 use Rattle.table.specs.Accept.{passes}
-use Rattle.table.specs.Present.{target-present}
+use Rattle.table.specs.Present.{stays-within, target-present, stay-block}
 use Rattle.table.specs.Plans.{There, Planned, stay, move, make, planned-read}
 use Rattle.table.specs.Carried.{effect-is, read-answered}
 use Rattle.invariant.specs.Good.{Good, good-consistent, good-right}
-use Rattle.invariant.specs.RecordCalls.{stay-block}
 use Rattle.effects.specs.View.{View, viewOf}
 use Rattle.effects.specs.Cur.{Cur, cur-current, Holds, recSlot}
 use Rattle.effects.specs.Entered.{right-like, like-cur}
@@ -64,8 +63,11 @@ module _ (f : Bytes) (r : ℕ) (hf : length f ≡ fcbBytes) where
   pub extent-atRecord : extentOf (atRecord f r) ≡ extentOf f
   extent-atRecord = extent-cong (atRecord f r) f (λ i a b. rest-atRecord i (omega arith) (omega arith))
 
-  pub slot-atRecord : (j : ℕ) → j < slotCount → slotOf (atRecord f r) j ≡ slotOf f j
+  pub slot-atRecord : (G : Geometry) (j : ℕ) → slotOf G (atRecord f r) j ≡ slotOf G f j
   slot-atRecord = slot-cong (atRecord f r) f (λ i a b. rest-atRecord i (omega arith) (omega arith))
+
+  count-atRecord : countOf (atRecord f r) ≡ countOf f
+  count-atRecord = count-cong (atRecord f r) f (λ i a b. rest-atRecord i (omega arith) (omega arith))
 
   name-atRecord : SameName (atRecord f r) 1 f 1
   name-atRecord = name-cong (atRecord f r) f (λ i a b. rest-atRecord i (omega arith) (omega arith))
@@ -74,10 +76,10 @@ module _ (f : Bytes) (r : ℕ) (hf : length f ≡ fcbBytes) where
   right-atRecord t =
       let k = fcb-says f t in
       right-like f (atRecord f r) name-atRecord (λ i a b. rest-atRecord i (omega arith) (omega arith))
-      (rw (rest-atRecord 15 (omega arith) (omega arith)) (k .numbers .rc)) (rw (rest-atRecord 32 (omega arith) (omega arith)) (k .cr)) t
+      (rw count-atRecord (k .numbers .rc)) (rw (rest-atRecord 32 (omega arith) (omega arith)) (k .cr)) t
 
   pub cur-atRecord : (G : Geometry) (s : View) (user e : ℕ) → Cur G s user f e → Cur G s user (atRecord f r) e
-  cur-atRecord G s user e c = like-cur G s user f (atRecord f r) e (right-atRecord (c .right)) name-atRecord extent-atRecord slot-atRecord c
+  cur-atRecord G s user e c = like-cur G s user f (atRecord f r) e (right-atRecord (c .right)) name-atRecord extent-atRecord (λ j h. slot-atRecord G j) c
 
 -- ---- the call: l is lent with that FCB
 -- A and H are 0, and the buffer is v
@@ -117,14 +119,15 @@ module _ {G : Geometry} (S : Sound G) (asked : Asked) (number : asked .number �
 
   block : blockThere G 33 (s .user) l ≡ recSlot G f rec
   block =
-      stay-block G 33 (s .user) l stays-there ∙ ap (slotOf (l .fcb)) target-slot ∙ ap (λ (x : Bytes). slotOf x (slotFor G (extentOf f) rec)) is
-      ∙ slot-atRecord f (recordNumber (extentOf f) rec) hf (slotFor G (extentOf f) rec) (slot-for-below S (extentOf f) rec (h .inside))
+      stay-block G 33 (s .user) l stays-there ∙ ap (slotOf G (l .fcb)) target-slot ∙ ap (λ (x : Bytes). slotOf G x (slotFor G (extentOf f) rec)) is
+      ∙ slot-atRecord f (recordNumber (extentOf f) rec) hf G (slotFor G (extentOf f) rec)
 
   counted : rec < countThere G 33 (s .user) l
   unfolding countThere
   counted =
-      let q : rcOf (l .fcb) ≡ rcOf f = ap (λ (x : Bytes). getD x 15 0) is ∙ rest-atRecord f (recordNumber (extentOf f) rec) hf 15 (omega arith) (omega arith) in
-      let k = h .counted in rw stays-there (omega arith)
+      let q : countOf (l .fcb) ≡ countOf f = ap countOf is ∙ count-atRecord f (recordNumber (extentOf f) rec) hf in
+      let own = fcb-count-there (l .fcb) (targetExtent 33 (l .fcb)) (stays-extent 33 (l .fcb) stays-there) in
+      let k = h .counted in rw (stays-within G 33 (s .user) l stays-there, own) (omega arith)
 
   there : recordThere G 33 (s .user) l ≡ true
   unfolding recordThere
@@ -133,7 +136,7 @@ module _ {G : Geometry} (S : Sound G) (asked : Asked) (number : asked .number �
   reads : Reads G l s 33
   reads = record {
     entry = record { place = e; is = at };
-    target = record { place = e; is = target-present G 33 (s .user) l e at stays-there };
+    target = record { place = e; is = target-present G 33 (s .user) l e at (stays-within G 33 (s .user) l stays-there) };
     extent = rw target-extent low;
     there = there;
   }

@@ -54,7 +54,7 @@ use Rattle.demands.specs.Accepted.{refused-says, carried-says}
 pub record MayWrite (G : Geometry) (n : ℕ) (l : Lent) (s : Session) (o : Outcome) (d : ℕ) : Type 0 where
   pub accepts : acceptedAnswer n (o .answer) ≡ true
   pub writes : oneOf n writeCalls ≡ true
-  pub one : OneRecord G (l .image) (l .map) (names n (s .user) (l .fcb)) (slotOf (o .lent .fcb) (targetSlot G n (l .fcb))) (targetRecord n (l .fcb)) d
+  pub one : OneRecord G (l .image) (l .map) (names n (s .user) (l .fcb)) (slotOf G (o .lent .fcb) (targetSlot G n (l .fcb))) (targetRecord n (l .fcb)) d
 
 pub record StepOk (G : Geometry) (n : ℕ) (l : Lent) (s : Session) (o : Outcome) : Type 0 where
   pub effect : Effect G (viewOf G (l .image) (l .map)) (viewOf G (o .lent .image) (o .lent .map)) (names n (s .user) (l .fcb))
@@ -140,7 +140,7 @@ module _ {G : Geometry} (S : Sound G) (argument : ℕ) (l : Lent) (s : Session) 
   closed-carries c =
       let e : ℕ = c .entry .place in
       rw (c .entry .is)
-      (by-name 16 (closedAt G s l e) (settledBy (rowsOf G l e) (l .fcb)) refl refl (λ u. rw (present-before S 16 l s g f e (c .entry .is) WritesNone))
+      (by-name 16 (closedAt G s l e) (settledBy G (rowsOf G l e) (l .fcb)) refl refl (λ u. rw (present-before S 16 l s g f e (c .entry .is) WritesNone))
       (closed-change S (l .image) (l .map) g (s .user) (f .user-low) (l .fcb) e (present-cur S 16 l s g f e (c .entry .is) WritesNone) WritesNone))
 
   -- 20 and 33
@@ -161,7 +161,7 @@ module _ {G : Geometry} (S : Sound G) (argument : ℕ) (l : Lent) (s : Session) 
         accepts = a;
         writes = o;
         one = one-more G (l .image) (l .map) (byName (s .user) (l .fcb)) (names n (s .user) (l .fcb)) more
-            (slotOf (written G s l n .lent .fcb) (targetSlot G n (l .fcb))) (targetRecord n (l .fcb)) d x;
+            (slotOf G (written G s l n .lent .fcb) (targetSlot G n (l .fcb))) (targetRecord n (l .fcb)) d x;
       })
       (λ v x h. ap (λ (y : Book). y x) (b v)) (r .change)
 

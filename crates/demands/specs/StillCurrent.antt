@@ -4,13 +4,14 @@ use mathlib.Core.Path.{_≡_, refl, sym, _∙_, subst}
 use mathlib.Core.Bool.{true}
 use mathlib.Core.List.{List, [], _∷_}
 use Prim.Native.Nat.{ℕ, _≤_}
+use native.Mathlib.Omega.{arith}
 use Rattle.lists.specs.Tests.{_or_}
 use Rattle.format.specs.Diskette.{Bytes, Geometry, Sound}
 use Rattle.format.specs.Entries.{entryAt, exOf}
 use Rattle.format.specs.Fcb.{crOf, current}
 use Rattle.facts.specs.Found.{FoundAt}
 use Rattle.format.specs.declared.Found.the-variants.{At}
-use Rattle.rows.specs.Entries.{entry-stored}
+use Rattle.rows.specs.Entries.{entry-stored, length-entryAt}
 use Rattle.facts.specs.Find.{file-says, empty-says}
 use Rattle.model.specs.declared.Session.{Session}
 use Rattle.model.specs.Lent.{Lent, rowsOf, Outcome}
@@ -20,7 +21,7 @@ use Rattle.model.specs.Table.{oneOf, askedEntry}
 use Rattle.model.specs.Calls.{openedAt, opened, closedAt, closed, createdAt, created, read, written}
 use Rattle.fields.specs.Fine.{fine-made}
 use Rattle.fields.specs.Making.{length-madeRow, user-made}
-use Rattle.facts.specs.Naming.{file-user}
+use Rattle.facts.specs.Naming.{file-user, file-run}
 use Rattle.consistency.specs.Naming.{file-used}
 use Rattle.table.specs.First.{_&_}
 use Rattle.table.specs.Own.{Call, call15, call16, call20, call21, call22, call33, call34, told-apart, at-call}
@@ -58,9 +59,10 @@ module _ {G : Geometry} (S : Sound G) (argument : ℕ) (l : Lent) (s : Session) 
       rw (o .entry .is)
       record {
         entry = e;
-        cur = entered-cur G (viewOf G (l .image) (l .map)) (s .user) (l .fcb) (rowsOf G l e) e (k .below) refl
-            (file-user G (s .user) (l .fcb) 1 (exOf (l .fcb)) (rowsOf G l e) (k .holds)) (f .fcb-long)
-            (g .inv .dir .fine e (k .below) (file-used G (s .user) (l .fcb) 1 (exOf (l .fcb)) (rowsOf G l e) (k .holds) (f .user-low))) cr;
+        cur = entered-cur G (viewOf G (l .image) (l .map)) (s .user) (l .fcb) (rowsOf G l e) (exOf (l .fcb)) e (k .below) refl
+            (file-user G (s .user) (l .fcb) 1 (exOf (l .fcb)) (rowsOf G l e) (k .holds)) (f .fcb-long) (length-entryAt S (l .image) (g .image-long) e (k .below))
+            (g .inv .dir .fine e (k .below) (file-used G (s .user) (l .fcb) 1 (exOf (l .fcb)) (rowsOf G l e) (k .holds) (f .user-low)))
+            (file-run G (s .user) (l .fcb) 1 (exOf (l .fcb)) (rowsOf G l e) (k .holds)) (let x = o .ex in omega arith) cr;
       }
 
   -- 16

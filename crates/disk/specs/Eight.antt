@@ -4,15 +4,15 @@ use mathlib.Core.Path.{_≡_, refl, ap, sym, _∙_}
 use mathlib.Core.Bool.{Bool}
 use mathlib.Core.List.{List, [], _∷_}
 use mathlib.Core.Logic.{_⊎_}
-use Prim.Native.Nat.{ℕ, _+_, _-_, _≤_, _<_}
+use Prim.Native.Nat.{ℕ, _+_, _-_, _*_, _%_, _≤_, _<_}
 use native.Mathlib.Omega.{arith}
 use lib.Dec.{eqb, leb}
 use lib.ListN.{getD}
 use borrow.Author.Tests.{eqb-true, leb-true}
 use Rattle.lists.specs.Table.{everyFrom, table-at}
 use Rattle.lists.specs.Tests.{_and_}
-use Rattle.format.specs.Diskette.{skew, skewed, eightInch, Sound, recordBytes, imageBytes, offsetOf}
-use Rattle.disk.specs.Places.{blockRecords, spare-fits, spare-apart}
+use Rattle.format.specs.Diskette.{skew, skewed, eightInch, Sound, recordBytes, imageBytes, sectorsBefore, offsetOf, extentRecords, slotsOn}
+use Rattle.disk.specs.Places.{blockRecords, spare-apart}
 
 -- the logical sector, counted from 0, of each physical one
 logical : List ℕ
@@ -42,6 +42,16 @@ skewed-back s h = eqb-true (getD logical (skewed s - 1) 0) s (table-at back skew
 pub skewed-once : (s t : ℕ) → s < eightInch .sectors → t < eightInch .sectors → skewed s ≡ skewed t → s ≡ t
 skewed-once s t hs ht e = sym (skewed-back s hs) ∙ ap (λ (p : ℕ). getD logical (p - 1) 0) e ∙ skewed-back t ht
 
+eight-slots : extentRecords ≤ slotsOn eightInch * eightInch .perBlock
+unfolding slotsOn
+eight-slots = omega arith
+
+-- every record of a block, and six more, lies in the image
+eight-place : (d : ℕ) → d < blockRecords eightInch + 6 → sectorsBefore eightInch d < eightInch .records
+unfolding sectorsBefore
+eight-place d h =
+    let s : d % 26 < 26 = omega arith in let a = skewed-low (d % 26) s in let b = skewed-high (d % 26) s in omega arith
+
 pub eight-sound : Sound eightInch
 eight-sound = record {
   some-sector = omega arith;
@@ -49,11 +59,11 @@ eight-sound = record {
   physical-low = skewed-low;
   physical-high = skewed-high;
   physical-once = skewed-once;
-  tracks-hold = omega arith;
   area-holds = omega arith;
   area-some = omega arith;
   area-below = omega arith;
-  slots-hold = omega arith;
+  image-holds = λ d h. eight-place d (omega arith);
+  slots-hold = eight-slots;
 }
 
 -- the last six logical sectors of track 76, as the disk records past the last block's: they lie in the image, and no record of a
@@ -61,4 +71,5 @@ eight-sound = record {
 pub six-spare : (x : ℕ) → blockRecords eightInch ≤ x → x < blockRecords eightInch + 6
     → (offsetOf eightInch x + recordBytes ≤ imageBytes eightInch)
     × ((d : ℕ) → d < blockRecords eightInch → (offsetOf eightInch d + recordBytes ≤ offsetOf eightInch x) ⊎ (offsetOf eightInch x + recordBytes ≤ offsetOf eightInch d))
-six-spare x a b = (spare-fits eight-sound x (omega arith), λ d h. spare-apart eight-sound d x h a)
+unfolding offsetOf
+six-spare x a b = (let p = eight-place x (omega arith) in omega arith, λ d h. spare-apart eight-sound d x h a)

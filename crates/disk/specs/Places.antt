@@ -2,19 +2,15 @@
 use mathlib.Core.Path.{_≡_}
 use mathlib.Core.Logic.{_⊎_, inl, inr}
 use Prim.Native.Nat.{ℕ, _+_, _-_, _*_, _/_, _%_, _≤_, _<_}
-use native.Mathlib.Nat.{mod-lt, mul-comm, mul-add, mul-div-le}
+use native.Mathlib.Nat.{mod-lt, mul-comm, mul-add}
 use native.Mathlib.Omega.{arith}
 use Rattle.lists.specs.Cases.{split, lt-or-le}
-use Rattle.lists.specs.Product.{digits-below, digits-first, digits-last, factor-below, first-below, same-digits}
+use Rattle.lists.specs.Product.{digits-below, digits-first, digits-last, same-digits}
 use Rattle.format.specs.Diskette.{Geometry, Sound, recordBytes, imageBytes, diskRecord, sectorsBefore, offsetOf}
 
 -- the records of all blocks
 abbrev pub blockRecords : Geometry → ℕ
 blockRecords G = G .perBlock * G .blocks
-
--- disk record d lies on one of the tracks
-abbrev pub OnTrack : Geometry → ℕ → Type 0
-OnTrack G d = G .reserved + d / G .sectors < G .tracks
 
 -- ---- the records of blocks
 pub block-record : (G : Geometry) (b k : ℕ) → b < G .blocks → k < G .perBlock → diskRecord G b k < blockRecords G
@@ -25,11 +21,6 @@ pub block-once : (G : Geometry) (b k c l : ℕ) → k < G .perBlock → l < G .p
 block-once G b k c l hk hl e = (digits-first (G .perBlock) b c k l hk hl e, digits-last (G .perBlock) b c k l hk hl e)
 
 module _ {G : Geometry} (S : Sound G) where
-  pub block-on-track : (d : ℕ) → d < blockRecords G → OnTrack G d
-  block-on-track d h =
-      factor-below (G .sectors) (G .reserved + d / G .sectors) (G .tracks)
-      (omega (arith, S .tracks-hold, mul-add (G .sectors) (G .reserved) (d / G .sectors), mul-div-le d (G .sectors)))
-
   -- the digits of a place to the base of a track's sectors: the track, and the physical sector counted from 0
   sector : ℕ → ℕ
   sector d = d % G .sectors
@@ -49,13 +40,9 @@ module _ {G : Geometry} (S : Sound G) where
   unfolding sectorsBefore digit sector
   before-digits d = omega (arith, S .physical-low (d % G .sectors) (mod-lt d (S .some-sector)))
 
-  pub track-fits : (d : ℕ) → OnTrack G d → offsetOf G d + recordBytes ≤ imageBytes G
-  unfolding offsetOf
-  track-fits d h =
-      omega (arith, before-digits d, digits-below (G .sectors) (G .reserved + d / G .sectors) (G .tracks) (digit d) h (digit-below d), mul-comm (G .sectors) (G .tracks))
-
   pub offset-fits : (d : ℕ) → d < blockRecords G → offsetOf G d + recordBytes ≤ imageBytes G
-  offset-fits d h = track-fits d (block-on-track d h)
+  unfolding offsetOf
+  offset-fits d h = omega (arith, S .image-holds d h)
 
   -- no record lies in the system tracks
   pub offset-past : (d : ℕ) → G .reserved * G .sectors * recordBytes ≤ offsetOf G d
@@ -86,9 +73,6 @@ module _ {G : Geometry} (S : Sound G) where
   unfolding offsetOf
   offset-once d e q = before-once d e (omega arith)
 
-  -- ---- the sectors that belong to no block: they lie in the image, and no record of a block shares a byte with them
+  -- ---- the sectors that belong to no block: no record of a block shares a byte with them
   pub spare-apart : (d x : ℕ) → d < blockRecords G → blockRecords G ≤ x → (offsetOf G d + recordBytes ≤ offsetOf G x) ⊎ (offsetOf G x + recordBytes ≤ offsetOf G d)
   spare-apart d x hd hx = offset-apart d x (λ q. omega arith)
-
-  pub spare-fits : (x : ℕ) → x < G .sectors * (G .tracks - G .reserved) → offsetOf G x + recordBytes ≤ imageBytes G
-  spare-fits x h = let l : x / G .sectors < G .tracks - G .reserved = first-below (G .sectors) x (G .tracks - G .reserved) h in track-fits x (omega arith)

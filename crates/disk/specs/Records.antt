@@ -6,10 +6,10 @@ use native.Mathlib.Omega.{arith}
 use lib.ListN.{length, getD}
 use Rattle.lists.specs.Cases.{split}
 use Rattle.lists.specs.Splice.{part, splice, length-part, length-splice, part-splice-same, part-splice-other, getD-splice-out}
-use Rattle.format.specs.Diskette.{Bytes, Geometry, Sound, recordBytes, imageBytes, offsetOf, recordAt, withRecord}
+use Rattle.format.specs.Diskette.{Bytes, Geometry, Sound, recordBytes, offsetOf, recordAt, withRecord, Long}
 use Rattle.disk.specs.Places.{blockRecords, offset-fits, offset-apart}
 
-module _ {G : Geometry} (S : Sound G) (img : Bytes) (long : length img ≡ imageBytes G) (d : ℕ) (below : d < blockRecords G) where
+module _ {G : Geometry} (S : Sound G) (img : Bytes) (long : Long G img) (d : ℕ) (below : d < blockRecords G) where
   pub length-recordAt : length (recordAt G img d) ≡ recordBytes
   unfolding recordAt
   length-recordAt = length-part img (offsetOf G d) recordBytes (omega (arith, offset-fits S d below))

@@ -28,11 +28,11 @@ abbrev pub nothingHeld : Book
 nothingHeld b = 0
 
 -- the block is the FCB's in a slot where the entry has 0
-unfoldable pub settles : Bytes → Bytes → ℕ → Bool
-settles row fcb b = anyBelow (λ (j : ℕ). takesSlot (slotsOf row) (slotsOf fcb) j and eqb (slotOf fcb j) b) slotCount
+unfoldable pub settles : Geometry → Bytes → Bytes → ℕ → Bool
+settles G row fcb b = anyBelow (λ (j : ℕ). takesSlot G (slotsOf row) (slotsOf fcb) j and eqb (slotOf G fcb j) b) slotCount
 
-unfoldable pub settledBy : Bytes → Bytes → Book → Book
-settledBy row fcb u b = cond (settles row fcb b) 0 (u b)
+unfoldable pub settledBy : Geometry → Bytes → Bytes → Book → Book
+settledBy G row fcb u b = cond (settles G row fcb b) 0 (u b)
 
 -- what is held for the picked entries is settled
 unfoldable pub droppedFor : (ℕ → Bool) → Book → Book
@@ -53,7 +53,7 @@ module _ (G : Geometry) (n user : ℕ) (l : Lent) where
   entryBefore = numberOf (G .entries) (findFile G (rowsOf G l) user (l .fcb) 1 (extentOf (l .fcb)))
 
   unfoldable pub closedBook : Book → Book
-  closedBook u = settledBy (rowsOf G l entryBefore) (l .fcb) u
+  closedBook u = settledBy G (rowsOf G l entryBefore) (l .fcb) u
 
   -- a record call that moves closes first
   unfoldable pub movedBook : Book → Book
@@ -72,7 +72,7 @@ module _ (G : Geometry) (n user : ℕ) (l : Lent) where
     unfoldable pub writtenBook : Book → Book
     writtenBook u =
         cond (eqb (blockThere G n user l) 0)
-        (enteredFor (slotOf (left .fcb) (targetSlot G n (l .fcb))) entryAfter (targetSlot G n (l .fcb)) (movedBook u)) (movedBook u)
+        (enteredFor (slotOf G (left .fcb) (targetSlot G n (l .fcb))) entryAfter (targetSlot G n (l .fcb)) (movedBook u)) (movedBook u)
 
     -- the book after an accepted call
     unfoldable pub bookBy : Book → Book

@@ -6,13 +6,13 @@ use Prim.Native.Nat.{ℕ, _≤_, _<_}
 use native.Mathlib.Omega.{arith}
 use lib.ListN.{length, getD}
 use Rattle.format.specs.Diskette.{Bytes, Geometry, Sound, entryBytes, slotCount, extents}
-use Rattle.format.specs.Entries.{entryAt, withEntry, slotOf, userOf, extentOf, used, empty, named, isFile, findEmpty}
+use Rattle.format.specs.Entries.{entryAt, withEntry, slotOf, userOf, extentOf, runOf, used, empty, named, isFile, findEmpty}
 use Rattle.format.specs.Notes.{freeNote, noteAt}
 use Rattle.format.specs.Found.{numberOf}
 use Rattle.format.specs.Fcb.{fcbBytes}
 use Rattle.format.specs.declared.Found.the-variants.{At, Nothing}
 use Rattle.facts.specs.Names.{like-at}
-use Rattle.consistency.specs.Facts.{Fine}
+use Rattle.consistency.specs.Facts.{Fine, SameFile}
 use Rattle.consistency.specs.Reflect.{empty-elsewhere}
 use Rattle.rows.specs.Entries.{length-entryAt}
 use Rattle.facts.specs.Find.{empty-says}
@@ -20,17 +20,19 @@ use Rattle.model.specs.declared.Session.{Session}
 use Rattle.model.specs.Lent.{Lent, rowsOf}
 use Rattle.model.specs.Closing.{closedImage, closedMap}
 use Rattle.model.specs.Entering.{entered, nextRow}
-use Rattle.model.specs.Target.{targetExtent, targetSlot, presentEntry, stays, targetEntry, blockThere, moved, made}
-use Rattle.fields.specs.Agree.{SameName}
+use Rattle.model.specs.Target.{targetExtent, targetSlot, presentEntry, stays, within, targetEntry, blockThere, moved, made}
+use Rattle.lists.specs.Cases.{split, bool-cases}
+use Rattle.fields.specs.Agree.{SameName, isFile-cong}
 use Rattle.fields.specs.Fine.{fine-next}
 use Rattle.fields.specs.Making.{length-nextRow, slot-next, user-next, extent-next}
 use Rattle.fields.specs.Entering.{length-entered, slot-entered, first-entered, name-entered, extent-entered}
-use Rattle.facts.specs.Naming.{named-like, file-named, file-user, file-extent}
-use Rattle.fields.specs.Target.{stays-extent, moves-extent}
+use Rattle.facts.specs.Naming.{named-like, file-named, file-user, file-run}
+use Rattle.fields.specs.Target.{stays-extent}
 use Rattle.table.specs.Facts.{Fits}
 use Rattle.invariant.specs.Good.{Good}
-use Rattle.invariant.specs.CloseGood.{closed-free}
-use Rattle.invariant.specs.RecordCalls.{present-current, stay-block, move-block, make-block, slot-below, target-file, target-below, target-used, next-file, good-next}
+use Rattle.invariant.specs.CloseGood.{closed-free, closed-file}
+use Rattle.table.specs.Present.{stay-block, within-block, beyond-block, make-block}
+use Rattle.invariant.specs.RecordCalls.{present-current, move-block, arrived-used, slot-below, target-file, target-below, target-used, next-file, good-next}
 use Rattle.effects.specs.View.{viewOf, listed}
 use Rattle.effects.specs.Cur.{Cur, current-cur, cur-uses, cur-mine}
 use Rattle.effects.specs.Where.{Theirs, was-theirs}
@@ -54,7 +56,7 @@ pub record CameTo (G : Geometry) (n user : ℕ) (l there : Lent) (t : ℕ) (W : 
   pub name : SameName (there .fcb) 1 (l .fcb) 1
   pub buffer : there .buffer ≡ l .buffer
   -- the block in the target's slot, whose it was, and that free blocks are free still
-  pub slot : slotOf (there .fcb) (targetSlot G n (l .fcb)) ≡ blockThere G n user l
+  pub slot : slotOf G (there .fcb) (targetSlot G n (l .fcb)) ≡ blockThere G n user l
   pub theirs : (blockThere G n user l ≡ 0 → ⊥) → Theirs G (l .image) (l .map) (byName user (l .fcb)) (blockThere G n user l)
   pub free : (b : ℕ) → b < G .blocks → noteAt (l .map) b ≡ freeNote → noteAt (there .map) b ≡ freeNote
   -- the book's change, as the calls tell it
@@ -77,7 +79,7 @@ module _ {G : Geometry} (S : Sound G) (n : ℕ) (l : Lent) (s : Session) (g : Go
   place = slot-below S n l s g f e at
 
   -- ---- it stays
-  stay-slot : stays n (l .fcb) ≡ true → slotOf (l .fcb) (targetSlot G n (l .fcb)) ≡ blockThere G n (s .user) l
+  stay-slot : stays n (l .fcb) ≡ true → slotOf G (l .fcb) (targetSlot G n (l .fcb)) ≡ blockThere G n (s .user) l
   stay-slot t = sym (stay-block G n (s .user) l t)
 
   stay-book : stays n (l .fcb) ≡ true → (u : Book) → movedBook G n (s .user) l u ≡ u
@@ -102,21 +104,21 @@ module _ {G : Geometry} (S : Sound G) (n : ℕ) (l : Lent) (s : Session) (g : Go
   }
 
   -- ---- it moves to an entry of the file
-  closed-by : Change G (byName (s .user) (l .fcb)) W (settledBy (rowsOf G l e) (l .fcb)) (l .image) (l .map)
-      (closedImage G (l .image) e (l .fcb)) (closedMap (rowsOf G l e) (l .fcb) (l .map))
+  closed-by : Change G (byName (s .user) (l .fcb)) W (settledBy G (rowsOf G l e) (l .fcb)) (l .image) (l .map)
+      (closedImage G (l .image) e (l .fcb)) (closedMap G (rowsOf G l e) (l .fcb) (l .map))
   closed-by = closed-change S (l .image) (l .map) g (s .user) (f .user-low) (l .fcb) e present-cur W
 
-  still-free : (b : ℕ) → b < G .blocks → noteAt (l .map) b ≡ freeNote → noteAt (closedMap (rowsOf G l e) (l .fcb) (l .map)) b ≡ freeNote
+  still-free : (b : ℕ) → b < G .blocks → noteAt (l .map) b ≡ freeNote → noteAt (closedMap G (rowsOf G l e) (l .fcb) (l .map)) b ≡ freeNote
   still-free = closed-free S (l .image) (l .map) g (s .user) (f .user-low) (l .fcb) e (present-current S n l s g f e at)
 
-  move-book : stays n (l .fcb) ≡ false → (u : Book) → movedBook G n (s .user) l u ≡ settledBy (rowsOf G l e) (l .fcb) u
+  move-book : stays n (l .fcb) ≡ false → (u : Book) → movedBook G n (s .user) l u ≡ settledBy G (rowsOf G l e) (l .fcb) u
   unfolding movedBook closedBook
   move-book go u = rw (go, present-before)
 
   -- an FCB that entered row t of the file, wherever that row came from
-  entered-name : (row : Bytes) → named false (s .user) (l .fcb) 1 row ≡ true → SameName (entered (l .fcb) row) 1 (l .fcb) 1
-  entered-name row nm i h =
-      name-entered (l .fcb) row (let q : length (l .fcb) ≡ 36 = f .fcb-long in omega arith) i h
+  entered-name : (row : Bytes) (ext : ℕ) → named false (s .user) (l .fcb) 1 row ≡ true → SameName (entered (l .fcb) row ext) 1 (l .fcb) 1
+  entered-name row ext nm i h =
+      name-entered (l .fcb) row ext (let q : length (l .fcb) ≡ 36 = f .fcb-long in omega arith) i h
       ∙ sym (like-at (l .fcb) 1 row 1 (named-like false (s .user) (l .fcb) 1 row nm) i h)
 
   module _ (go : stays n (l .fcb) ≡ false) (t : ℕ) (target : targetEntry G n (s .user) l ≡ At t) where
@@ -129,42 +131,59 @@ module _ {G : Geometry} (S : Sound G) (n : ℕ) (l : Lent) (s : Session) (g : Go
     uses : used (rowsOf G l t) ≡ true
     uses = target-used S n l s g f e at t target
 
-    -- it is another entry than the present one
-    other : t ≡ e → ⊥
-    other q =
-        moves-extent n (l .fcb) go
-        (sym (file-extent G (s .user) (l .fcb) 1 (targetExtent n (l .fcb)) (rowsOf G l t) file)
-        ∙ ap (λ (x : ℕ). extentOf (rowsOf G l x)) q ∙ file-extent G (s .user) (l .fcb) 1 (extentOf (l .fcb)) (rowsOf G l e) (present-cur .file))
+    -- its row once the present entry is closed, which may be the same
+    arrived : Bytes
+    arrived = entryAt G (closedImage G (l .image) e (l .fcb)) t
 
-    target-stays : entryAt G (closedImage G (l .image) e (l .fcb)) t ≡ rowsOf G l t
-    target-stays = row-closedImage-other S (l .image) (g .image-long) e (present-cur .low) (l .fcb) t below other
+    arrived-like : SameFile G arrived (rowsOf G l t)
+    unfolding arrived
+    arrived-like = closed-file S (l .image) (l .map) g (s .user) (f .user-low) (l .fcb) e (present-current S n l s g f e at) t below
 
-    move-slot : slotOf (rowsOf G l t) (targetSlot G n (l .fcb)) ≡ blockThere G n (s .user) l
-    move-slot = sym (move-block G n (s .user) l t go target)
+    arrived-file : isFile G (s .user) (l .fcb) 1 (targetExtent n (l .fcb)) arrived ≡ true
+    arrived-file = isFile-cong G (s .user) (l .fcb) 1 (targetExtent n (l .fcb)) arrived (rowsOf G l t) arrived-like ∙ file
 
+    arrived-named : byName (s .user) (l .fcb) arrived ≡ true
+    arrived-named = file-named G (s .user) (l .fcb) 1 (targetExtent n (l .fcb)) arrived arrived-file
+
+    arrived-long : length arrived ≡ entryBytes
+    unfolding arrived
+    arrived-long = length-entryAt S (closedImage G (l .image) e (l .fcb)) (closed-by .good .image-long) t below
+
+    arrived-fine : Fine G arrived
+    unfolding arrived
+    arrived-fine = closed-by .good .inv .dir .fine t below (arrived-used S n l s g f e at t target)
+
+    move-slot : slotOf G arrived (targetSlot G n (l .fcb)) ≡ blockThere G n (s .user) l
+    unfolding arrived
+    move-slot = sym (move-block S n l s g f e at t target)
+
+    -- the block there was the FCB's, where its entry is the target's, or the target's
     move-theirs : (blockThere G n (s .user) l ≡ 0 → ⊥) → Theirs G (l .image) (l .map) (byName (s .user) (l .fcb)) (blockThere G n (s .user) l)
     move-theirs z =
-        was-theirs t (listed (targetSlot G n (l .fcb)) record { entry = below; place = place; uses = uses; is = move-slot; real = z })
-        (file-named G (s .user) (l .fcb) 1 (targetExtent n (l .fcb)) (rowsOf G l t) file)
+        split (bool-cases (within G n (l .fcb)))
+        (λ w. let q = within-block G n (s .user) l w in rw q (was-theirs e
+        (cur-mine G (viewOf G (l .image) (l .map)) (s .user) (f .user-low) (l .fcb) e present-cur (targetSlot G n (l .fcb)) place (λ y. z (q ∙ y))) present-named))
+        (λ w. was-theirs t (listed (targetSlot G n (l .fcb)) record { entry = below; place = place; uses = uses; is = sym (beyond-block G n (s .user) l t w target); real = z })
+        (file-named G (s .user) (l .fcb) 1 (targetExtent n (l .fcb)) (rowsOf G l t) file))
 
-    pub move-came : CameTo G n (s .user) l (moved G l e t) t W (settledBy (rowsOf G l e) (l .fcb))
-    unfolding moved
-    move-came =
+    pub move-came : targetExtent n (l .fcb) < extents
+        → CameTo G n (s .user) l (moved G (targetExtent n (l .fcb)) l e t) t W (settledBy G (rowsOf G l e) (l .fcb))
+    unfolding moved arrived
+    move-came low =
+        let ext : ℕ = targetExtent n (l .fcb) in
         let hf : 32 ≤ length (l .fcb) = (let q : length (l .fcb) ≡ 36 = f .fcb-long in omega arith) in
-        let row : Bytes = rowsOf G l t in
-        let nm = file-named G (s .user) (l .fcb) 1 (targetExtent n (l .fcb)) row file in
         record {
           change = closed-by;
-          cur = entered-cur G (viewOf G (closedImage G (l .image) e (l .fcb)) (closedMap (rowsOf G l e) (l .fcb) (l .map))) (s .user) (l .fcb) row t below target-stays
-              (file-user G (s .user) (l .fcb) 1 (targetExtent n (l .fcb)) row file) (f .fcb-long) (g .inv .dir .fine t below uses)
-              (fcb-says (l .fcb) (present-cur .right) .cr);
-          mine = ap (byName (s .user) (l .fcb)) target-stays ∙ nm;
-          extent = extent-entered (l .fcb) row hf ∙ file-extent G (s .user) (l .fcb) 1 (targetExtent n (l .fcb)) row file;
-          long = length-entered (l .fcb) row hf ∙ f .fcb-long;
-          first = first-entered (l .fcb) row hf;
-          name = entered-name row nm;
+          cur = entered-cur G (viewOf G (closedImage G (l .image) e (l .fcb)) (closedMap G (rowsOf G l e) (l .fcb) (l .map))) (s .user) (l .fcb) arrived ext t below refl
+              (file-user G (s .user) (l .fcb) 1 ext arrived arrived-file) (f .fcb-long) arrived-long arrived-fine
+              (file-run G (s .user) (l .fcb) 1 ext arrived arrived-file) low (fcb-says (l .fcb) (present-cur .right) .cr);
+          mine = arrived-named;
+          extent = extent-entered (l .fcb) arrived ext hf (let q = arrived-long in omega arith);
+          long = length-entered (l .fcb) arrived ext hf ∙ f .fcb-long;
+          first = first-entered (l .fcb) arrived ext hf;
+          name = entered-name arrived ext arrived-named;
           buffer = refl;
-          slot = slot-entered (l .fcb) row hf (targetSlot G n (l .fcb)) place ∙ move-slot;
+          slot = slot-entered (l .fcb) arrived ext hf G (targetSlot G n (l .fcb)) ∙ move-slot;
           theirs = move-theirs;
           free = still-free;
           book = move-book go;
@@ -216,7 +235,7 @@ module _ {G : Geometry} (S : Sound G) (n : ℕ) (l : Lent) (s : Session) (g : Go
     mid = closedImage G (l .image) e (l .fcb)
 
     mid-map : Bytes
-    mid-map = closedMap (rowsOf G l e) (l .fcb) (l .map)
+    mid-map = closedMap G (rowsOf G l e) (l .fcb) (l .map)
 
     void : empty (entryAt G mid t) ≡ true
     unfolding mid
@@ -239,35 +258,35 @@ module _ {G : Geometry} (S : Sound G) (n : ℕ) (l : Lent) (s : Session) (g : Go
     unfolding new
     next-here = made-here S (byName (s .user) (l .fcb)) mid mid-map mid-good t room-below void next whole next-named
 
-    closed-then-made : Change G (byName (s .user) (l .fcb)) W (settledBy (rowsOf G l e) (l .fcb)) (l .image) (l .map) new mid-map
+    closed-then-made : Change G (byName (s .user) (l .fcb)) W (settledBy G (rowsOf G l e) (l .fcb)) (l .image) (l .map) new mid-map
     unfolding mid mid-map new
     closed-then-made =
-        then-change G (byName (s .user) (l .fcb)) W (settledBy (rowsOf G l e) (l .fcb)) asItWas (l .image) (l .map) mid mid-map new mid-map (g .inv .dir) closed-by
+        then-change G (byName (s .user) (l .fcb)) W (settledBy G (rowsOf G l e) (l .fcb)) asItWas (l .image) (l .map) mid mid-map new mid-map (g .inv .dir) closed-by
         (made-change S (byName (s .user) (l .fcb)) mid mid-map mid-good t room-below void next whole next-named new-good W)
         (made-names-stay S (byName (s .user) (l .fcb)) mid mid-map mid-good t room-below void next whole next-named)
 
     make-slot : blockThere G n (s .user) l ≡ 0
-    make-slot = make-block G n (s .user) l go none
+    make-slot = make-block G n (s .user) l e at none
 
-    next-slot : slotOf next (targetSlot G n (l .fcb)) ≡ 0
+    next-slot : slotOf G next (targetSlot G n (l .fcb)) ≡ 0
     unfolding next
-    next-slot = slot-next (rowsOf G l e) (targetExtent n (l .fcb)) long (targetSlot G n (l .fcb))
+    next-slot = slot-next (rowsOf G l e) (targetExtent n (l .fcb)) long G (targetSlot G n (l .fcb))
 
-    pub make-came : CameTo G n (s .user) l (made G (targetExtent n (l .fcb)) l e t) t W (settledBy (rowsOf G l e) (l .fcb))
+    pub make-came : CameTo G n (s .user) l (made G (targetExtent n (l .fcb)) l e t) t W (settledBy G (rowsOf G l e) (l .fcb))
     unfolding made new next mid mid-map
     make-came =
         let hf : 32 ≤ length (l .fcb) = (let q : length (l .fcb) ≡ 36 = f .fcb-long in omega arith) in
         record {
           change = closed-then-made;
-          cur = entered-cur G (viewOf G new mid-map) (s .user) (l .fcb) next t room-below next-here next-user (f .fcb-long) next-fine
-              (fcb-says (l .fcb) (present-cur .right) .cr);
+          cur = entered-cur G (viewOf G new mid-map) (s .user) (l .fcb) next (targetExtent n (l .fcb)) t room-below next-here next-user (f .fcb-long) whole next-fine
+              (ap (runOf G) next-extent) low (fcb-says (l .fcb) (present-cur .right) .cr);
           mine = ap (byName (s .user) (l .fcb)) next-here ∙ next-named;
-          extent = extent-entered (l .fcb) next hf ∙ next-extent;
-          long = length-entered (l .fcb) next hf ∙ f .fcb-long;
-          first = first-entered (l .fcb) next hf;
-          name = entered-name next next-named;
+          extent = extent-entered (l .fcb) next (targetExtent n (l .fcb)) hf (let q = whole in omega arith);
+          long = length-entered (l .fcb) next (targetExtent n (l .fcb)) hf ∙ f .fcb-long;
+          first = first-entered (l .fcb) next (targetExtent n (l .fcb)) hf;
+          name = entered-name next (targetExtent n (l .fcb)) next-named;
           buffer = refl;
-          slot = slot-entered (l .fcb) next hf (targetSlot G n (l .fcb)) place ∙ next-slot ∙ sym make-slot;
+          slot = slot-entered (l .fcb) next (targetExtent n (l .fcb)) hf G (targetSlot G n (l .fcb)) ∙ next-slot ∙ sym make-slot;
           theirs = λ z. absurd (z make-slot);
           free = still-free;
           book = move-book go;

@@ -41,21 +41,21 @@ module _ {G : Geometry} (S : Sound G) (img map : Bytes) (g : Good G img map) (us
   whole = length-closedRow G (entryAt G img e) fcb long
 
   -- a block that the close takes was pending for its entry
-  taken-noted : (b : ℕ) (t : Takes (entryAt G img e) fcb b) → noteAt map b ≡ pendingFor e (t .slot)
+  taken-noted : (b : ℕ) (t : Takes G (entryAt G img e) fcb b) → noteAt map b ≡ pendingFor e (t .slot)
   taken-noted b t =
       split (c .fits (t .slot) (t .below)) (λ q. absurd (t .some (sym (t .is) ∙ q ∙ t .was))) (λ h. sym (ap (noteAt map) (t .is)) ∙ h .noted)
 
   -- each note stays, or was pending for the entry
-  closed-notes : (b : ℕ) → b < G .blocks → (noteAt (closedMap (entryAt G img e) fcb map) b ≡ noteAt map b) ⊎ Takes (entryAt G img e) fcb b
+  closed-notes : (b : ℕ) → b < G .blocks → (noteAt (closedMap G (entryAt G img e) fcb map) b ≡ noteAt map b) ⊎ Takes G (entryAt G img e) fcb b
   closed-notes b l =
-      split (note-closed-cases (entryAt G img e) fcb map b (let w = g .map-long in omega arith)) (λ p. inr (p .0)) (λ p. inl (p .1))
+      split (note-closed-cases G (entryAt G img e) fcb map b (let w = g .map-long in omega arith)) (λ p. inr (p .0)) (λ p. inl (p .1))
 
   pub closed-change : (W : ℕ → Type 0)
-      → Change G (byName user fcb) W (settledBy (entryAt G img e) fcb) img map (closedImage G img e fcb) (closedMap (entryAt G img e) fcb map)
+      → Change G (byName user fcb) W (settledBy G (entryAt G img e) fcb) img map (closedImage G img e fcb) (closedMap G (entryAt G img e) fcb map)
   unfolding closedImage
   closed-change W =
       let s = viewOf G img map in
-      let t = viewOf G (closedImage G img e fcb) (closedMap (entryAt G img e) fcb map) in
+      let t = viewOf G (closedImage G img e fcb) (closedMap G (entryAt G img e) fcb map) in
       let nm = cur-named G s user hu fcb e c in
       record {
         effect = one-effect G s t (byName user fcb) (g .inv) (record-closedImage S img (g .image-long) e (c .low) fcb) e

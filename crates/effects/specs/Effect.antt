@@ -59,7 +59,7 @@ module _ (G : Geometry) (s t : View) (N : Names) (w : Effect G s t N) where
           entry = a .entry;
           place = a .place;
           uses = ap used (w .row e f) ∙ a .uses;
-          is = ap (λ (r : Bytes). slotOf r j) (w .row e f) ∙ a .is;
+          is = ap (λ (r : Bytes). slotOf G r j) (w .row e f) ∙ a .is;
           real = a .real;
         }
     mine-on b e f (pending j l h q) = pending j l h (kp b e j h l f q)

@@ -27,6 +27,7 @@ use Rattle.consistency.specs.Naming.{named-used}
 use Rattle.invariant.specs.Change.{released-kept}
 use Rattle.invariant.specs.Good.{Good}
 use Rattle.invariant.specs.Updates.{good-erased, good-renamed}
+use Rattle.facts.specs.Slots.{slot-place}
 use Rattle.effects.specs.View.{viewOf, Names}
 use Rattle.effects.specs.Effect.{Effect, RecsStay, NamesStay, notes-stay}
 use Rattle.effects.specs.Steps.{NamesUsed, named-effect, made-effect, made-stay, keeps-by, held-named}
@@ -90,9 +91,10 @@ module _ {G : Geometry} (S : Sound G) (picks : Names) (img map : Bytes) (g : Goo
       go (ok-free q x) = inr (λ e j l p. absurd (pending-not freeNote (omega arith) e j (sym p ∙ q)))
       go (ok-pending e j q l i u x) =
           split (bool-cases (picks (entryAt G img e)))
-          (λ y. inr (held-named (viewOf G img map) picks b e j i y q))
+          (λ y. inr (held-named (viewOf G img map) picks b e j (slot-place G i) y q))
           (λ y. inl (released-at G (entryAt G img) (λ (k : ℕ). picks (entryAt G img k)) map b h ∙ ap (releasedNote G (entryAt G img) (λ (k : ℕ). picks (entryAt G img k)) b) q
-          ∙ released-kept G (entryAt G img) (λ (k : ℕ). picks (entryAt G img k)) b e j i (spare-unpicked G (entryAt G img) (λ (k : ℕ). picks (entryAt G img k)) b (x .unlisted)) y ∙ sym q))
+          ∙ released-kept G (entryAt G img) (λ (k : ℕ). picks (entryAt G img k)) b e j (slot-place G i)
+          (spare-unpicked G (entryAt G img) (λ (k : ℕ). picks (entryAt G img k)) b (x .unlisted)) y ∙ sym q))
 
   pub erased-change : (W : ℕ → Type 0)
       → Change G picks W (droppedFor (λ (e : ℕ). picks (entryAt G img e))) img map

@@ -9,9 +9,9 @@ use borrow.Author.Tests.{eq-eqb, ne-eqb, leb-true}
 use Rattle.lists.specs.Cases.{split, bool-cases, eq-or-ne, refute, cond-either}
 use Rattle.lists.specs.Tests.{_or_, and-then}
 use Rattle.lists.specs.Below.{anyBelow, any-cong}
-use Rattle.format.specs.Diskette.{Bytes, Geometry, slotCount}
+use Rattle.format.specs.Diskette.{Bytes, Geometry, slotCount, slotsOn}
 use Rattle.format.specs.Entries.{Rows, slotsOf, used}
-use Rattle.facts.specs.Slots.{getD-slotsOf}
+use Rattle.facts.specs.Slots.{slotIn-slotsOf, slot-place}
 use Rattle.format.specs.Notes.{recordedNote, pendingFor, isPending, noteAt, freshNote, settledNote, heldFor, listedBy, releasedNote, isListed}
 use Rattle.notes.specs.Numbers.{pending-is, pending-entry, settled-not}
 use Rattle.notes.specs.Right.{NoteOk, ok-area, ok-recorded, ok-free, ok-pending, ok-settles, fresh-settled}
@@ -57,7 +57,7 @@ pub record InBook (G : Geometry) (d : Rows) (m : ℕ → ℕ) (u : Book) (b : �
   pub entry : ℕ
   pub slot : ℕ
   pub entry-below : entry < G .entries
-  pub slot-below : slot < slotCount
+  pub slot-below : slot < slotsOn G
   pub in-book : u b ≡ pendingFor entry slot
   pub in-map : m b ≡ pendingFor entry slot
   pub uses : used (d entry) ≡ true
@@ -124,18 +124,18 @@ freed-tracks G m m′ q =
     ∙ split (bool-cases (isPending (m b))) (λ p. rw p (settled-not 0 (omega arith))) (λ p. rw p p))
 
 -- a close
-pub settles-taken : (row fcb : Bytes) (b : ℕ) → settles row fcb b ≡ anyBelow (takesBlock (slotsOf row) (slotsOf fcb) b) slotCount
+pub settles-taken : (G : Geometry) (row fcb : Bytes) (b : ℕ) → settles G row fcb b ≡ anyBelow (takesBlock G (slotsOf row) (slotsOf fcb) b) slotCount
 unfolding settles takesBlock
-settles-taken row fcb b = any-cong _ _ slotCount (λ j l. rw (getD-slotsOf fcb j l))
+settles-taken G row fcb b = any-cong _ _ slotCount (λ j l. rw (slotIn-slotsOf G fcb j))
 
 pub closed-tracks : (G : Geometry) (u : Book) (row fcb map : Bytes) → length map ≡ G .blocks → Tracks G u (noteAt map)
-    → Tracks G (settledBy row fcb u) (noteAt (closedMap row fcb map))
+    → Tracks G (settledBy G row fcb u) (noteAt (closedMap G row fcb map))
 unfolding settledBy
 closed-tracks G u row fcb map wide t b h =
-    let n : noteAt (closedMap row fcb map) b ≡ cond (anyBelow (takesBlock (slotsOf row) (slotsOf fcb) b) slotCount) recordedNote (noteAt map b) =
-    note-closed row fcb map b (omega arith) in
-    rw (settles-taken row fcb b, n)
-    (split (bool-cases (anyBelow (takesBlock (slotsOf row) (slotsOf fcb) b) slotCount))
+    let n : noteAt (closedMap G row fcb map) b ≡ cond (anyBelow (takesBlock G (slotsOf row) (slotsOf fcb) b) slotCount) recordedNote (noteAt map b) =
+    note-closed G row fcb map b (omega arith) in
+    rw (settles-taken G row fcb b, n)
+    (split (bool-cases (anyBelow (takesBlock G (slotsOf row) (slotsOf fcb) b) slotCount))
     (λ y. rw y (sym (held-settled 2 (settled-not 2 (omega arith))))) (λ y. rw y (t b h)))
 
 -- a delete
@@ -183,10 +183,10 @@ module _ (G : Geometry) (d : Rows) (m m′ : ℕ → ℕ) (u : Book) (v : Inv G 
       go (ok-pending e j q l i w s) =
           let z : u b ≡ pendingFor e j = t b h ∙ ap heldNote q ∙ held-for e j in
           let n : m′ b ≡ releasedNote G d picked b (pendingFor e j) = note b h ∙ ap (releasedNote G d picked b) q in
-          dropped-held b e j i z
+          dropped-held b e j (slot-place G i) z
           ∙ split (bool-cases (picked e))
-          (λ p. rw p (sym (ap heldNote (n ∙ released-held G d picked b e j i p) ∙ held-settled 0 (settled-not 0 (omega arith)))))
-          (λ p. rw p (sym (ap heldNote (n ∙ released-kept G d picked b e j i (spare-unpicked G d picked b (s .unlisted)) p) ∙ held-for e j)))
+          (λ p. rw p (sym (ap heldNote (n ∙ released-held G d picked b e j (slot-place G i) p) ∙ held-settled 0 (settled-not 0 (omega arith)))))
+          (λ p. rw p (sym (ap heldNote (n ∙ released-kept G d picked b e j (slot-place G i) (spare-unpicked G d picked b (s .unlisted)) p) ∙ held-for e j)))
 
 -- a block is taken
 pub taken-tracks : (G : Geometry) (u : Book) (m m′ : ℕ → ℕ) (b e j : ℕ) → m′ b ≡ pendingFor e j

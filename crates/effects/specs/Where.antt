@@ -5,7 +5,7 @@ use mathlib.Core.Bool.{true}
 use Prim.Native.Nat.{ℕ, _+_, _≤_, _<_}
 use lib.ListN.{length, getD}
 use Rattle.lists.specs.Cases.{split, lt-or-le}
-use Rattle.format.specs.Diskette.{Bytes, Geometry, Sound, recordBytes, imageBytes, offsetOf, withRecord, entryBytes}
+use Rattle.format.specs.Diskette.{Bytes, Geometry, Sound, recordBytes, offsetOf, withRecord, entryBytes, Long}
 use Rattle.format.specs.Entries.{entryPlace, entryAt, withEntry, empty}
 use Rattle.format.specs.Notes.{freeNote, noteAt}
 use Rattle.disk.specs.Places.{blockRecords}
@@ -60,7 +60,7 @@ frame-more G img img′ M N U W more wide f i = split (f i) (λ q. inl q) (λ p.
     go (in-record d p w) = in-record d p (wide d w)
 
 -- ---- one entry stored, one record written
-module _ {G : Geometry} (S : Sound G) (img : Bytes) (long : length img ≡ imageBytes G) where
+module _ {G : Geometry} (S : Sound G) (img : Bytes) (long : Long G img) where
   pub entry-or-same : (e : ℕ) → e < G .entries → (row : Bytes) → length row ≡ entryBytes → (i : ℕ)
       → (getD (withEntry G img e row) i 0 ≡ getD img i 0) ⊎ InEntry G e i
   entry-or-same e he row lr i =

@@ -5,8 +5,8 @@ use mathlib.Core.Bool.{true}
 use Prim.Native.Nat.{ℕ, _≤_, _<_}
 use native.Mathlib.Omega.{arith}
 use lib.ListN.{length, getD, length-set}
-use Rattle.format.specs.Diskette.{Geometry, Sound, recordBytes, withRecord, slotCount, extents, extentRecords}
-use Rattle.format.specs.Entries.{entryAt, slotOf, slotFor, extentOf}
+use Rattle.format.specs.Diskette.{Geometry, Sound, recordBytes, withRecord, slotCount, slotsOn, extents, extentRecords}
+use Rattle.format.specs.Entries.{entryAt, slotOf, slotFor, extentOf, countIn}
 use Rattle.format.specs.Fcb.{fcbBytes, fcbRight, crOf}
 use Rattle.format.specs.Found.{numberOf}
 use Rattle.format.specs.declared.Found.the-variants.{At}
@@ -16,6 +16,8 @@ use Rattle.model.specs.declared.Plan.{Plan}
 use Rattle.model.specs.Lent.{Lent}
 use Rattle.model.specs.Target.{targetExtent, targetRecord, targetSlot, crAfter, presentEntry, plan, moved, made, placeIn, haveRead, haveWritten, writtenFcb, writtenMap}
 use Rattle.model.specs.Calls.{readAt, reading, read, writtenAt, writing, written}
+use Rattle.facts.specs.Slots.{slots-on-high}
+use Rattle.facts.specs.Counts.{count-high}
 use Rattle.fields.specs.Agree.{SameName}
 use Rattle.consistency.specs.Naming.{file-found}
 use Rattle.fields.specs.Target.{record-below, crAfter-high, targetSlot-below, length-writtenFcb, head-written, name-written, extent-written, slot-written, name-read, extent-read, head-read}
@@ -45,7 +47,7 @@ pub record HandedBack (n : ℕ) (l left : Lent) : Type 0 where
 -- the one record of a write: that of the target, in the block that the FCB handed back has for it
 abbrev pub OneOf : Geometry → ℕ → ℕ → Lent → Lent → ℕ → Type 0
 OneOf G n user l left d =
-    OneRecord G (l .image) (l .map) (byName user (l .fcb)) (slotOf (left .fcb) (targetSlot G n (l .fcb))) (targetRecord n (l .fcb)) d
+    OneRecord G (l .image) (l .map) (byName user (l .fcb)) (slotOf G (left .fcb) (targetSlot G n (l .fcb))) (targetRecord n (l .fcb)) d
 
 pub record WriteOk (G : Geometry) (n user : ℕ) (l left : Lent) : Type 0 where
   pub change : Change G (byName user (l .fcb)) (OneOf G n user l left) (writtenBook G n user l left) (l .image) (l .map) (left .image) (left .map)
@@ -70,9 +72,12 @@ module _ {G : Geometry} (S : Sound G) (n : ℕ) (l : Lent) (s : Session) (g : Go
   unfolding r
   r-below = record-below n (l .fcb) cr
 
-  j-below : j < slotCount
+  j-real : j < slotsOn G
   unfolding j
-  j-below = targetSlot-below S n (l .fcb) cr
+  j-real = targetSlot-below S n (l .fcb) cr
+
+  j-below : j < slotCount
+  j-below = omega (arith, j-real, slots-on-high G)
 
   -- ---- a write, wherever the call came to
   module _ (there : Lent) (t b : ℕ) (B : Book → Book)
@@ -81,6 +86,10 @@ module _ {G : Geometry} (S : Sound G) (n : ℕ) (l : Lent) (s : Session) (g : Go
     left : Lent
     left = haveWritten G t (targetSlot G n (l .fcb)) b (targetRecord n (l .fcb)) (crAfter n (l .fcb)) there
 
+    -- what the entry counts in the extent come to
+    count : ℕ
+    count = countIn (entryAt G (there .image) t) (extentOf (there .fcb))
+
     slot-is : j ≡ slotFor G (extentOf (there .fcb)) r
     unfolding j r targetSlot
     slot-is = ap (λ (x : ℕ). slotFor G x (targetRecord n (l .fcb))) (sym (came .extent))
@@ -88,15 +97,15 @@ module _ {G : Geometry} (S : Sound G) (n : ℕ) (l : Lent) (s : Session) (g : Go
     here-good : Good G (there .image) (there .map)
     here-good = came .change .good
 
-    for-slot : ForSlot G (there .map) (slotOf (there .fcb) j) b
+    for-slot : ForSlot G (there .map) (slotOf G (there .fcb) j) b
     unfolding j
     for-slot = go block
       where
-        go : Block G n (s .user) l b → ForSlot G (there .map) (slotOf (there .fcb) (targetSlot G n (l .fcb))) b
+        go : Block G n (s .user) l b → ForSlot G (there .map) (slotOf G (there .fcb) (targetSlot G n (l .fcb))) b
         go (Plans.there q real) =
-            let own : slotOf (there .fcb) (targetSlot G n (l .fcb)) ≡ b = came .slot ∙ q in
+            let own : slotOf G (there .fcb) (targetSlot G n (l .fcb)) ≡ b = came .slot ∙ q in
             record {
-              below = rw (← own) (mine-high G (viewOf G (there .image) (there .map)) (here-good .inv) (slotOf (there .fcb) (targetSlot G n (l .fcb))) t
+              below = rw (← own) (mine-high G (viewOf G (there .image) (there .map)) (here-good .inv) (slotOf G (there .fcb) (targetSlot G n (l .fcb))) t
                   (cur-mine G (viewOf G (there .image) (there .map)) (s .user) (f .user-low) (there .fcb) t (came .cur) (targetSlot G n (l .fcb)) j-below (λ z. real (sym own ∙ z))));
               free = λ z. absurd (real (sym own ∙ z));
               own = λ z. own;
@@ -115,63 +124,65 @@ module _ {G : Geometry} (S : Sound G) (n : ℕ) (l : Lent) (s : Session) (g : Go
     full : length (there .buffer) ≡ recordBytes
     full = ap length (came .buffer) ∙ f .buffer-long
 
-    right : fcbRight (writtenFcb G (there .fcb) (entryAt G (there .image) t) j b r (crAfter n (l .fcb))) ≡ true
+    right : fcbRight (writtenFcb G (there .fcb) count j b r (crAfter n (l .fcb))) ≡ true
+    unfolding count
     right =
-        right-written G (there .fcb) (entryAt G (there .image) t) j b r (crAfter n (l .fcb)) (came .long) j-below
-        (here-good .inv .dir .fine t (came .cur .low) (cur-uses G (viewOf G (there .image) (there .map)) (s .user) (f .user-low) (there .fcb) t (came .cur)) .numbers .rc)
+        right-written G (there .fcb) count j b r (crAfter n (l .fcb)) (came .long) j-real
+        (count-high (entryAt G (there .image) t) (extentOf (there .fcb))
+        (here-good .inv .dir .fine t (came .cur .low) (cur-uses G (viewOf G (there .image) (there .map)) (s .user) (f .user-low) (there .fcb) t (came .cur)) .numbers .rc))
         r-below (crAfter-high n (l .fcb) cr) (came .cur .right)
 
     One : ℕ → Type 0
     One = OneRecord G (l .image) (l .map) (byName (s .user) (l .fcb)) b (targetRecord n (l .fcb))
 
-    whole : Change G (byName (s .user) (l .fcb)) One (λ (u : Book). putBook (there .fcb) t j b (B u)) (l .image) (l .map)
-        (withRecord G (there .image) (placeIn G b r) (there .buffer)) (writtenMap (there .map) (there .fcb) t j b)
+    whole : Change G (byName (s .user) (l .fcb)) One (λ (u : Book). putBook G (there .fcb) t j b (B u)) (l .image) (l .map)
+        (withRecord G (there .image) (placeIn G b r) (there .buffer)) (writtenMap G (there .map) (there .fcb) t j b)
     unfolding One r
     whole =
-        then-change G (byName (s .user) (l .fcb)) One B (putBook (there .fcb) t j b) (l .image) (l .map) (there .image) (there .map)
-        (withRecord G (there .image) (placeIn G b r) (there .buffer)) (writtenMap (there .map) (there .fcb) t j b) (g .inv .dir) (came .change)
+        then-change G (byName (s .user) (l .fcb)) One B (putBook G (there .fcb) t j b) (l .image) (l .map) (there .image) (there .map)
+        (withRecord G (there .image) (placeIn G b r) (there .buffer)) (writtenMap G (there .map) (there .fcb) t j b) (g .inv .dir) (came .change)
         (put-change S (there .image) (there .map) here-good (s .user) (f .user-low) (there .fcb) (came .long) t (came .cur) r r-below j slot-is b for-slot
         (there .buffer) full (byName (s .user) (l .fcb)) (came .mine) One record { is = refl; below = for-slot .below; theirs = theirs })
         (put-stay S (there .image) (there .map) here-good (s .user) (f .user-low) (there .fcb) (came .long) t (came .cur) r r-below j slot-is b for-slot
         (there .buffer) full (byName (s .user) (l .fcb)) (came .mine))
 
-    held : Holds G (viewOf G (withRecord G (there .image) (placeIn G b r) (there .buffer)) (writtenMap (there .map) (there .fcb) t j b)) (s .user)
-        (writtenFcb G (there .fcb) (entryAt G (there .image) t) j b r (crAfter n (l .fcb))) t r (there .buffer)
+    held : Holds G (viewOf G (withRecord G (there .image) (placeIn G b r) (there .buffer)) (writtenMap G (there .map) (there .fcb) t j b)) (s .user)
+        (writtenFcb G (there .fcb) count j b r (crAfter n (l .fcb))) t r (there .buffer)
     held =
         put-holds S (there .image) (there .map) here-good (s .user) (f .user-low) (there .fcb) (came .long) t (came .cur) r r-below j slot-is b for-slot
-        (there .buffer) full (crAfter n (l .fcb)) right
+        (there .buffer) full count (crAfter n (l .fcb)) right
 
-    new-slot : slotOf (writtenFcb G (there .fcb) (entryAt G (there .image) t) j b r (crAfter n (l .fcb))) j ≡ b
-    new-slot = slot-written G (there .fcb) (entryAt G (there .image) t) j b r (crAfter n (l .fcb)) (came .long) j-below
+    new-slot : slotOf G (writtenFcb G (there .fcb) count j b r (crAfter n (l .fcb))) j ≡ b
+    new-slot = slot-written G (there .fcb) count j b r (crAfter n (l .fcb)) j-real (came .long)
 
     after : entryAfter G n (s .user) l left ≡ t
-    unfolding entryAfter left haveWritten j r
+    unfolding entryAfter left haveWritten count j r
     after =
         ap (numberOf (G .entries))
         (file-found G (entryAt G (withRecord G (there .image) (placeIn G b r) (there .buffer))) (s .user) (f .user-low)
-        (writtenFcb G (there .fcb) (entryAt G (there .image) t) j b r (crAfter n (l .fcb))) 1
-        (extentOf (writtenFcb G (there .fcb) (entryAt G (there .image) t) j b r (crAfter n (l .fcb)))) t (came .cur .low) (held .cur .file) (whole .good .inv .dir))
+        (writtenFcb G (there .fcb) count j b r (crAfter n (l .fcb))) 1
+        (extentOf (writtenFcb G (there .fcb) count j b r (crAfter n (l .fcb)))) t (came .cur .low) (held .cur .file) (whole .good .inv .dir))
 
-    left-slot : slotOf (left .fcb) (targetSlot G n (l .fcb)) ≡ b
-    unfolding left haveWritten j r
+    left-slot : slotOf G (left .fcb) (targetSlot G n (l .fcb)) ≡ b
+    unfolding left haveWritten count j r
     left-slot = new-slot
 
-    same-book : (u : Book) → writtenBook G n (s .user) l left u ≡ putBook (there .fcb) t j b (B u)
+    same-book : (u : Book) → writtenBook G n (s .user) l left u ≡ putBook G (there .fcb) t j b (B u)
     unfolding writtenBook putBook j
     same-book u = rw (left-slot, after, came .slot, came .book u)
 
     pub wrote-ok : WriteOk G n (s .user) l (haveWritten G t (targetSlot G n (l .fcb)) b (targetRecord n (l .fcb)) (crAfter n (l .fcb)) there)
-    unfolding left haveWritten j r One
+    unfolding left haveWritten count j r One
     wrote-ok = record {
-      change = as-change G (byName (s .user) (l .fcb)) (byName (s .user) (l .fcb)) One (OneOf G n (s .user) l left) (λ (u : Book). putBook (there .fcb) t j b (B u))
+      change = as-change G (byName (s .user) (l .fcb)) (byName (s .user) (l .fcb)) One (OneOf G n (s .user) l left) (λ (u : Book). putBook G (there .fcb) t j b (B u))
           (writtenBook G n (s .user) l left) (l .image) (l .map) (left .image) (left .map) (λ x h. h)
           (λ d w. subst (λ (x : ℕ). OneRecord G (l .image) (l .map) (byName (s .user) (l .fcb)) x (targetRecord n (l .fcb)) d) (sym left-slot) w)
           (λ u x h. ap (λ (v : Book). v x) (same-book u)) whole;
       fcb = record {
-        long = length-writtenFcb G (there .fcb) (entryAt G (there .image) t) j b r (crAfter n (l .fcb)) ∙ came .long;
-        first = head-written G (there .fcb) (entryAt G (there .image) t) j b r (crAfter n (l .fcb)) 0 (omega arith) (omega arith) ∙ came .first;
-        name = λ i h. name-written G (there .fcb) (entryAt G (there .image) t) j b r (crAfter n (l .fcb)) i h ∙ came .name i h;
-        extent = extent-written G (there .fcb) (entryAt G (there .image) t) j b r (crAfter n (l .fcb)) ∙ came .extent;
+        long = length-writtenFcb G (there .fcb) count j b r (crAfter n (l .fcb)) ∙ came .long;
+        first = head-written G (there .fcb) count j b r (crAfter n (l .fcb)) j-real 0 (omega arith) (omega arith) ∙ came .first;
+        name = λ i h. name-written G (there .fcb) count j b r (crAfter n (l .fcb)) j-real i h ∙ came .name i h;
+        extent = extent-written G (there .fcb) count j b r (crAfter n (l .fcb)) j-real ∙ came .extent;
       };
       entry = t;
       holds = subst (Holds G (viewOf G (left .image) (left .map)) (s .user) (left .fcb) t (targetRecord n (l .fcb))) (came .buffer) held;
@@ -205,8 +216,8 @@ module _ {G : Geometry} (S : Sound G) (n : ℕ) (l : Lent) (s : Session) (g : Go
     write-plan p (stay e b at t target k) =
         wrote-ok S n l s g f (current-cr e at) l e b _ (stay-came S n l s g f e at (OneRecord G (l .image) (l .map) (byName (s .user) (l .fcb)) b (targetRecord n (l .fcb))) t) k
     write-plan p (move e t b at go target k) =
-        wrote-ok S n l s g f (current-cr e at) (moved G l e t) t b _
-        (move-came S n l s g f e at (OneRecord G (l .image) (l .map) (byName (s .user) (l .fcb)) b (targetRecord n (l .fcb))) go t target) k
+        wrote-ok S n l s g f (current-cr e at) (moved G (targetExtent n (l .fcb)) l e t) t b _
+        (move-came S n l s g f e at (OneRecord G (l .image) (l .map) (byName (s .user) (l .fcb)) b (targetRecord n (l .fcb))) go t target low) k
     write-plan p (make e t b at go none room k) =
         wrote-ok S n l s g f (current-cr e at) (made G (targetExtent n (l .fcb)) l e t) t b _
         (make-came S n l s g f e at (OneRecord G (l .image) (l .map) (byName (s .user) (l .fcb)) b (targetRecord n (l .fcb))) go t room none low) k
@@ -214,7 +225,7 @@ module _ {G : Geometry} (S : Sound G) (n : ℕ) (l : Lent) (s : Session) (g : Go
     read-plan : (B : ℕ → Type 0) (p : Plan) → Planned G n (s .user) l B p → ReadOk G n (s .user) l (reading G s l n p .lent)
     unfolding readAt
     read-plan B p (stay e b at t target k) = read-ok S n l s g f (current-cr e at) l e b _ (stay-came S n l s g f e at WritesNone t)
-    read-plan B p (move e t b at go target k) = read-ok S n l s g f (current-cr e at) (moved G l e t) t b _ (move-came S n l s g f e at WritesNone go t target)
+    read-plan B p (move e t b at go target k) = read-ok S n l s g f (current-cr e at) (moved G (targetExtent n (l .fcb)) l e t) t b _ (move-came S n l s g f e at WritesNone go t target low)
     read-plan B p (make e t b at go none room k) =
         read-ok S n l s g f (current-cr e at) (made G (targetExtent n (l .fcb)) l e t) t b _ (make-came S n l s g f e at WritesNone go t room none low)
 

@@ -3,6 +3,7 @@ ghost use mathlib.Core.Path.{_≡_};
 ghost use Prim.Native.Nat.{_+_, _*_, _/_, _%_, _≤_, _<_};
 ghost use lib.ListN.{length};
 ghost use Rattle.lists.specs.Splice.{splice};
+ghost use Rattle.format.specs.Entries.{extentOf};
 ghost use Rattle.format.specs.Fcb.{fcbBytes};
 ghost use Rattle.model.specs.Entering.{copied, interfaceCleared, entered, madeRow, nextRow, renamedRow, threeBytes};
 
@@ -27,10 +28,10 @@ fn clear_interface(row: [u8; 32]) -> [u8; 32]
     r
 }
 
-// FCB bytes 1 to 31 become the entry's, as by 15.
+// FCB bytes 1 to 31 become the entry's, as by 15, of the entry's own extent: on this disk it covers no other.
 pub fn enter(fcb: &mut [u8], row: [u8; 32])
     requires { ⌜ length (now fcb) ≡ fcbBytes ⌝ }
-    ensures { λ _. ⌜ now (fcb .exit) ≡ entered (now (fcb .entry)) row ⌝ }
+    ensures { λ _. ⌜ now (fcb .exit) ≡ entered (now (fcb .entry)) row (extentOf row) ⌝ }
 {
     copy_fields(fcb, clear_interface(row));
 }

@@ -6,7 +6,7 @@ ghost use lib.ListN.{length};
 ghost use Rattle.format.specs.Diskette.{eightInch, imageBytes, entryBytes, extentRecords, slotCount};
 ghost use Rattle.format.specs.Names.{nameBytes};
 ghost use Rattle.format.specs.Consistent.{extentRight};
-ghost use Rattle.format.specs.Entries.{entryAt, slotsOf, extentOf, covers, countOf, countIn, slotFor, readOnly, named, isFile, findNamed, findEmpty};
+ghost use Rattle.format.specs.Entries.{entryAt, slotsOf, extentOf, runOf, covers, countOf, endOf, slotFor, readOnly, named, isFile, findNamed, findEmpty};
 use format::ENTRIES;
 use format::Found;
 
@@ -36,12 +36,19 @@ pub fn extent(r: &[u8]) -> usize
     32 * lists::wide(r[14]) + lists::wide(r[12])
 }
 
+// The run of an extent: the extents that one entry covers. On this disk each is one by itself.
+fn run_of(ext: usize) -> usize
+    ensures { λ x. ⌜ x ≡ runOf eightInch ext ⌝ }
+{
+    ext
+}
+
 // Whether a row covers an extent.
 fn covers_extent(r: &[u8], ext: usize) -> bool
     requires { ⌜ entryBytes ≤ length (now r) ⌝ }
     ensures { λ b. ⌜ b ≡ covers eightInch (now (r .entry)) ext ⌝ }
 {
-    extent(r) == ext
+    run_of(extent(r)) == run_of(ext)
 }
 
 // How many records a row or an FCB counts, in the extent that its ex and s2 give.
@@ -52,12 +59,12 @@ pub fn count_of(r: &[u8]) -> u8
     r[15]
 }
 
-// How many records of an extent a row counts.
-pub fn count_in(r: &[u8], ext: usize) -> u8
+// One past the last record that a row or an FCB counts: 128 × extent + its count.
+pub fn end_of(r: &[u8]) -> usize
     requires { ⌜ entryBytes ≤ length (now r) ⌝ }
-    ensures { λ n. ⌜ n ≡ countIn eightInch (now (r .entry)) ext ⌝ }
+    ensures { λ n. ⌜ n ≡ endOf (now (r .entry)) ⌝ }
 {
-    count_of(r)
+    format::EXTENT_RECORDS * extent(r) + lists::wide(count_of(r))
 }
 
 // The slot that holds record k of an extent.

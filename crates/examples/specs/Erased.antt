@@ -10,7 +10,7 @@ use Rattle.lists.specs.Cases.{split, lt-or-le, clash}
 use Rattle.lists.specs.Tests.{_or_}
 use Rattle.lists.specs.Splice.{part, splice, part-splice-same}
 use Rattle.lists.specs.Count.{count-from}
-use Rattle.format.specs.Diskette.{Bytes, Geometry, Sound, imageBytes, recordBytes, eightInch}
+use Rattle.format.specs.Diskette.{Bytes, Geometry, Sound, recordBytes, eightInch, Long}
 use Rattle.format.specs.Entries.{Rows, entryAt}
 use Rattle.format.specs.Consistent.{consistent}
 use Rattle.format.specs.Notes.{isListed, freshNote, freshMap, isFree, freeCount}
@@ -71,7 +71,7 @@ pub record Fitting (G : Geometry) (map fcb buffer : Bytes) (s : Session) : Type 
   pub user-low : s .user ≤ 15
   pub place-low : s .place ≤ G .entries
 
-module _ (G : Geometry) (img : Bytes) (long : length img ≡ imageBytes G) (right : consistent G img ≡ true)
+module _ (G : Geometry) (img : Bytes) (long : Long G img) (right : consistent G img ≡ true)
     (map fcb buffer : Bytes) (s : Session) (fit : Fitting G map fcb buffer s) where
   fits : Fits G (lend img map fcb buffer) s
   fits = record {
@@ -124,7 +124,7 @@ pub record SpaceIs (G : Geometry) (img : Bytes) (bytes : Bytes) (map fcb buffer 
   pub space-h : next G (ask 46 y) (step G (ask 13 x) (lend img map fcb buffer) s) .answer .h ≡ 0
   pub space-bytes : part (next G (ask 46 y) (step G (ask 13 x) (lend img map fcb buffer) s) .lent .buffer) 0 3 ≡ bytes
 
-pub space-is : (G : Geometry) (img : Bytes) → length img ≡ imageBytes G → consistent G img ≡ true
+pub space-is : (G : Geometry) (img : Bytes) → Long G img → consistent G img ≡ true
     → (map fcb buffer : Bytes) (s : Session) → Fitting G map fcb buffer s → (x y : ℕ)
     → SpaceIs G img (threeBytes (G .perBlock * freeCount G (freshMap G (entryAt G img)))) map fcb buffer s x y
 unfolding aOf hOf

@@ -6,7 +6,7 @@ use mathlib.Core.List.{[], _∷_}
 use Prim.Native.Nat.{ℕ, _<_}
 use native.Mathlib.Omega.{arith}
 use lib.ListN.{length}
-use Rattle.format.specs.Diskette.{Bytes, imageBytes, eightInch, diskRecord, offsetOf, slotCount}
+use Rattle.format.specs.Diskette.{Bytes, eightInch, diskRecord, offsetOf, slotCount, slotsOn, Long}
 use Rattle.format.specs.Names.{nameRight}
 use Rattle.format.specs.Entries.{entryAt, userOf, exOf, used, extentOf, named}
 use Rattle.format.specs.Consistent.{consistent}
@@ -25,11 +25,11 @@ use Rattle.examples.specs.Erased.{Fitting, SpaceIs, erased-space}
 use Rattle.examples.specs.Numbers.{Gives, HasEntry, size-largest, position-256}
 use Rattle.examples.specs.Random.{RandomIs, Six, Last, random-six, random-last}
 use Rattle.examples.specs.Pattern.{AllAny, any-named, any-hit}
-use Rattle.examples.specs.Slots.{withSlot, slot-allowed, slot-refused}
+use Rattle.examples.specs.Slots.{imageSlot, slot-allowed, slot-refused}
 
 -- an image that is consistent, and a slot of one of its used entries
 pub record SlotOf (img : Bytes) (e j : ℕ) : Type 0 where
-  pub long : length img ≡ imageBytes eightInch
+  pub long : Long eightInch img
   pub right : consistent eightInch img ≡ true
   pub entry : e < eightInch .entries
   pub slot : j < slotCount
@@ -58,16 +58,17 @@ pub record Examples : Type 0 where
   -- eleven 3FH match any name: in the name test, and in the pattern that 17 takes from an FCB, where byte 12 alone decides
   pub i-name : (s : Bytes) (q : ℕ) → AllAny s q → (user : ℕ) (row : Bytes) → userOf row ≡ user → named true user s q row ≡ true
   pub i-pattern : (fcb : Bytes) → length fcb ≡ fcbBytes → AllAny fcb 1 → (user : ℕ) (row : Bytes) → userOf row ≡ user
-      → hit user (patternOf fcb) row ≡ extentHit (exOf fcb) row
+      → hit eightInch user (patternOf fcb) row ≡ extentHit eightInch (exOf fcb) row
   -- blocks 1 and 243 in a slot: not consistent; 2 and 242 allowed, where nothing lists them
-  pub j-1 : (img : Bytes) (e j : ℕ) → SlotOf img e j → consistent eightInch (withSlot eightInch img e j 1) ≡ false
-  pub j-243 : (img : Bytes) (e j : ℕ) → SlotOf img e j → consistent eightInch (withSlot eightInch img e j 243) ≡ false
+  pub j-1 : (img : Bytes) (e j : ℕ) → SlotOf img e j → consistent eightInch (imageSlot eightInch img e j 1) ≡ false
+  pub j-243 : (img : Bytes) (e j : ℕ) → SlotOf img e j → consistent eightInch (imageSlot eightInch img e j 243) ≡ false
   pub j-2 : (img : Bytes) (e j : ℕ) → SlotOf img e j → isListed eightInch (entryAt eightInch img) 2 ≡ false
-      → consistent eightInch (withSlot eightInch img e j 2) ≡ true
+      → consistent eightInch (imageSlot eightInch img e j 2) ≡ true
   pub j-242 : (img : Bytes) (e j : ℕ) → SlotOf img e j → isListed eightInch (entryAt eightInch img) 242 ≡ false
-      → consistent eightInch (withSlot eightInch img e j 242) ≡ true
+      → consistent eightInch (imageSlot eightInch img e j 242) ≡ true
 
 pub examples : Examples
+unfolding slotsOn
 examples = record {
   a = place-a;
   b = place-b;
@@ -80,7 +81,7 @@ examples = record {
   g = size-largest eightInch;
   h = position-256 eightInch;
   i-name = any-named;
-  i-pattern = any-hit;
+  i-pattern = any-hit eightInch;
   j-1 = λ img e j p. slot-refused eight-sound img (p .long) e j 1 (p .entry) (p .slot) (p .uses) (λ z. omega arith) (inl (omega arith));
   j-243 = λ img e j p. slot-refused eight-sound img (p .long) e j 243 (p .entry) (p .slot) (p .uses) (λ z. omega arith) (inr (omega arith));
   j-2 = λ img e j p free. slot-allowed eight-sound img (p .long) e j 2 (p .entry) (p .slot) (p .right) free (omega arith) (omega arith);

@@ -12,7 +12,7 @@ use Rattle.lists.specs.Below.{all-at}
 use Rattle.lists.specs.Splice.{part, splice, part-splice-same}
 use Rattle.format.specs.Diskette.{Bytes, Geometry, extentRecords}
 use Rattle.format.specs.Names.{nameRight}
-use Rattle.format.specs.Entries.{rcOf, userOf, extentOf, countIn, named, findNamed}
+use Rattle.format.specs.Entries.{countOf, userOf, extentOf, endOf, named, findNamed}
 use Rattle.format.specs.Consistent.{consistentRows, consistent}
 use Rattle.format.specs.Fcb.{crOf}
 use Rattle.format.specs.Found.{isFound}
@@ -21,9 +21,9 @@ use Rattle.model.specs.declared.Session.{Session}
 use Rattle.model.specs.Codes.{aOf, hOf}
 use Rattle.model.specs.Lent.{Lent, lend, rowsOf}
 use Rattle.model.specs.Entering.{threeBytes}
-use Rattle.model.specs.Calls.{done, sizeOf, fileSize, sized, positioned}
+use Rattle.model.specs.Calls.{done, fileSize, sized, positioned}
 use Rattle.model.specs.Step.{step}
-use Rattle.fields.specs.Size.{size-covers, size-high, sizeOf-high}
+use Rattle.fields.specs.Size.{size-covers, size-high, end-high}
 use Rattle.table.specs.Own.{call35, call36}
 use Rattle.table.specs.Present.{user-numbers}
 use Rattle.table.specs.Facts.{Ready, Sizes, Positions}
@@ -72,10 +72,10 @@ pub record HasEntry (G : Geometry) (l : Lent) (s : Session) (ext count : ℕ) : 
   pub below : entry < G .entries
   pub mine : named false (s .user) (l .fcb) 1 (rowsOf G l entry) ≡ true
   pub extent : extentOf (rowsOf G l entry) ≡ ext
-  pub counted : rcOf (rowsOf G l entry) ≡ count
+  pub counted : countOf (rowsOf G l entry) ≡ count
 
-pub entry-size : (G : Geometry) (l : Lent) (s : Session) (ext count : ℕ) (h : HasEntry G l s ext count) → sizeOf G (rowsOf G l (h .entry)) ≡ 128 * ext + count
-unfolding sizeOf countIn
+pub entry-size : (G : Geometry) (l : Lent) (s : Session) (ext count : ℕ) (h : HasEntry G l s ext count) → endOf (rowsOf G l (h .entry)) ≡ 128 * ext + count
+unfolding endOf
 entry-size G l s ext count h = rw (h .extent, h .counted)
 
 pub some-entry : (G : Geometry) (l : Lent) (s : Session) (ext count : ℕ) → HasEntry G l s ext count → FoundAt (findNamed G (rowsOf G l) false (s .user) (l .fcb) 1)
@@ -86,11 +86,11 @@ some-entry G l s ext count h =
 
 -- no entry of a consistent image is larger than 262,144 records
 entry-high : (G : Geometry) (l : Lent) (s : Session) → consistent G (l .image) ≡ true → s .user ≤ 15
-    → (e : ℕ) → e < G .entries → named false (s .user) (l .fcb) 1 (rowsOf G l e) ≡ true → sizeOf G (rowsOf G l e) ≤ 262144
+    → (e : ℕ) → e < G .entries → named false (s .user) (l .fcb) 1 (rowsOf G l e) ≡ true → endOf (rowsOf G l e) ≤ 262144
 unfolding consistent consistentRows named
 entry-high G l s right low e below mine =
     let is : userOf (rowsOf G l e) ≡ s .user = eqb-true _ _ (and-left _ _ mine) in
-    sizeOf-high G (rowsOf G l e) (user-numbers G (rowsOf G l e) (all-at _ (G .entries) (and-left _ _ right) e below) (omega arith))
+    end-high (rowsOf G l e) (user-numbers G (rowsOf G l e) (all-at _ (G .entries) (and-left _ _ right) e below) (omega arith))
 
 -- extent 2,047 with rc 128
 pub size-largest : (G : Geometry) (argument : ℕ) (l : Lent) (s : Session) → Ready G 35 l s → nameRight false (l .fcb) 1 ≡ true

@@ -5,19 +5,19 @@ use mathlib.Core.List.{[], _∷_, _++_}
 use Prim.Native.Nat.{ℕ, zero, suc, _≤_, _<_}
 use native.Mathlib.Omega.{arith}
 use lib.ListN.{length, getD, replicate, getD-replicate}
-use lib.Seq.{getD-append-add}
 use borrow.Author.Tests.{eqb-true, le-leb}
 use Rattle.lists.specs.Cases.{split, eq-or-ne, bool-cases, not-both}
 use Rattle.lists.specs.Tests.{_and_, _or_, and-left}
 use Rattle.lists.specs.Below.{allBelow}
-use Rattle.lists.specs.Splice.{splice}
-use Rattle.format.specs.Diskette.{Bytes, imageBytes, eightInch, slotCount}
+use Rattle.lists.specs.Splice.{part, splice}
+use Rattle.format.specs.Diskette.{Bytes, eightInch, slotCount, Long}
 use Rattle.format.specs.Names.{nameByte, nameRight, byteLike, nameLike}
-use Rattle.format.specs.Entries.{Rows, entryAt, withEntry, slotOf, userOf, rcOf, empty, used, extentOf, countIn, named}
+use Rattle.format.specs.Entries.{Rows, entryAt, withEntry, slotOf, userOf, countOf, empty, used, extentOf, endOf, slotIn, slotsOf, named}
 use Rattle.format.specs.Consistent.{consistent}
 use Rattle.format.specs.Notes.{isListed, freshMap, freeCount}
 use Rattle.format.specs.Fcb.{fcbBytes}
 use Rattle.disk.specs.Eight.{eight-sound}
+use Rattle.facts.specs.Long.{long-on}
 use Rattle.rows.specs.Entries.{length-withEntry, entry-stored, entry-left}
 use Rattle.consistency.specs.Facts.{Fine, Stands, Consistent}
 use Rattle.consistency.specs.Listed.{somewhere-listed, listed-somewhere}
@@ -25,7 +25,7 @@ use Rattle.consistency.specs.Reflect.{facts-image}
 use Rattle.model.specs.declared.Session.{Session}
 use Rattle.model.specs.Lent.{Lent, lend, rowsOf, ended}
 use Rattle.model.specs.Entering.{threeBytes}
-use Rattle.model.specs.Calls.{done, sizeOf, fileSize}
+use Rattle.model.specs.Calls.{done, fileSize}
 use Rattle.model.specs.Step.{step}
 use Rattle.fields.specs.Erased.{ErasedDisk, erased-empty, erased-unused}
 use Rattle.fields.specs.Size.{size-covers, size-high}
@@ -64,9 +64,9 @@ file-used : (r : ℕ) → used (fileRow r) ≡ true
 unfolding fileRow used
 file-used r = refl
 
-file-slot : (r j : ℕ) → slotOf (fileRow r) j ≡ getD fileSlots j 0
-unfolding slotOf fileRow
-file-slot r j = getD-append-add (fileHead r) fileSlots j 0
+file-slot : (r j : ℕ) → slotOf eightInch (fileRow r) j ≡ getD fileSlots j 0
+unfolding slotOf slotIn slotsOf part fileRow
+file-slot r j = refl
 
 slot-first : (j : ℕ) → j < slotCount → (getD fileSlots j 0 ≡ 0 → ⊥) → j ≡ 0
 slot-first zero h real = refl
@@ -88,15 +88,15 @@ fcb-name : nameRight false fileFcb 1 ≡ true
 unfolding nameRight nameByte allBelow fileFcb _and_ _or_
 fcb-name = refl
 
-file-size : (r : ℕ) → sizeOf eightInch (fileRow r) ≡ r
-unfolding sizeOf extentOf countIn fileRow
+file-size : (r : ℕ) → endOf (fileRow r) ≡ r
+unfolding extentOf endOf fileRow
 file-size r = omega arith
 
-file-extent : (r : ℕ) → extentOf (fileRow r) ≡ 0
+file-run : (r : ℕ) → extentOf (fileRow r) ≡ 0
 unfolding extentOf fileRow
-file-extent r = refl
+file-run r = refl
 
-file-count : (r : ℕ) → rcOf (fileRow r) ≡ r
+file-count : (r : ℕ) → countOf (fileRow r) ≡ r
 unfolding fileRow
 file-count r = refl
 
@@ -114,9 +114,9 @@ module _ (img : Bytes) (erased : ErasedDisk eightInch img) (r : ℕ) (low : r �
   rows : Rows
   rows = entryAt eightInch (oneFile img r)
 
-  pub one-long : length (oneFile img r) ≡ imageBytes eightInch
+  pub one-long : Long eightInch (oneFile img r)
   unfolding oneFile
-  one-long = length-withEntry eight-sound img (erased .long) 0 (omega arith) (fileRow r) (length-file r) ∙ erased .long
+  one-long = long-on eightInch (length-withEntry eight-sound img (erased .long) 0 (omega arith) (fileRow r) (length-file r)) (erased .long)
 
   one-row : rows 0 ≡ fileRow r
   unfolding rows oneFile
@@ -136,7 +136,7 @@ module _ (img : Bytes) (erased : ErasedDisk eightInch img) (r : ℕ) (low : r �
   only-slot : (b e j : ℕ) → Stands eightInch rows b e j → (e ≡ 0) × (j ≡ 0) × (b ≡ 2)
   only-slot b e j s =
       let q : e ≡ 0 = only e (s .entry) (s .uses) in
-      let is : slotOf (fileRow r) j ≡ b = ap (λ (x : Bytes). slotOf x j) (sym (ap rows q ∙ one-row)) ∙ s .is in
+      let is : slotOf eightInch (fileRow r) j ≡ b = ap (λ (x : Bytes). slotOf eightInch x j) (sym (ap rows q ∙ one-row)) ∙ s .is in
       let at : getD fileSlots j 0 ≡ b = sym (file-slot r j) ∙ is in
       let z : j ≡ 0 = slot-first j (s .place) (λ w. s .real (sym at ∙ w)) in
       (q, z, sym at ∙ rw z)
@@ -187,7 +187,7 @@ module _ (img : Bytes) (erased : ErasedDisk eightInch img) (r : ℕ) (low : r �
   one-size : fileSize eightInch rows (named false 0 fileFcb 1) ≡ r
   one-size =
       let mine : named false 0 fileFcb 1 (rows 0) ≡ true = rw one-row (file-asked r) in
-      let is : sizeOf eightInch (rows 0) ≡ r = ap (sizeOf eightInch) one-row ∙ file-size r in
+      let is : endOf (rows 0) ≡ r = ap endOf one-row ∙ file-size r in
       let least = size-covers eightInch rows (named false 0 fileFcb 1) 0 (omega arith) mine in
       let most = size-high eightInch rows (named false 0 fileFcb 1) r (λ e h t. let q : e ≡ 0 = only-named e h t in rw q (omega arith)) in
       omega arith
@@ -201,7 +201,7 @@ module _ (img : Bytes) (erased : ErasedDisk eightInch img) (r : ℕ) (low : r �
       let ready : Ready eightInch 35 l (ended s) =
       logged-ready eightInch (oneFile img r) one-long one-consistent map fileFcb buffer s fit 35 (λ u. drive-low) in
       let has : HasEntry eightInch l (ended s) 0 r =
-      record { entry = 0; below = omega arith; mine = rw (zero-user, one-row) (file-asked r); extent = rw one-row (file-extent r); counted = rw one-row (file-count r) } in
+      record { entry = 0; below = omega arith; mine = rw (zero-user, one-row) (file-asked r); extent = rw one-row (file-run r); counted = rw one-row (file-count r) } in
       let size : fileSize eightInch (rowsOf eightInch l) (named false (s .user) fileFcb 1) ≡ r = rw zero-user one-size in
       size-step eightInch x l (ended s) ready record { name = fcb-name; some = some-entry eightInch l (ended s) 0 r has }
       ∙ ap (λ (k : ℕ). done 0 s (lend (l .image) (l .map) (splice fileFcb 33 (threeBytes k)) buffer)) size

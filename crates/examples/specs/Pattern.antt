@@ -8,7 +8,7 @@ use lib.ListN.{length, getD}
 use borrow.Author.Tests.{eq-eqb}
 use Rattle.lists.specs.Tests.{and-both, and-then}
 use Rattle.lists.specs.Splice.{getD-part}
-use Rattle.format.specs.Diskette.{Bytes}
+use Rattle.format.specs.Diskette.{Bytes, Geometry}
 use Rattle.format.specs.Names.{nameBytes, sevenBits}
 use Rattle.format.specs.Entries.{userOf, exOf, named}
 use Rattle.facts.specs.Names.{like-any}
@@ -24,9 +24,9 @@ unfolding named
 any-named s q any user row mine = and-both _ _ (eq-eqb _ _ mine) (like-any s q row 1 (λ i h. ap sevenBits (any i h)))
 
 -- the pattern that 17 takes from such an FCB: byte 12 alone decides
-pub any-hit : (fcb : Bytes) → length fcb ≡ 36 → AllAny fcb 1 → (user : ℕ) (row : Bytes) → userOf row ≡ user
-    → hit user (patternOf fcb) row ≡ extentHit (exOf fcb) row
+pub any-hit : (G : Geometry) (fcb : Bytes) → length fcb ≡ 36 → AllAny fcb 1 → (user : ℕ) (row : Bytes) → userOf row ≡ user
+    → hit G user (patternOf fcb) row ≡ extentHit G (exOf fcb) row
 unfolding hit patternOf
-any-hit fcb long any user row mine =
+any-hit G fcb long any user row mine =
     let any′ : AllAny (patternOf fcb) 0 = λ i h. getD-part fcb 1 patternBytes (omega arith) (0 + i) (omega arith) ∙ rw zero-add (any i h) in
-    and-then _ _ (any-named (patternOf fcb) 0 any′ user row mine) ∙ ap (λ (x : ℕ). extentHit x row) (getD-part fcb 1 patternBytes (omega arith) 11 (omega arith))
+    and-then _ _ (any-named (patternOf fcb) 0 any′ user row mine) ∙ ap (λ (x : ℕ). extentHit G x row) (getD-part fcb 1 patternBytes (omega arith) 11 (omega arith))

@@ -2,13 +2,11 @@
 use mathlib.Core.Path.{_≡_, sym, _∙_}
 use mathlib.Core.Logic.{_⊎_, inl, inr}
 use mathlib.Core.Bool.{true, false}
-use Prim.Native.Nat.{ℕ, _+_, _≤_, _<_}
+use Prim.Native.Nat.{ℕ, _≤_, _<_}
 use native.Mathlib.Omega.{arith}
-use lib.ListN.{length, set, length-set}
-use lib.Seq.{getD-set-same, getD-set-other}
 use Rattle.lists.specs.Cases.{split, eq-or-ne, not-both, refute}
-use Rattle.format.specs.Diskette.{Bytes, Geometry, Sound, imageBytes, slotCount}
-use Rattle.format.specs.Entries.{Rows, entryAt, withEntry, slotOf, userOf, used}
+use Rattle.format.specs.Diskette.{Bytes, Geometry, Sound, slotCount, slotsOn, Long}
+use Rattle.format.specs.Entries.{Rows, entryAt, withEntry, slotOf, userOf, used, withSlot}
 use Rattle.format.specs.Consistent.{consistent}
 use Rattle.format.specs.Notes.{isListed}
 use Rattle.facts.specs.Names.{like-intro, right-cong}
@@ -16,13 +14,14 @@ use Rattle.rows.specs.Entries.{length-entryAt, entry-stored, entry-left}
 use Rattle.consistency.specs.Facts.{Fine, Stands, SameFile, Consistent}
 use Rattle.consistency.specs.Listed.{somewhere-listed}
 use Rattle.consistency.specs.Reflect.{image-facts, facts-image, numbers-elim, numbers-intro}
+use Rattle.facts.specs.Slots.{slots-on-high, length-withSlot, byte-withSlot, slot-withSlot, slot-withSlot-other}
 use Rattle.fields.specs.Agree.{Agree, name-cong, numbers-cong, used-cong, empty-cong, same-file, same-name}
 
 -- the rows of two directories differ in slot j of entry e alone, which is v in the second
 record Put (G : Geometry) (d t : Rows) (e j v : ℕ) : Type 0 where
   head : (f : ℕ) → f < G .entries → Agree (t f) (d f) 0 16
-  here : slotOf (t e) j ≡ v
-  elsewhere : (f k : ℕ) → f < G .entries → k < slotCount → ((f ≡ e) × (k ≡ j) → ⊥) → slotOf (t f) k ≡ slotOf (d f) k
+  here : slotOf G (t e) j ≡ v
+  elsewhere : (f k : ℕ) → f < G .entries → k < slotCount → ((f ≡ e) × (k ≡ j) → ⊥) → slotOf G (t f) k ≡ slotOf G (d f) k
 
 module _ (G : Geometry) (d t : Rows) (e j v : ℕ) (p : Put G d t e j v) where
   same-user : (f : ℕ) → f < G .entries → userOf (t f) ≡ userOf (d f)
@@ -44,7 +43,7 @@ module _ (G : Geometry) (d t : Rows) (e j v : ℕ) (p : Put G d t e j v) where
       } in
       split (eq-or-ne f e)
       (λ q. split (eq-or-ne k j)
-      (λ r. let is : slotOf (t e) j ≡ b = rw (q, r) at (s .is) in inl (q, r, sym (p .here) ∙ is))
+      (λ r. let is : slotOf G (t e) j ≡ b = rw (q, r) at (s .is) in inl (q, r, sym (p .here) ∙ is))
       (λ r. inr (old (λ w. r (w .1)))))
       (λ q. inr (old (λ w. q (w .0))))
 
@@ -53,7 +52,7 @@ module _ (G : Geometry) (d t : Rows) (e j v : ℕ) (p : Put G d t e j v) where
     nowhere : (f k : ℕ) → Stands G d v f k → ⊥
     nowhere f k s = not-both _ (somewhere-listed G d v f k s) unlisted
 
-    put-slot : (f k : ℕ) → f < G .entries → k < slotCount → (slotOf (t f) k ≡ v) ⊎ (slotOf (t f) k ≡ slotOf (d f) k)
+    put-slot : (f k : ℕ) → f < G .entries → k < slotCount → (slotOf G (t f) k ≡ v) ⊎ (slotOf G (t f) k ≡ slotOf G (d f) k)
     put-slot f k h l =
         split (eq-or-ne f e)
         (λ q. split (eq-or-ne k j) (λ r. inl (rw (q, r) (p .here))) (λ r. inr (p .elsewhere f k h l (λ w. r (w .1)))))
@@ -78,15 +77,15 @@ module _ (G : Geometry) (d t : Rows) (e j v : ℕ) (p : Put G d t e j v) where
         (λ x. split (stood b g m r) (λ y. let z : Stands G d v f k = rw (y .2) x in absurd (nowhere f k z))
         (λ y. (c .once-entry b f k g m x y, c .once-slot b f k g m x y)))
 
-    put-same : (f g : ℕ) → f < G .entries → g < G .entries → SameFile (t f) (t g) → SameFile (d f) (d g)
+    put-same : (f g : ℕ) → f < G .entries → g < G .entries → SameFile G (t f) (t g) → SameFile G (d f) (d g)
     put-same f g h l s =
-        let a = same-file (t f) (d f) (λ i x y. p .head f h i x (omega arith)) in
-        let b = same-file (t g) (d g) (λ i x y. p .head g l i x (omega arith)) in
+        let a = same-file G (t f) (d f) (λ i x y. p .head f h i x (omega arith)) in
+        let b = same-file G (t g) (d g) (λ i x y. p .head g l i x (omega arith)) in
         record {
           user = sym (a .user) ∙ s .user ∙ b .user;
           name = like-intro (d g) 1 (d f) 1
-              (λ i x. sym (same-name (t g) (d g) b i x) ∙ sym (same-name (t f) (t g) s i x) ∙ same-name (t f) (d f) a i x);
-          extent = sym (a .extent) ∙ s .extent ∙ b .extent;
+              (λ i x. sym (same-name G (t g) (d g) b i x) ∙ sym (same-name G (t f) (t g) s i x) ∙ same-name G (t f) (d f) a i x);
+          run = sym (a .run) ∙ s .run ∙ b .run;
         }
 
     put-facts : Consistent G t
@@ -100,43 +99,45 @@ module _ (G : Geometry) (d t : Rows) (e j v : ℕ) (p : Put G d t e j v) where
 
 -- ---- on an image
 -- v put into slot j of entry e
-unfoldable pub withSlot : Geometry → Bytes → ℕ → ℕ → ℕ → Bytes
-withSlot G img e j v = withEntry G img e (set (entryAt G img e) (16 + j) v)
+unfoldable pub imageSlot : Geometry → Bytes → ℕ → ℕ → ℕ → Bytes
+imageSlot G img e j v = withEntry G img e (withSlot G (entryAt G img e) j v)
 
-module _ {G : Geometry} (S : Sound G) (img : Bytes) (long : length img ≡ imageBytes G) (e j v : ℕ) (below : e < G .entries) (inside : j < slotCount) where
-  put-row : entryAt G (withSlot G img e j v) e ≡ set (entryAt G img e) (16 + j) v
-  unfolding withSlot
+module _ {G : Geometry} (S : Sound G) (img : Bytes) (long : Long G img) (e j v : ℕ) (below : e < G .entries) (real : j < slotsOn G) where
+  inside : j < slotCount
+  inside = omega (arith, real, slots-on-high G)
+
+  put-row : entryAt G (imageSlot G img e j v) e ≡ withSlot G (entryAt G img e) j v
+  unfolding imageSlot
   put-row =
-      entry-stored S img long e below (set (entryAt G img e) (16 + j) v) (length-set (entryAt G img e) (16 + j) v ∙ length-entryAt S img long e below)
+      entry-stored S img long e below (withSlot G (entryAt G img e) j v) (length-withSlot G (entryAt G img e) j v ∙ length-entryAt S img long e below)
 
-  put-left : (f : ℕ) → f < G .entries → (e ≡ f → ⊥) → entryAt G (withSlot G img e j v) f ≡ entryAt G img f
-  unfolding withSlot
+  put-left : (f : ℕ) → f < G .entries → (e ≡ f → ⊥) → entryAt G (imageSlot G img e j v) f ≡ entryAt G img f
+  unfolding imageSlot
   put-left f h ne =
-      entry-left S img long e below (set (entryAt G img e) (16 + j) v) (length-set (entryAt G img e) (16 + j) v ∙ length-entryAt S img long e below) f h ne
+      entry-left S img long e below (withSlot G (entryAt G img e) j v) (length-withSlot G (entryAt G img e) j v ∙ length-entryAt S img long e below) f h ne
 
-  put-image : Put G (entryAt G img) (entryAt G (withSlot G img e j v)) e j v
-  unfolding slotOf
+  put-image : Put G (entryAt G img) (entryAt G (imageSlot G img e j v)) e j v
   put-image = record {
     head = λ f h i a b. split (eq-or-ne e f)
-        (λ q. rw (← q, put-row) (getD-set-other (entryAt G img e) (16 + j) i v 0 (λ z. omega arith)))
+        (λ q. rw (← q, put-row) (byte-withSlot G (entryAt G img e) j v real i (λ x y. omega arith)))
         (λ q. rw (put-left f h q));
-    here = rw put-row (getD-set-same (entryAt G img e) (16 + j) v 0 (omega (arith, length-entryAt S img long e below)));
+    here = rw put-row (slot-withSlot G (entryAt G img e) j v real (omega (arith, length-entryAt S img long e below)));
     elsewhere = λ f k h l ne. split (eq-or-ne e f)
-        (λ q. rw (← q, put-row) (getD-set-other (entryAt G img e) (16 + j) (16 + k) v 0 (λ z. ne (sym q, omega arith))))
+        (λ q. rw (← q, put-row) (slot-withSlot-other G (entryAt G img e) j v real k (λ z. ne (sym q, z))))
         (λ q. rw (put-left f h q));
   }
 
   -- a block past the directory that no entry lists may be put into a slot
-  pub slot-allowed : consistent G img ≡ true → isListed G (entryAt G img) v ≡ false → G .area ≤ v → v < G .blocks → consistent G (withSlot G img e j v) ≡ true
+  pub slot-allowed : consistent G img ≡ true → isListed G (entryAt G img) v ≡ false → G .area ≤ v → v < G .blocks → consistent G (imageSlot G img e j v) ≡ true
   slot-allowed right unlisted low high =
-      facts-image G (withSlot G img e j v)
-      (put-facts G (entryAt G img) (entryAt G (withSlot G img e j v)) e j v put-image (image-facts G img right) below unlisted low high)
+      facts-image G (imageSlot G img e j v)
+      (put-facts G (entryAt G img) (entryAt G (imageSlot G img e j v)) e j v put-image (image-facts G img right) below unlisted low high)
 
   -- a number of the directory's blocks, or past the last block, may not
-  pub slot-refused : used (entryAt G img e) ≡ true → (v ≡ 0 → ⊥) → (v < G .area) ⊎ (G .blocks ≤ v) → consistent G (withSlot G img e j v) ≡ false
-  slot-refused uses real out =
+  pub slot-refused : used (entryAt G img e) ≡ true → (v ≡ 0 → ⊥) → (v < G .area) ⊎ (G .blocks ≤ v) → consistent G (imageSlot G img e j v) ≡ false
+  slot-refused uses some out =
       sym (refute _ (λ right.
-      let t : Rows = entryAt G (withSlot G img e j v) in
-      let f = image-facts G (withSlot G img e j v) right .fine e below (still-used G (entryAt G img) t e j v put-image e below ∙ uses) in
-      let is : slotOf (t e) j ≡ v = put-image .here in
-      split out (λ w. omega (arith, f .low j inside (λ z. real (sym is ∙ z)))) (λ w. omega (arith, f .high j inside (λ z. real (sym is ∙ z))))))
+      let t : Rows = entryAt G (imageSlot G img e j v) in
+      let f = image-facts G (imageSlot G img e j v) right .fine e below (still-used G (entryAt G img) t e j v put-image e below ∙ uses) in
+      let is : slotOf G (t e) j ≡ v = put-image .here in
+      split out (λ w. omega (arith, f .low j inside (λ z. some (sym is ∙ z)))) (λ w. omega (arith, f .high j inside (λ z. some (sym is ∙ z))))))

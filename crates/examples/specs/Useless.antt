@@ -4,11 +4,11 @@ use mathlib.Core.Path.{_≡_, refl, sym, ap, _∙_}
 use mathlib.Core.Bool.{Bool, true, false}
 use Prim.Native.Nat.{ℕ, zero, suc, _*_, _%_, _≤_}
 use native.Mathlib.Omega.{arith}
-use lib.ListN.{length, getD, replicate, length-replicate}
+use lib.ListN.{getD, replicate, length-replicate}
 use Rattle.lists.specs.Cases.{split, eq-or-ne, clash}
 use Rattle.lists.specs.Tests.{_or_}
 use Rattle.lists.specs.Splice.{splice}
-use Rattle.format.specs.Diskette.{Bytes, imageBytes, eightInch}
+use Rattle.format.specs.Diskette.{Bytes, imageBytes, eightInch, LongBy, Long}
 use Rattle.format.specs.Entries.{extentOf, entryAt}
 use Rattle.format.specs.Fcb.{randomOf}
 use Rattle.format.specs.Consistent.{consistent}
@@ -81,7 +81,7 @@ after img = lend img (freshMap eightInch (entryAt eightInch img)) fileFcb blank
 abbrev pub onLogged : ℕ → Bytes → Outcome
 onLogged n img = step eightInch (ask n 0) (after img) (ended start)
 
-module _ (img : Bytes) (long : length img ≡ imageBytes eightInch) (right : consistent eightInch img ≡ true) where
+module _ (img : Bytes) (long : Long eightInch img) (right : consistent eightInch img ≡ true) where
   pub logged-is : step eightInch (ask 13 0) (lend img notes fileFcb blank) start ≡ done 0 start (after img)
   logged-is = login-step eightInch img long right notes fileFcb blank start fitting 0
 
@@ -273,7 +273,7 @@ pub record Useless : Type 0 where
   pub made-up-space : (b : Build) → MakesUpSpace b → Falls b
   pub made-up-sizes : (b : Build) → MakesUpSizes b → Falls b
 
-pub useless : (size : ℕ) → size ≡ imageBytes eightInch → Useless
+pub useless : (size : ℕ) → LongBy eightInch size → Useless
 useless size is =
     let img : Bytes = replicate size 229 in
     let erased : ErasedDisk eightInch img = all-erased eight-sound size is in

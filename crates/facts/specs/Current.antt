@@ -13,7 +13,7 @@ use Rattle.facts.specs.Found.{at-not-nothing, at-once, found-cases}
 pub record Current (G : Geometry) (d : Rows) (map : Bytes) (user : ℕ) (fcb : Bytes) (e : ℕ) : Type 0 where
   pub right : fcbRight fcb ≡ true
   pub found : findFile G d user fcb 1 (extentOf fcb) ≡ At e
-  pub fits : slotsFit map e (slotsOf (d e)) (slotsOf fcb) ≡ true
+  pub fits : slotsFit G map e (slotsOf (d e)) (slotsOf fcb) ≡ true
 
 module _ (G : Geometry) (d : Rows) (map : Bytes) (user : ℕ) (fcb : Bytes) where
   -- the ways to be current or not, in the order in which they are tested
@@ -26,7 +26,7 @@ module _ (G : Geometry) (d : Rows) (map : Bytes) (user : ℕ) (fcb : Bytes) wher
   current-missing t q = rw (t, q)
 
   pub current-fitting : (e : ℕ) → fcbRight fcb ≡ true → findFile G d user fcb 1 (extentOf fcb) ≡ At e
-      → current G d map user fcb ≡ cond (slotsFit map e (slotsOf (d e)) (slotsOf fcb)) (At e) Nothing
+      → current G d map user fcb ≡ cond (slotsFit G map e (slotsOf (d e)) (slotsOf fcb)) (At e) Nothing
   unfolding current
   current-fitting e t q = rw (t, q)
 
@@ -37,7 +37,7 @@ module _ (G : Geometry) (d : Rows) (map : Bytes) (user : ℕ) (fcb : Bytes) wher
   current-says e q =
       split (bool-cases (fcbRight fcb))
       (λ t. found-cases (findFile G d user fcb 1 (extentOf fcb))
-      (λ k w. split (bool-cases (slotsFit map k (slotsOf (d k)) (slotsOf fcb)))
+      (λ k w. split (bool-cases (slotsFit G map k (slotsOf (d k)) (slotsOf fcb)))
       (λ f. let z : k ≡ e = at-once k e (sym (current-fitting k t w ∙ rw f) ∙ q) in rw (← z) record { right = t; found = w; fits = f })
       (λ f. absurd (at-not-nothing e (sym q ∙ current-fitting k t w ∙ rw f))))
       (λ w. absurd (at-not-nothing e (sym q ∙ current-missing t w))))

@@ -1,11 +1,12 @@
 -- What the look-ups say: the entry found passes the test and is the first that does; where nothing is found, no entry passes.
-use mathlib.Core.Path.{_≡_}
+use mathlib.Core.Path.{_≡_, sym, _∙_}
 use mathlib.Core.Bool.{Bool, false}
 use Prim.Native.Nat.{ℕ, _<_}
 use native.Mathlib.Omega.{arith}
 use Rattle.format.specs.Diskette.{Bytes, Geometry}
-use Rattle.format.specs.Entries.{Rows, empty, named, isFile, findFile, findEmpty}
+use Rattle.format.specs.Entries.{Rows, empty, named, extentOf, runOf, covers, isFile, findFile, findEmpty}
 use Rattle.format.specs.declared.Found.the-variants.{At, Nothing}
+use Rattle.facts.specs.Naming.{file-run}
 use Rattle.facts.specs.Found.{FirstAt, first-says, first-is-at, none-says, none-is}
 
 -- the test of each look-up, at an entry
@@ -26,6 +27,15 @@ module _ (G : Geometry) (d : Rows) (user : ℕ) (s : Bytes) (q ext : ℕ) where
   pub file-is : (e : ℕ) → FirstAt (fileTest G d user s q ext) 0 (G .entries) e → findFile G d user s q ext ≡ At e
   unfolding findFile
   file-is e f = first-is-at (fileTest G d user s q ext) 0 (G .entries) e f
+
+  -- where an entry covers one extent, the one that was found has the extent that it was asked for by
+  pub found-own : ((x : ℕ) → runOf G x ≡ x) → (e : ℕ) → findFile G d user s q ext ≡ At e → extentOf (d e) ≡ ext
+  found-own single e h = sym (single (extentOf (d e))) ∙ file-run G user s q ext (d e) (file-says e h .holds) ∙ single ext
+
+  -- extents of one run have the same entry
+  pub find-run : (other : ℕ) → runOf G ext ≡ runOf G other → findFile G d user s q ext ≡ findFile G d user s q other
+  unfolding findFile isFile covers
+  find-run other h = rw h
 
   pub no-file-says : findFile G d user s q ext ≡ Nothing → (e : ℕ) → e < G .entries → isFile G user s q ext (d e) ≡ false
   unfolding findFile

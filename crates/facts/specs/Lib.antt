@@ -1,5 +1,8 @@
 pub mod Found
 pub mod Slots
+pub mod Numbers
+pub mod Counts
+pub mod Long
 pub mod Marks
 pub mod Find
 pub mod Naming

@@ -10,10 +10,12 @@ use Rattle.lists.specs.Tests.{and-fails-left}
 use Rattle.lists.specs.Seen.{bit, bit-set}
 use Rattle.lists.specs.Fold.{foldBelow, fold-none, fold-more}
 use Rattle.lists.specs.Tab.{Filled, filled-none, filled-more, tab-cong}
-use Rattle.format.specs.Diskette.{Bytes, Geometry, Sound, imageBytes}
+use Rattle.format.specs.Diskette.{Bytes, Geometry, Sound, Long}
 use Rattle.format.specs.Entries.{Rows, entryAt, slotsOf, used}
 use Rattle.format.specs.Notes.{noteAt, freeNote, pendingEntry, heldFor, mapRight, releasedMap}
+use Rattle.facts.specs.Slots.{slot-place}
 use Rattle.model.specs.Calls.{changedRow, changedRows, erasedRow}
+use Rattle.facts.specs.Long.{long-on}
 use Rattle.fields.specs.Changing.{length-changed, row-to-come, length-erasedRow}
 use Rattle.notes.specs.Numbers.{settled-not, pending-entry}
 use Rattle.notes.specs.Right.{NoteOk, ok-area, ok-recorded, ok-free, ok-pending, map-ok}
@@ -32,7 +34,7 @@ module _ (G : Geometry) (d : Rows) (p q : ℕ → Bool) (same : (e : ℕ) → e 
   held-same b n (ok-recorded z h y) = settled-unheld n (omega arith)
   held-same b n (ok-free z y) = settled-unheld n (omega arith)
   held-same b n (ok-pending e j z h l t y) =
-      let k : pendingEntry n ≡ e = ap pendingEntry z ∙ pending-entry e j l in rw (k, same e h)
+      let k : pendingEntry n ≡ e = ap pendingEntry z ∙ pending-entry e j (slot-place G l) in rw (k, same e h)
 
   -- so tests that agree on entries free the same notes of a right map some of whose blocks have become free
   pub unheld-same : (r : ℕ → Bool) (old map : Bytes) → length old ≡ G .blocks → mapRight G d old ≡ true → Freed r old map
@@ -54,12 +56,12 @@ pub record Erased (G : Geometry) (picks : Bytes → Bool) (img map : Bytes) (e :
 
 -- ---- all entries: those below i are done, and the others as they were lent
 pub record Erasing (G : Geometry) (picks : Bytes → Bool) (img map old : Bytes) (i : ℕ) (img′ map′ marks : Bytes) : Type 0 where
-  pub size : length img′ ≡ imageBytes G
+  pub size : Long G img′
   pub image : img′ ≡ foldBelow (changedRow G picks erasedRow) img i
-  pub notes : Freed (inEntries (entryAt G img) (λ (e : ℕ). picks (entryAt G img e)) i) map map′
+  pub notes : Freed (inEntries G (entryAt G img) (λ (e : ℕ). picks (entryAt G img e)) i) map map′
   pub marked : Filled (λ (e : ℕ). bit (picks (entryAt G img e))) old i marks
 
-module _ {G : Geometry} (S : Sound G) (picks : Bytes → Bool) (img map : Bytes) (long : length img ≡ imageBytes G) (blocks : length map ≡ G .blocks) where
+module _ {G : Geometry} (S : Sound G) (picks : Bytes → Bool) (img map : Bytes) (long : Long G img) (blocks : length map ≡ G .blocks) where
   abbrev picked : ℕ → Bool
   picked e = picks (entryAt G img e)
 
@@ -67,7 +69,7 @@ module _ {G : Geometry} (S : Sound G) (picks : Bytes → Bool) (img map : Bytes)
   erasing-none old = record {
     size = long;
     image = sym (fold-none _ img);
-    notes = entries-none (entryAt G img) picked map;
+    notes = entries-none G (entryAt G img) picked map;
     marked = filled-none _ old;
   }
 
@@ -81,12 +83,12 @@ module _ {G : Geometry} (S : Sound G) (picks : Bytes → Bool) (img map : Bytes)
       let m : length marks₁ ≡ length old = s .marked .long in
       let z : map₂ ≡ cond (picks (entryAt G img₁ i)) (unlistedMap G (slotsOf (entryAt G img₁ i)) map₁) map₁ = t .notes in
       record {
-        size = ap length next ∙ length-changed S picks erasedRow length-erasedRow img long (i + 1) (omega arith) ∙ long;
+        size = long-on G (ap length next ∙ length-changed S picks erasedRow length-erasedRow img long (i + 1) (omega arith)) long;
         image = next;
         notes = rw (z, q)
-            (cond-either (Freed (inEntries (entryAt G img) picked (i + 1)) map) (picked i)
-            (λ y. entries-more (entryAt G img) picked G map map₁ i blocks y (s .notes))
-            (λ y. entries-kept (entryAt G img) picked map map₁ i y (s .notes)));
+            (cond-either (Freed (inEntries G (entryAt G img) picked (i + 1)) map) (picked i)
+            (λ y. entries-more G (entryAt G img) picked map map₁ i blocks y (s .notes))
+            (λ y. entries-kept G (entryAt G img) picked map map₁ i y (s .notes)));
         marked = filled-more _ old i marks₁ mark (omega arith) (t .marked ∙ ap (λ (r : Bytes). bit (picks r)) q) (s .marked);
       }
 

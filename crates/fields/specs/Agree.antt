@@ -4,12 +4,13 @@ use mathlib.Core.Bool.{Bool, false}
 use Prim.Native.Nat.{ℕ, _+_, _≤_, _<_}
 use native.Mathlib.Omega.{arith}
 use lib.ListN.{getD}
-use Rattle.format.specs.Diskette.{Bytes, Geometry, slotCount}
+use Rattle.format.specs.Diskette.{Bytes, Geometry}
 use Rattle.format.specs.Names.{nameBytes, sevenBits}
-use Rattle.format.specs.Entries.{userOf, slotOf, empty, used, readOnly, extentOf, covers, named, isFile}
+use Rattle.format.specs.Entries.{userOf, slotOf, empty, used, readOnly, countOf, extentOf, runOf, covers, named, isFile}
 use Rattle.format.specs.Consistent.{numbersRight}
 use Rattle.format.specs.Fcb.{randomOf, fcbRight}
 use Rattle.consistency.specs.Facts.{SameFile}
+use Rattle.facts.specs.Slots.{slot-bytes}
 use Rattle.facts.specs.Names.{nameBits, like-at, like-intro, like-cong-left, like-cong-right, right-cong}
 
 -- bytes a to b - 1 of r and t are the same
@@ -22,13 +23,15 @@ SameName s q r p = (i : ℕ) → i < nameBytes → nameBits s q i ≡ nameBits r
 
 -- ---- fields and tests of a row, by the bytes that they look at
 module _ (r t : Bytes) where
-  pub slot-cong : Agree r t 16 32 → (j : ℕ) → j < slotCount → slotOf r j ≡ slotOf t j
-  unfolding slotOf
-  slot-cong h j l = h (16 + j) (omega arith) (omega arith)
+  pub slot-cong : Agree r t 16 32 → (G : Geometry) (j : ℕ) → slotOf G r j ≡ slotOf G t j
+  slot-cong h G j = slot-bytes G r t (λ i l. h (16 + i) (omega arith) (omega arith)) j
 
   pub extent-cong : Agree r t 12 15 → extentOf r ≡ extentOf t
   unfolding extentOf
   extent-cong h = rw (h 12 (omega arith) (omega arith), h 14 (omega arith) (omega arith))
+
+  pub count-cong : Agree r t 15 16 → countOf r ≡ countOf t
+  count-cong h = h 15 (omega arith) (omega arith)
 
   pub numbers-cong : Agree r t 12 16 → numbersRight r ≡ numbersRight t
   unfolding numbersRight
@@ -49,30 +52,30 @@ module _ (r t : Bytes) where
   unfolding readOnly
   readOnly-cong e = rw e
 
-pub covers-cong : (G : Geometry) (r t : Bytes) → extentOf r ≡ extentOf t → (ext : ℕ) → covers G r ext ≡ covers G t ext
+pub covers-cong : (G : Geometry) (r t : Bytes) → runOf G (extentOf r) ≡ runOf G (extentOf t) → (ext : ℕ) → covers G r ext ≡ covers G t ext
 unfolding covers
 covers-cong G r t e ext = rw e
 
 -- ---- rows of one user, name and extent: no look-up tells them apart
-pub same-file : (r t : Bytes) → Agree r t 0 15 → SameFile r t
-same-file r t h = record {
+pub same-file : (G : Geometry) (r t : Bytes) → Agree r t 0 15 → SameFile G r t
+same-file G r t h = record {
   user = h 0 (omega arith) (omega arith);
   name = like-intro t 1 r 1 (λ i l. sym (name-cong r t (λ k a b. h k (omega arith) (omega arith)) i l));
-  extent = extent-cong r t (λ i a b. h i (omega arith) (omega arith));
+  run = ap (runOf G) (extent-cong r t (λ i a b. h i (omega arith) (omega arith)));
 }
 
 -- its names, byte by byte
-pub same-name : (r t : Bytes) → SameFile r t → SameName r 1 t 1
-same-name r t s i l = sym (like-at t 1 r 1 (s .name) i l)
+pub same-name : (G : Geometry) (r t : Bytes) → SameFile G r t → SameName r 1 t 1
+same-name G r t s i l = sym (like-at t 1 r 1 (s .name) i l)
 
 module _ (wild : Bool) (user : ℕ) (s : Bytes) (q : ℕ) (r t : Bytes) where
   pub named-cong : userOf r ≡ userOf t → SameName r 1 t 1 → named wild user s q r ≡ named wild user s q t
   unfolding named
   named-cong e n = rw (e, like-cong-right wild r 1 t 1 n s q)
 
-pub isFile-cong : (G : Geometry) (user : ℕ) (s : Bytes) (q ext : ℕ) (r t : Bytes) → SameFile r t → isFile G user s q ext r ≡ isFile G user s q ext t
+pub isFile-cong : (G : Geometry) (user : ℕ) (s : Bytes) (q ext : ℕ) (r t : Bytes) → SameFile G r t → isFile G user s q ext r ≡ isFile G user s q ext t
 unfolding isFile
-isFile-cong G user s q ext r t k = rw (named-cong false user s q r t (k .user) (same-name r t k), covers-cong G r t (k .extent) ext)
+isFile-cong G user s q ext r t k = rw (named-cong false user s q r t (k .user) (same-name G r t k), covers-cong G r t (k .run) ext)
 
 -- ---- names that are asked for: the same name asks for the same rows
 module _ (s : Bytes) (q : ℕ) (r : Bytes) (p : ℕ) (same : SameName s q r p) where

@@ -1,5 +1,5 @@
 -- An image in which the rows that a test picks are changed (19, 23): its rows, its records and its bytes; and the row of a delete.
-use mathlib.Core.Path.{_≡_, refl, sym, ap, _∙_}
+use mathlib.Core.Path.{_≡_, refl, ap, _∙_}
 use mathlib.Core.Logic.{_⊎_}
 use mathlib.Core.Bool.{Bool, true, false, cond}
 use Prim.Native.Nat.{ℕ, _+_, _≤_, _<_}
@@ -10,16 +10,17 @@ use borrow.Author.Tests.{eq-eqb}
 use Rattle.lists.specs.Cases.{split, bool-cases, lt-or-le}
 use Rattle.lists.specs.Splice.{splice-set}
 use Rattle.lists.specs.Fold.{foldBelow, fold-builds}
-use Rattle.format.specs.Diskette.{Bytes, Geometry, Sound, imageBytes, recordAt, entryBytes}
+use Rattle.format.specs.Diskette.{Bytes, Geometry, Sound, imageBytes, recordAt, entryBytes, Long}
 use Rattle.format.specs.Entries.{entryPlace, entryAt, withEntry, userOf, empty}
 use Rattle.disk.specs.Places.{blockRecords}
+use Rattle.facts.specs.Long.{long-on}
 use Rattle.rows.specs.Entries.{areaRecords, entry-fits, length-entryAt, length-withEntry, entry-stored, entry-left, entry-byte-left, record-kept}
 use Rattle.model.specs.Calls.{changedRow, changedRows, erasedRow}
 use Rattle.fields.specs.Agree.{Agree}
 
 -- ---- rows that a test picks are changed, one after the other
 module _ {G : Geometry} (S : Sound G) (picks : Bytes → Bool) (change : Bytes → Bytes)
-    (keeps : (r : Bytes) → length r ≡ entryBytes → length (change r) ≡ entryBytes) (img : Bytes) (long : length img ≡ imageBytes G) where
+    (keeps : (r : Bytes) → length r ≡ entryBytes → length (change r) ≡ entryBytes) (img : Bytes) (long : Long G img) where
   -- a row after it
   after : Bytes → Bytes
   after r = cond (picks r) (change r) r
@@ -30,14 +31,17 @@ module _ {G : Geometry} (S : Sound G) (picks : Bytes → Bool) (change : Bytes �
 
   -- the image after the first n rows
   record So (n : ℕ) (out : Bytes) : Type 0 where
-    size : length out ≡ imageBytes G
+    size : length out ≡ length img
     done : (e : ℕ) → e < n → e < G .entries → entryAt G out e ≡ after (entryAt G img e)
     left : (e : ℕ) → n ≤ e → e < G .entries → entryAt G out e ≡ entryAt G img e
     past : (d : ℕ) → areaRecords G ≤ d → d < blockRecords G → recordAt G out d ≡ recordAt G img d
     byte : (i : ℕ) → Outside n i → getD out i 0 ≡ getD img i 0
 
+  so-long : (out : Bytes) → length out ≡ length img → Long G out
+  so-long out q = long-on G q long
+
   so-none : So 0 img
-  so-none = record { size = long; done = λ e h. absurd (omega arith); left = λ e a b. refl; past = λ d a b. refl; byte = λ i o. refl }
+  so-none = record { size = refl; done = λ e h. absurd (omega arith); left = λ e a b. refl; past = λ d a b. refl; byte = λ i o. refl }
 
   -- a row that is not picked
   so-kept : (n : ℕ) (out : Bytes) → n < G .entries → picks (entryAt G img n) ≡ false → So n out → So (n + 1) out
@@ -58,13 +62,13 @@ module _ {G : Geometry} (S : Sound G) (picks : Bytes → Bool) (change : Bytes �
       let row : Bytes = change (entryAt G img n) in
       let w : length row ≡ entryBytes = keeps (entryAt G img n) (length-entryAt S img long n h) in
       record {
-        size = length-withEntry S out (s .size) n h row w ∙ s .size;
+        size = length-withEntry S out (so-long out (s .size)) n h row w ∙ s .size;
         done = λ e a b. split (lt-or-le e n)
-            (λ l. entry-left S out (s .size) n h row w e b (λ q. omega arith) ∙ s .done e l b)
-            (λ l. let q : e ≡ n = omega arith in rw q (entry-stored S out (s .size) n h row w ∙ rw t));
-        left = λ e a b. entry-left S out (s .size) n h row w e b (λ q. omega arith) ∙ s .left e (omega arith) b;
-        past = λ d a b. record-kept S out (s .size) n h row w d a b ∙ s .past d a b;
-        byte = λ i o. entry-byte-left S out (s .size) n h row w i (o n (omega arith) t) ∙ s .byte i (λ e a p. o e (omega arith) p);
+            (λ l. entry-left S out (so-long out (s .size)) n h row w e b (λ q. omega arith) ∙ s .done e l b)
+            (λ l. let q : e ≡ n = omega arith in rw q (entry-stored S out (so-long out (s .size)) n h row w ∙ rw t));
+        left = λ e a b. entry-left S out (so-long out (s .size)) n h row w e b (λ q. omega arith) ∙ s .left e (omega arith) b;
+        past = λ d a b. record-kept S out (so-long out (s .size)) n h row w d a b ∙ s .past d a b;
+        byte = λ i o. entry-byte-left S out (so-long out (s .size)) n h row w i (o n (omega arith) t) ∙ s .byte i (λ e a p. o e (omega arith) p);
       }
 
   so-next : (n : ℕ) (out : Bytes) → n < G .entries → So n out → So (n + 1) (changedRow G picks change out n)
@@ -83,13 +87,13 @@ module _ {G : Geometry} (S : Sound G) (picks : Bytes → Bool) (change : Bytes �
 
   -- the image after the first n rows: its length, and the rows that are still to come
   pub length-changed : (n : ℕ) → n ≤ G .entries → length (foldBelow (changedRow G picks change) img n) ≡ length img
-  length-changed n h = so-far n h .size ∙ sym long
+  length-changed n h = so-far n h .size
 
   pub row-to-come : (n e : ℕ) → n ≤ e → e < G .entries → entryAt G (foldBelow (changedRow G picks change) img n) e ≡ entryAt G img e
   row-to-come n e h l = so-far n (omega arith) .left e h l
 
   pub length-changedRows : length (changedRows G picks change img) ≡ length img
-  length-changedRows = so-all .size ∙ sym long
+  length-changedRows = so-all .size
 
   pub row-changedRows : (e : ℕ) → e < G .entries
       → entryAt G (changedRows G picks change img) e ≡ cond (picks (entryAt G img e)) (change (entryAt G img e)) (entryAt G img e)
@@ -114,7 +118,7 @@ module _ {G : Geometry} (S : Sound G) (picks : Bytes → Bool) (change : Bytes �
 
 -- ---- 19: byte 0 to E5H only
 -- in the image, one byte
-pub erased-in-place : {G : Geometry} (S : Sound G) (img : Bytes) → length img ≡ imageBytes G → (e : ℕ) → e < G .entries
+pub erased-in-place : {G : Geometry} (S : Sound G) (img : Bytes) → Long G img → (e : ℕ) → e < G .entries
     → withEntry G img e (erasedRow (entryAt G img e)) ≡ set img (entryPlace G e) 229
 unfolding withEntry entryAt erasedRow
 erased-in-place {G} S img long e h =

@@ -1,23 +1,26 @@
 -- What an FCB holds once it has taken an entry, byte by byte and field by field.
-use mathlib.Core.Path.{_≡_, ap, _∙_}
+use mathlib.Core.Path.{_≡_, ap, sym, _∙_}
 use mathlib.Core.Logic.{_⊎_, inl, inr}
 use mathlib.Core.Bool.{true, false}
-use Prim.Native.Nat.{ℕ, _+_, _-_, _≤_, _<_}
+use Prim.Native.Nat.{ℕ, _+_, _-_, _/_, _%_, _≤_, _<_}
 use native.Mathlib.Omega.{arith}
 use lib.Dec.{leb}
 use lib.ListN.{length, getD}
-use borrow.Author.Tests.{le-leb, lt-leb}
-use Rattle.lists.specs.Cases.{split, bool-cases}
+use borrow.Author.Tests.{le-leb, lt-leb, eq-eqb, ne-eqb}
+use Rattle.lists.specs.Cases.{split, bool-cases, eq-or-ne}
 use Rattle.lists.specs.Tests.{_and_, and-both, and-fails-left, and-fails-right}
 use Rattle.lists.specs.Splice.{part, length-part, getD-part, length-splice, getD-splice-at, getD-splice-out}
 use Rattle.lists.specs.Tab.{length-tab, getD-tab}
-use Rattle.format.specs.Diskette.{Bytes, entryBytes, slotCount}
+use Rattle.format.specs.Diskette.{Bytes, Geometry, entryBytes, extents}
 use Rattle.format.specs.Names.{sevenBits, nameRight}
-use Rattle.format.specs.Entries.{slotOf, extentOf}
+use Rattle.format.specs.Entries.{exOf, s2Of, countOf, withNumbers, slotOf, extentOf, countIn}
 use Rattle.format.specs.Fcb.{crOf, fcbRight}
-use Rattle.format.specs.Consistent.{numbersRight}
 use Rattle.facts.specs.Names.{right-cong}
-use Rattle.model.specs.Entering.{copied, interfaceByte, interfaceCleared, entered}
+use Rattle.facts.specs.Numbers.{byte-withNumbers, ex-withNumbers, s2-withNumbers, count-withNumbers}
+use Rattle.facts.specs.Counts.{count-there, count-high}
+use Rattle.consistency.specs.Facts.{Numbers}
+use Rattle.consistency.specs.Reflect.{numbers-intro}
+use Rattle.model.specs.Entering.{copied, interfaceByte, interfaceCleared, asExtent, entered}
 use Rattle.fields.specs.Agree.{Agree, SameName, slot-cong, extent-cong, name-cong, numbers-cong}
 
 -- ---- an FCB whose bytes 1 to 31 become the row's: byte 0 and those from 32 on stay
@@ -49,7 +52,7 @@ module _ (fcb row : Bytes) (hf : 32 ≤ length fcb) (hr : 32 ≤ length row) whe
   pub name-copied : SameName (copied fcb row) 1 row 1
   name-copied = name-cong (copied fcb row) row (λ i a b. row-copied i a (omega arith))
 
-  pub slot-copied : (j : ℕ) → j < slotCount → slotOf (copied fcb row) j ≡ slotOf row j
+  pub slot-copied : (G : Geometry) (j : ℕ) → slotOf G (copied fcb row) j ≡ slotOf G row j
   slot-copied = slot-cong (copied fcb row) row (λ i a b. row-copied i (omega arith) b)
 
   pub extent-copied : extentOf (copied fcb row) ≡ extentOf row
@@ -77,47 +80,99 @@ pub byte-interfaceCleared : (row : Bytes) (i : ℕ) → i < 32 → getD (interfa
 unfolding interfaceCleared
 byte-interfaceCleared row i h = getD-tab entryBytes (interfaceByte row) i h
 
--- ---- an FCB that takes an entry
-module _ (fcb row : Bytes) (hf : 32 ≤ length fcb) where
-  cleared-long : 32 ≤ length (interfaceCleared row)
-  cleared-long = omega (arith, length-interfaceCleared row)
+-- ---- the row as of an extent
+-- its own: the row as it is
+pub asExtent-own : (row : Bytes) (ext : ℕ) → ext ≡ extentOf row → asExtent row ext ≡ row
+unfolding asExtent
+asExtent-own row ext q = rw (eq-eqb ext (extentOf row) q)
 
-  pub length-entered : length (entered fcb row) ≡ length fcb
+module _ (row : Bytes) (ext : ℕ) where
+  -- another one: the row with that extent's numbers
+  asExtent-other : (ext ≡ extentOf row → ⊥) → asExtent row ext ≡ withNumbers row (ext % 32) (ext / 32) (countIn row ext)
+  unfolding asExtent
+  asExtent-other n = rw (ne-eqb ext (extentOf row) n)
+
+  byte-asExtent : (i : ℕ) → (i ≡ 12 → ⊥) → (i ≡ 14 → ⊥) → (i ≡ 15 → ⊥) → getD (asExtent row ext) i 0 ≡ getD row i 0
+  byte-asExtent i a b c =
+      split (eq-or-ne ext (extentOf row)) (λ q. rw (asExtent-own row ext q))
+      (λ n. rw (asExtent-other n) (byte-withNumbers row (ext % 32) (ext / 32) (countIn row ext) i a b c))
+
+  module _ (hr : 32 ≤ length row) where
+    ex-other : exOf (withNumbers row (ext % 32) (ext / 32) (countIn row ext)) ≡ ext % 32
+    ex-other = ex-withNumbers row (ext % 32) (ext / 32) (countIn row ext) hr
+
+    s2-other : s2Of (withNumbers row (ext % 32) (ext / 32) (countIn row ext)) ≡ ext / 32
+    s2-other = s2-withNumbers row (ext % 32) (ext / 32) (countIn row ext) hr
+
+    count-other : countOf (withNumbers row (ext % 32) (ext / 32) (countIn row ext)) ≡ countIn row ext
+    count-other = count-withNumbers row (ext % 32) (ext / 32) (countIn row ext) hr
+
+    -- it speaks of that extent
+    extent-asExtent : extentOf (asExtent row ext) ≡ ext
+    unfolding extentOf
+    extent-asExtent =
+        split (eq-or-ne ext (extentOf row)) (λ q. rw (asExtent-own row ext q) (sym q)) (λ n. rw (asExtent-other n, ex-other, s2-other) (omega arith))
+
+    count-asExtent : countOf (asExtent row ext) ≡ countIn row ext
+    count-asExtent =
+        split (eq-or-ne ext (extentOf row)) (λ q. rw (asExtent-own row ext q) (sym (count-there row ext q))) (λ n. rw (asExtent-other n) count-other)
+
+    -- and its numbers are in range, where the row's are
+    numbers-asExtent : Numbers row → ext < extents → Numbers (asExtent row ext)
+    numbers-asExtent m x =
+        split (eq-or-ne ext (extentOf row)) (λ q. rw (asExtent-own row ext q) m)
+        (λ n. rw (asExtent-other n) record { ex = rw ex-other (omega arith); s2 = rw s2-other (omega arith); rc = rw count-other (count-high row ext (m .rc)) })
+
+-- ---- an FCB that takes an entry, as of an extent
+module _ (fcb row : Bytes) (ext : ℕ) (hf : 32 ≤ length fcb) where
+  cleared-long : 32 ≤ length (interfaceCleared (asExtent row ext))
+  cleared-long = omega (arith, length-interfaceCleared (asExtent row ext))
+
+  pub length-entered : length (entered fcb row ext) ≡ length fcb
   unfolding entered
-  length-entered = length-copied fcb (interfaceCleared row) hf cleared-long
+  length-entered = length-copied fcb (interfaceCleared (asExtent row ext)) hf cleared-long
 
-  pub first-entered : getD (entered fcb row) 0 0 ≡ getD fcb 0 0
+  pub first-entered : getD (entered fcb row ext) 0 0 ≡ getD fcb 0 0
   unfolding entered
-  first-entered = first-copied fcb (interfaceCleared row) hf cleared-long
+  first-entered = first-copied fcb (interfaceCleared (asExtent row ext)) hf cleared-long
 
-  pub byte-entered : (i : ℕ) → 1 ≤ i → i < 32 → getD (entered fcb row) i 0 ≡ interfaceByte row i
+  byte-entered : (i : ℕ) → 1 ≤ i → i < 32 → getD (entered fcb row ext) i 0 ≡ interfaceByte (asExtent row ext) i
   unfolding entered
-  byte-entered i a b = row-copied fcb (interfaceCleared row) hf cleared-long i a b ∙ byte-interfaceCleared row i b
+  byte-entered i a b = row-copied fcb (interfaceCleared (asExtent row ext)) hf cleared-long i a b ∙ byte-interfaceCleared (asExtent row ext) i b
 
-  -- from byte 9 on they are the row's own; from 32 on the FCB's
-  pub row-entered : Agree (entered fcb row) row 9 32
-  row-entered i a b = byte-entered i (omega arith) b ∙ interface-out row i (inr (omega arith))
+  -- from byte 9 on they are the row's own, as of the extent; from 32 on the FCB's
+  row-entered : Agree (entered fcb row ext) (asExtent row ext) 9 32
+  row-entered i a b = byte-entered i (omega arith) b ∙ interface-out (asExtent row ext) i (inr (omega arith))
 
-  pub rest-entered : (n : ℕ) → Agree (entered fcb row) fcb 32 n
+  pub rest-entered : (n : ℕ) → Agree (entered fcb row ext) fcb 32 n
   unfolding entered
-  rest-entered n = rest-copied fcb (interfaceCleared row) hf cleared-long n
+  rest-entered n = rest-copied fcb (interfaceCleared (asExtent row ext)) hf cleared-long n
 
-  pub name-entered : SameName (entered fcb row) 1 row 1
-  name-entered i h = ap sevenBits (byte-entered (1 + i) (omega arith) (omega arith)) ∙ interface-bits row (1 + i)
+  pub name-entered : SameName (entered fcb row ext) 1 row 1
+  name-entered i h =
+      ap sevenBits (byte-entered (1 + i) (omega arith) (omega arith)) ∙ interface-bits (asExtent row ext) (1 + i)
+      ∙ ap sevenBits (byte-asExtent row ext (1 + i) (λ q. omega arith) (λ q. omega arith) (λ q. omega arith))
 
-  pub slot-entered : (j : ℕ) → j < slotCount → slotOf (entered fcb row) j ≡ slotOf row j
-  slot-entered = slot-cong (entered fcb row) row (λ i a b. row-entered i (omega arith) b)
+  pub slot-entered : (G : Geometry) (j : ℕ) → slotOf G (entered fcb row ext) j ≡ slotOf G row j
+  slot-entered =
+      slot-cong (entered fcb row ext) row
+      (λ i a b. row-entered i (omega arith) b ∙ byte-asExtent row ext i (λ q. omega arith) (λ q. omega arith) (λ q. omega arith))
 
-  pub extent-entered : extentOf (entered fcb row) ≡ extentOf row
-  extent-entered = extent-cong (entered fcb row) row (λ i a b. row-entered i (omega arith) (omega arith))
-
-  pub cr-entered : crOf (entered fcb row) ≡ crOf fcb
+  pub cr-entered : crOf (entered fcb row ext) ≡ crOf fcb
   cr-entered = rest-entered 36 32 (omega arith) (omega arith)
 
-  -- it is right where the row and cr are
-  pub fcbRight-entered : nameRight false row 1 ≡ true → numbersRight row ≡ true → crOf fcb ≤ 128 → fcbRight (entered fcb row) ≡ true
-  unfolding fcbRight
-  fcbRight-entered n m c =
-      and-both _ _ (right-cong false (entered fcb row) 1 row 1 name-entered ∙ n)
-      (and-both _ _ (numbers-cong (entered fcb row) row (λ i a b. row-entered i (omega arith) (omega arith)) ∙ m)
-      (rw cr-entered (le-leb _ _ c)))
+  module _ (hr : 32 ≤ length row) where
+    pub extent-entered : extentOf (entered fcb row ext) ≡ ext
+    extent-entered = extent-cong (entered fcb row ext) (asExtent row ext) (λ i a b. row-entered i (omega arith) (omega arith)) ∙ extent-asExtent row ext hr
+
+    pub count-entered : countOf (entered fcb row ext) ≡ countIn row ext
+    count-entered = row-entered 15 (omega arith) (omega arith) ∙ count-asExtent row ext hr
+
+    -- it is right where the row, the extent and cr are
+    pub fcbRight-entered : nameRight false row 1 ≡ true → Numbers row → ext < extents → crOf fcb ≤ 128 → fcbRight (entered fcb row ext) ≡ true
+    unfolding fcbRight
+    fcbRight-entered n m x c =
+        and-both _ _ (right-cong false (entered fcb row ext) 1 row 1 name-entered ∙ n)
+        (and-both _ _
+        (numbers-cong (entered fcb row ext) (asExtent row ext) (λ i a b. row-entered i (omega arith) (omega arith)) ∙ numbers-intro (asExtent row ext) (numbers-asExtent row ext hr m x))
+        (rw cr-entered (le-leb _ _ c)))

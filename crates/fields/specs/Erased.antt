@@ -1,11 +1,12 @@
 -- An erased disk, on which every entry begins with E5H: it is consistent, and nothing is listed on it.
-use mathlib.Core.Path.{_≡_, _∙_}
+use mathlib.Core.Path.{_≡_}
 use mathlib.Core.Bool.{true, false}
 use Prim.Native.Nat.{ℕ, _<_}
-use lib.ListN.{length, replicate, length-replicate}
+use native.Mathlib.Omega.{arith}
+use lib.ListN.{replicate, length-replicate}
 use borrow.Author.Tests.{eq-eqb}
 use Rattle.lists.specs.Cases.{split, bool-cases, not-both}
-use Rattle.format.specs.Diskette.{Bytes, Geometry, Sound, imageBytes}
+use Rattle.format.specs.Diskette.{Bytes, Geometry, Sound, LongBy, Long}
 use Rattle.format.specs.Entries.{entryAt, userOf, empty, used}
 use Rattle.format.specs.Consistent.{consistent}
 use Rattle.format.specs.Notes.{isListed}
@@ -14,12 +15,12 @@ use Rattle.consistency.specs.Listed.{listed-somewhere}
 use Rattle.consistency.specs.Reflect.{empty-unused, all-empty, facts-image}
 
 pub record ErasedDisk (G : Geometry) (img : Bytes) : Type 0 where
-  pub long : length img ≡ imageBytes G
+  pub long : Long G img
   pub void : (e : ℕ) → e < G .entries → userOf (entryAt G img e) ≡ 229
 
 -- there are such disks: every byte E5H. size is a number of its own, so that the image is never written out
-pub all-erased : {G : Geometry} (S : Sound G) (size : ℕ) → size ≡ imageBytes G → ErasedDisk G (replicate size 229)
-all-erased S size is = record { long = length-replicate size 229 ∙ is; void = entry-of-same S size 229 is }
+pub all-erased : {G : Geometry} (S : Sound G) (size : ℕ) → LongBy G size → ErasedDisk G (replicate size 229)
+all-erased S size is = record { long = rw length-replicate is; void = entry-of-same S size 229 (omega arith) }
 
 module _ (G : Geometry) (img : Bytes) (erased : ErasedDisk G img) where
   pub erased-empty : (e : ℕ) → e < G .entries → empty (entryAt G img e) ≡ true

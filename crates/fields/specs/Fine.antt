@@ -23,8 +23,8 @@ module _ (G : Geometry) (row fcb : Bytes) (hr : length row ≡ 32) (fine : Fine 
       s2 = rw (rest-renamed fcb row hr 32 14 (omega arith) (omega arith)) (fine .numbers .s2);
       rc = rw (rest-renamed fcb row hr 32 15 (omega arith) (omega arith)) (fine .numbers .rc);
     };
-    low = λ j h n. rw (slot-renamed fcb row hr j h) (fine .low j h (λ z. n (slot-renamed fcb row hr j h ∙ z)));
-    high = λ j h n. rw (slot-renamed fcb row hr j h) (fine .high j h (λ z. n (slot-renamed fcb row hr j h ∙ z)));
+    low = λ j h n. rw (slot-renamed fcb row hr G j) (fine .low j h (λ z. n (slot-renamed fcb row hr G j ∙ z)));
+    high = λ j h n. rw (slot-renamed fcb row hr G j) (fine .high j h (λ z. n (slot-renamed fcb row hr G j ∙ z)));
   }
 
 -- the row of a new extent
@@ -37,8 +37,8 @@ fine-next G row ext hr fine h = record {
     s2 = rw (s2-next row ext hr) (omega arith);
     rc = rw (rc-next row ext hr) (omega arith);
   };
-  low = λ j l n. absurd (n (slot-next row ext hr j));
-  high = λ j l n. absurd (n (slot-next row ext hr j));
+  low = λ j l n. absurd (n (slot-next row ext hr G j));
+  high = λ j l n. absurd (n (slot-next row ext hr G j));
 }
 
 -- the row of a new file
@@ -51,6 +51,6 @@ fine-made G user fcb hu n x = record {
     s2 = rw (s2-made user fcb) (omega arith);
     rc = rw (rc-made user fcb) (omega arith);
   };
-  low = λ j l n. absurd (n (slot-made user fcb j));
-  high = λ j l n. absurd (n (slot-made user fcb j));
+  low = λ j l n. absurd (n (slot-made user fcb G j));
+  high = λ j l n. absurd (n (slot-made user fcb G j));
 }

@@ -2,14 +2,14 @@
 use mathlib.Core.Path.{_≡_, sym}
 use Prim.Native.Nat.{ℕ, _≤_, _<_}
 use lib.ListN.{length}
-use Rattle.format.specs.Diskette.{Bytes, Geometry, Sound, imageBytes, recordAt, entryBytes}
+use Rattle.format.specs.Diskette.{Bytes, Geometry, Sound, recordAt, entryBytes, Long}
 use Rattle.format.specs.Entries.{entryAt}
 use Rattle.disk.specs.Places.{blockRecords}
 use Rattle.rows.specs.Entries.{areaRecords, length-entryAt, length-withEntry, entry-stored, entry-left, record-kept}
 use Rattle.model.specs.Closing.{closedRow, closedImage}
 use Rattle.fields.specs.Closing.{length-closedRow}
 
-module _ {G : Geometry} (S : Sound G) (img : Bytes) (long : length img ≡ imageBytes G) (e : ℕ) (below : e < G .entries) (fcb : Bytes) where
+module _ {G : Geometry} (S : Sound G) (img : Bytes) (long : Long G img) (e : ℕ) (below : e < G .entries) (fcb : Bytes) where
   whole : length (closedRow G (entryAt G img e) fcb) ≡ entryBytes
   whole = length-closedRow G (entryAt G img e) fcb (length-entryAt S img long e below)
 

@@ -9,3 +9,5 @@ pub mod Target
 pub mod Size
 pub mod Changing
 pub mod Erased
+pub mod OneExtent
+pub mod OpenClose

@@ -10,9 +10,10 @@ use lib.Seq.{length-take-le, getD-take}
 use borrow.Author.Tests.{lt-leb}
 use Rattle.lists.specs.Splice.{length-splice, getD-splice-in, getD-splice-out, getD-append-past}
 use Rattle.lists.specs.Tab.{tab, length-tab, getD-tab, getD-zeros}
-use Rattle.format.specs.Diskette.{Bytes, slotCount}
+use Rattle.format.specs.Diskette.{Bytes, Geometry, slotBytes}
 use Rattle.format.specs.Names.{sevenBits, nameBytes}
 use Rattle.format.specs.Entries.{userOf, exOf, s2Of, rcOf, slotOf, readOnly, extentOf}
+use Rattle.facts.specs.Slots.{slot-zero}
 use Rattle.model.specs.Entering.{madeRow, nextRow, renamedByte, renamedRow}
 use Rattle.fields.specs.Agree.{Agree, SameName, name-cong, slot-cong, extent-cong}
 
@@ -61,9 +62,8 @@ module _ (user : ℕ) (fcb : Bytes) where
   pub rc-made : rcOf (madeRow user fcb) ≡ 0
   rc-made = zero-made 15 (omega arith)
 
-  pub slot-made : (j : ℕ) → slotOf (madeRow user fcb) j ≡ 0
-  unfolding slotOf
-  slot-made j = zero-made (16 + j) (omega arith)
+  pub slot-made : (G : Geometry) (j : ℕ) → slotOf G (madeRow user fcb) j ≡ 0
+  slot-made G = slot-zero G (madeRow user fcb) (λ i h. zero-made (16 + i) (omega arith))
 
   pub extent-made : extentOf (madeRow user fcb) ≡ exOf fcb
   unfolding extentOf
@@ -82,7 +82,7 @@ module _ (row : Bytes) (ext : ℕ) (hr : length row ≡ 32) where
   head-long = length-take-le 12 row (omega arith)
 
   numbers : Bytes
-  numbers = ext % 32 ∷ 0 ∷ ext / 32 ∷ 0 ∷ replicate slotCount 0
+  numbers = ext % 32 ∷ 0 ∷ ext / 32 ∷ 0 ∷ replicate slotBytes 0
 
   pub length-nextRow : length (nextRow row ext) ≡ 32
   unfolding nextRow
@@ -124,9 +124,8 @@ module _ (row : Bytes) (ext : ℕ) (hr : length row ≡ 32) where
   pub rc-next : rcOf (nextRow row ext) ≡ 0
   rc-next = zero-next 15 (omega arith)
 
-  pub slot-next : (j : ℕ) → slotOf (nextRow row ext) j ≡ 0
-  unfolding slotOf
-  slot-next j = zero-next (16 + j) (omega arith)
+  pub slot-next : (G : Geometry) (j : ℕ) → slotOf G (nextRow row ext) j ≡ 0
+  slot-next G = slot-zero G (nextRow row ext) (λ i h. zero-next (16 + i) (omega arith))
 
   pub extent-next : extentOf (nextRow row ext) ≡ ext
   unfolding extentOf
@@ -165,7 +164,7 @@ module _ (fcb row : Bytes) where
     pub name-renamed : SameName (renamedRow fcb row) 1 fcb 17
     name-renamed i h = ap sevenBits (byte-renamed i h) ∙ bits-renamed i
 
-    pub slot-renamed : (j : ℕ) → j < slotCount → slotOf (renamedRow fcb row) j ≡ slotOf row j
+    pub slot-renamed : (G : Geometry) (j : ℕ) → slotOf G (renamedRow fcb row) j ≡ slotOf G row j
     slot-renamed = slot-cong (renamedRow fcb row) row (λ i a b. rest-renamed 32 i (omega arith) b)
 
     pub extent-renamed : extentOf (renamedRow fcb row) ≡ extentOf row

@@ -7,14 +7,14 @@ use native.Mathlib.Omega.{arith}
 use lib.Dec.{eqb}
 use lib.ListN.{length, getD, set, length-set}
 use lib.Seq.{getD-set-same, getD-set-other}
-use borrow.Author.Tests.{eqb-true, eqb-false, eq-eqb, ne-eqb}
+use borrow.Author.Tests.{eqb-true, eq-eqb, ne-eqb}
 use Rattle.lists.specs.Cases.{split, bool-cases, eq-or-ne}
-use Rattle.format.specs.Diskette.{Bytes, Geometry, Sound, slotCount}
-use Rattle.format.specs.Entries.{rcOf, slotOf, extentOf, countIn}
+use Rattle.format.specs.Diskette.{Bytes, Geometry, Sound, slotsOn}
+use Rattle.format.specs.Entries.{countOf, slotOf, withSlot, extentOf}
 use Rattle.format.specs.Notes.{noteAt, pendingFor, withNote}
 use Rattle.format.specs.Fcb.{crOf, randomOf}
 use Rattle.disk.specs.Places.{blockRecords, block-record}
-use Rattle.facts.specs.Slots.{slot-for-below}
+use Rattle.facts.specs.Slots.{slot-for-below, slot-bytes, length-withSlot, byte-withSlot, slot-withSlot, slot-withSlot-other}
 use Rattle.model.specs.Target.{isRandom, targetExtent, targetRecord, crAfter, stays, targetSlot, placeIn, writtenCount, writtenFcb, writtenMap}
 use Rattle.fields.specs.Agree.{Agree, SameName, name-cong, slot-cong, extent-cong, random-cong}
 
@@ -71,13 +71,9 @@ module _ (n : ℕ) (fcb : Bytes) where
   unfolding stays
   stays-extent t = eqb-true _ _ t
 
-  pub moves-extent : stays n fcb ≡ false → targetExtent n fcb ≡ extentOf fcb → ⊥
-  unfolding stays
-  moves-extent f = eqb-false _ _ f
-
 -- ---- the slot and the place of a record
 module _ {G : Geometry} (S : Sound G) where
-  pub targetSlot-below : (n : ℕ) (fcb : Bytes) → crOf fcb ≤ 128 → targetSlot G n fcb < slotCount
+  pub targetSlot-below : (n : ℕ) (fcb : Bytes) → crOf fcb ≤ 128 → targetSlot G n fcb < slotsOn G
   unfolding targetSlot
   targetSlot-below n fcb h = slot-for-below S (targetExtent n fcb) (targetRecord n fcb) (record-below n fcb h)
 
@@ -99,7 +95,7 @@ module _ (fcb : Bytes) (cr : ℕ) where
   pub name-read : SameName (set fcb 32 cr) 1 fcb 1
   name-read = name-cong (set fcb 32 cr) fcb (λ i a b. head-read i (omega arith) (omega arith))
 
-  pub slot-read : (j : ℕ) → j < slotCount → slotOf (set fcb 32 cr) j ≡ slotOf fcb j
+  pub slot-read : (G : Geometry) (j : ℕ) → slotOf G (set fcb 32 cr) j ≡ slotOf G fcb j
   slot-read = slot-cong (set fcb 32 cr) fcb (λ i a b. head-read i (omega arith) b)
 
   pub extent-read : extentOf (set fcb 32 cr) ≡ extentOf fcb
@@ -109,85 +105,90 @@ module _ (fcb : Bytes) (cr : ℕ) where
   random-read = random-cong (set fcb 32 cr) fcb (λ i a b. byte-read i (λ q. omega arith))
 
 -- ---- writing: the record, the note, and the FCB's slot, rc and cr
-module _ (G : Geometry) (fcb row : Bytes) (r : ℕ) where
-  pub count-written-target : r < writtenCount G fcb row r
+module _ (fcb : Bytes) (count r : ℕ) where
+  pub count-written-target : r < writtenCount fcb count r
   unfolding writtenCount
   count-written-target = omega arith
 
-  pub count-written-fcb : rcOf fcb ≤ writtenCount G fcb row r
+  pub count-written-fcb : countOf fcb ≤ writtenCount fcb count r
   unfolding writtenCount
   count-written-fcb = omega arith
 
-  pub count-written-row : countIn G row (extentOf fcb) ≤ writtenCount G fcb row r
+  pub count-written-row : count ≤ writtenCount fcb count r
   unfolding writtenCount
   count-written-row = omega arith
 
-  pub count-written-high : (n : ℕ) → rcOf fcb ≤ n → countIn G row (extentOf fcb) ≤ n → r < n → writtenCount G fcb row r ≤ n
+  pub count-written-high : (n : ℕ) → countOf fcb ≤ n → count ≤ n → r < n → writtenCount fcb count r ≤ n
   unfolding writtenCount
   count-written-high n a b c = omega arith
 
-module _ (G : Geometry) (fcb row : Bytes) (j b r cr : ℕ) where
-  pub length-writtenFcb : length (writtenFcb G fcb row j b r cr) ≡ length fcb
-  unfolding writtenFcb
-  length-writtenFcb =
-      length-set (set (set fcb (16 + j) b) 15 (writtenCount G fcb row r)) 32 cr ∙ length-set (set fcb (16 + j) b) 15 (writtenCount G fcb row r)
-      ∙ length-set fcb (16 + j) b
+module _ (G : Geometry) (fcb : Bytes) (count j b r cr : ℕ) where
+  -- the FCB with its block and its count
+  counted : Bytes
+  counted = set (withSlot G fcb j b) 15 (writtenCount fcb count r)
 
-  pub byte-written : (i : ℕ) → (i ≡ 16 + j → ⊥) → (i ≡ 15 → ⊥) → (i ≡ 32 → ⊥) → getD (writtenFcb G fcb row j b r cr) i 0 ≡ getD fcb i 0
-  unfolding writtenFcb
-  byte-written i p q o =
-      getD-set-other (set (set fcb (16 + j) b) 15 (writtenCount G fcb row r)) 32 i cr 0 o
-      ∙ getD-set-other (set fcb (16 + j) b) 15 i (writtenCount G fcb row r) 0 q ∙ getD-set-other fcb (16 + j) i b 0 p
+  counted-long : length counted ≡ length fcb
+  unfolding counted
+  counted-long = length-set (withSlot G fcb j b) 15 (writtenCount fcb count r) ∙ length-withSlot G fcb j b
 
-  pub random-written : j < slotCount → randomOf (writtenFcb G fcb row j b r cr) ≡ randomOf fcb
-  random-written hj =
-      random-cong (writtenFcb G fcb row j b r cr) fcb (λ i p q. byte-written i (λ z. omega arith) (λ z. omega arith) (λ z. omega arith))
+  pub length-writtenFcb : length (writtenFcb G fcb count j b r cr) ≡ length fcb
+  unfolding writtenFcb counted
+  length-writtenFcb = length-set counted 32 cr ∙ counted-long
 
-  -- byte 0, the name, ex, s1 and s2 stay
-  pub head-written : Agree (writtenFcb G fcb row j b r cr) fcb 0 15
-  head-written i p q = byte-written i (λ z. omega arith) (λ z. omega arith) (λ z. omega arith)
+  past-slots : (i : ℕ) → (i ≡ 15 → ⊥) → (i ≡ 32 → ⊥) → getD (writtenFcb G fcb count j b r cr) i 0 ≡ getD (withSlot G fcb j b) i 0
+  unfolding writtenFcb counted
+  past-slots i q o = getD-set-other counted 32 i cr 0 o ∙ getD-set-other (withSlot G fcb j b) 15 i (writtenCount fcb count r) 0 q
 
-  pub name-written : SameName (writtenFcb G fcb row j b r cr) 1 fcb 1
-  name-written = name-cong (writtenFcb G fcb row j b r cr) fcb (λ i p q. head-written i (omega arith) (omega arith))
+  slot-past : (k : ℕ) → slotOf G (writtenFcb G fcb count j b r cr) k ≡ slotOf G (withSlot G fcb j b) k
+  slot-past = slot-bytes G (writtenFcb G fcb count j b r cr) (withSlot G fcb j b) (λ i h. past-slots (16 + i) (λ z. omega arith) (λ z. omega arith))
 
-  pub extent-written : extentOf (writtenFcb G fcb row j b r cr) ≡ extentOf fcb
-  extent-written = extent-cong (writtenFcb G fcb row j b r cr) fcb (λ i p q. head-written i (omega arith) q)
+  module _ (hj : j < slotsOn G) where
+    pub byte-written : (i : ℕ) → (16 ≤ i → i < 32 → ⊥) → (i ≡ 15 → ⊥) → (i ≡ 32 → ⊥) → getD (writtenFcb G fcb count j b r cr) i 0 ≡ getD fcb i 0
+    byte-written i p q o = past-slots i q o ∙ byte-withSlot G fcb j b hj i p
 
-  pub slot-written-other : (k : ℕ) → k < slotCount → (k ≡ j → ⊥) → slotOf (writtenFcb G fcb row j b r cr) k ≡ slotOf fcb k
-  unfolding slotOf
-  slot-written-other k h n = byte-written (16 + k) (λ z. n (omega arith)) (λ z. omega arith) (λ z. omega arith)
+    pub random-written : randomOf (writtenFcb G fcb count j b r cr) ≡ randomOf fcb
+    random-written =
+        random-cong (writtenFcb G fcb count j b r cr) fcb (λ i p q. byte-written i (λ y z. omega arith) (λ z. omega arith) (λ z. omega arith))
 
-  module _ (hf : length fcb ≡ 36) (hj : j < slotCount) where
-    pub slot-written : slotOf (writtenFcb G fcb row j b r cr) j ≡ b
-    unfolding slotOf writtenFcb
-    slot-written =
-        getD-set-other (set (set fcb (16 + j) b) 15 (writtenCount G fcb row r)) 32 (16 + j) cr 0 (λ z. omega arith)
-        ∙ getD-set-other (set fcb (16 + j) b) 15 (16 + j) (writtenCount G fcb row r) 0 (λ z. omega arith) ∙ getD-set-same fcb (16 + j) b 0 (omega arith)
+    -- byte 0, the name, ex, s1 and s2 stay
+    pub head-written : Agree (writtenFcb G fcb count j b r cr) fcb 0 15
+    head-written i p q = byte-written i (λ y z. omega arith) (λ z. omega arith) (λ z. omega arith)
 
-    pub rc-written : rcOf (writtenFcb G fcb row j b r cr) ≡ writtenCount G fcb row r
-    unfolding writtenFcb
-    rc-written =
-        getD-set-other (set (set fcb (16 + j) b) 15 (writtenCount G fcb row r)) 32 15 cr 0 (λ z. omega arith)
-        ∙ getD-set-same (set fcb (16 + j) b) 15 (writtenCount G fcb row r) 0 (omega (arith, length-set fcb (16 + j) b))
+    pub name-written : SameName (writtenFcb G fcb count j b r cr) 1 fcb 1
+    name-written = name-cong (writtenFcb G fcb count j b r cr) fcb (λ i p q. head-written i (omega arith) (omega arith))
 
-    pub cr-written : crOf (writtenFcb G fcb row j b r cr) ≡ cr
-    unfolding writtenFcb
-    cr-written =
-        getD-set-same (set (set fcb (16 + j) b) 15 (writtenCount G fcb row r)) 32 cr 0
-        (omega (arith, length-set (set fcb (16 + j) b) 15 (writtenCount G fcb row r), length-set fcb (16 + j) b))
+    pub extent-written : extentOf (writtenFcb G fcb count j b r cr) ≡ extentOf fcb
+    extent-written = extent-cong (writtenFcb G fcb count j b r cr) fcb (λ i p q. head-written i (omega arith) q)
 
-module _ (map fcb : Bytes) (t j b : ℕ) where
+    pub slot-written-other : (k : ℕ) → (k ≡ j → ⊥) → slotOf G (writtenFcb G fcb count j b r cr) k ≡ slotOf G fcb k
+    slot-written-other k n = slot-past k ∙ slot-withSlot-other G fcb j b hj k n
+
+    module _ (hf : length fcb ≡ 36) where
+      pub slot-written : slotOf G (writtenFcb G fcb count j b r cr) j ≡ b
+      slot-written = slot-past j ∙ slot-withSlot G fcb j b hj (omega arith)
+
+      pub count-written : countOf (writtenFcb G fcb count j b r cr) ≡ writtenCount fcb count r
+      unfolding writtenFcb counted
+      count-written =
+          getD-set-other counted 32 15 cr 0 (λ z. omega arith)
+          ∙ getD-set-same (withSlot G fcb j b) 15 (writtenCount fcb count r) 0 (omega (arith, length-withSlot G fcb j b))
+
+      pub cr-written : crOf (writtenFcb G fcb count j b r cr) ≡ cr
+      unfolding writtenFcb counted
+      cr-written = getD-set-same counted 32 cr 0 (omega (arith, counted-long))
+
+module _ (G : Geometry) (map fcb : Bytes) (t j b : ℕ) where
   -- a slot that has a block: no note changes
-  pub map-written-kept : (slotOf fcb j ≡ 0 → ⊥) → writtenMap map fcb t j b ≡ map
+  pub map-written-kept : (slotOf G fcb j ≡ 0 → ⊥) → writtenMap G map fcb t j b ≡ map
   unfolding writtenMap
-  map-written-kept n = rw (ne-eqb (slotOf fcb j) 0 n)
+  map-written-kept n = rw (ne-eqb (slotOf G fcb j) 0 n)
 
   -- a slot of 0: the block taken is pending for it
-  pub note-written : slotOf fcb j ≡ 0 → b < length map → noteAt (writtenMap map fcb t j b) b ≡ pendingFor t j
+  pub note-written : slotOf G fcb j ≡ 0 → b < length map → noteAt (writtenMap G map fcb t j b) b ≡ pendingFor t j
   unfolding writtenMap withNote
-  note-written z h = rw (eq-eqb (slotOf fcb j) 0 z) (getD-set-same map b (pendingFor t j) 0 h)
+  note-written z h = rw (eq-eqb (slotOf G fcb j) 0 z) (getD-set-same map b (pendingFor t j) 0 h)
 
-  pub note-written-other : (c : ℕ) → (c ≡ b → ⊥) → noteAt (writtenMap map fcb t j b) c ≡ noteAt map c
+  pub note-written-other : (c : ℕ) → (c ≡ b → ⊥) → noteAt (writtenMap G map fcb t j b) c ≡ noteAt map c
   unfolding writtenMap withNote
   note-written-other c n =
-      split (bool-cases (eqb (slotOf fcb j) 0)) (λ e. rw e (getD-set-other map b c (pendingFor t j) 0 n)) (λ e. rw e)
+      split (bool-cases (eqb (slotOf G fcb j) 0)) (λ e. rw e (getD-set-other map b c (pendingFor t j) 0 n)) (λ e. rw e)

@@ -5,7 +5,7 @@ use Prim.Native.Nat.{ℕ}
 use Rattle.lists.specs.Splice.{splice}
 use Rattle.format.specs.Diskette.{Bytes, Geometry}
 use Rattle.format.specs.Names.{nameRight}
-use Rattle.format.specs.Entries.{withEntry, named, findNamed, findEmpty}
+use Rattle.format.specs.Entries.{exOf, withEntry, named, findNamed, findEmpty}
 use Rattle.format.specs.Found.{isFound}
 use Rattle.facts.specs.Found.{found-row, missed-row}
 use Rattle.format.specs.declared.Found.the-variants.{At, Nothing}
@@ -32,7 +32,7 @@ module _ (G : Geometry) (l : Lent) (s : Session) (r : Answer) where
       let p = asked-right _ h in refuses-own G 0 l s call15 Failed r (later (p .name) (later (p .ex) (here (missed-row _ q) refl))) a
 
   pub open-done : (e : ℕ) (fcb : Bytes) → asksRight (l .fcb) ≡ true → askedEntry G l (s .user) ≡ At e
-      → r ≡ answerOf (Accepted (entryNumber e)) (ended s) → fcb ≡ entered (l .fcb) (rowsOf G l e)
+      → r ≡ answerOf (Accepted (entryNumber e)) (ended s) → fcb ≡ entered (l .fcb) (rowsOf G l e) (exOf (l .fcb))
       → outcome r (l .image) (l .map) fcb (l .buffer) ≡ ownStep G 0 l s call15
   unfolding opened openedAt
   open-done e fcb h q a f =

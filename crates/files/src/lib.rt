@@ -3,10 +3,10 @@ ghost use mathlib.Core.Path.{_≡_};
 ghost use mathlib.Core.Bool.{false};
 ghost use Prim.Native.Nat.{_≤_, _<_};
 ghost use lib.ListN.{length};
-ghost use Rattle.format.specs.Diskette.{Bytes, eightInch, imageBytes, entryBytes};
+ghost use Rattle.format.specs.Diskette.{Bytes, eightInch, imageBytes};
 ghost use Rattle.format.specs.Entries.{entryAt, named};
 ghost use Rattle.format.specs.Fcb.{fcbBytes};
-ghost use Rattle.model.specs.Calls.{sizeOf, largerSize, fileSize};
+ghost use Rattle.model.specs.Calls.{largerSize, fileSize};
 ghost use Rattle.model.specs.Lent.{lend, outcome};
 ghost use Rattle.model.specs.Table.{askedEntry};
 ghost use Rattle.table.specs.Own.{call15, call22, call35};
@@ -15,7 +15,6 @@ ghost use Rattle.chains.specs.Chain.{Indexed};
 ghost use Rattle.files.specs.Asked.{asksRight};
 use format::ENTRIES;
 use format::ENTRIES_PER_RECORD;
-use format::EXTENT_RECORDS;
 use format::Found;
 use model::Answer;
 use model::Code;
@@ -80,25 +79,16 @@ pub fn make_file(image: &mut [u8], fcb: &mut [u8], session: Session, chain: &[u8
     answers::done((e % ENTRIES_PER_RECORD) as u8, session)
 }
 
-// The records up to the end of a row: 128 × extent + rc.
-fn size_of(r: &[u8]) -> usize
-    requires { ⌜ entryBytes ≤ length (now r) ⌝ }
-    ensures { λ n. ⌜ n ≡ sizeOf eightInch (now (r .entry)) ⌝ }
-{
-    let ext = entries::extent(r);
-    EXTENT_RECORDS * ext + lists::wide(entries::count_in(r, ext))
-}
-
 // The larger of a size and that of an entry, where the entry is of the file.
 fn larger_size(image: &[u8], e: usize, user: u8, fcb: &[u8], size: usize) -> usize
     requires { ⌜ (length (now image) ≡ imageBytes eightInch) × (e < eightInch .entries) × (length (now fcb) ≡ fcbBytes) ⌝ }
-    ensures { λ r. ⌜ r ≡ largerSize eightInch (entryAt eightInch (now (image .entry))) (named false user (now (fcb .entry)) 1) size e ⌝ }
+    ensures { λ r. ⌜ r ≡ largerSize (entryAt eightInch (now (image .entry))) (named false user (now (fcb .entry)) 1) size e ⌝ }
 {
     let r = rows::row(image, e);
     if !entries::is_named(false, user, fcb, 1, r) {
         return size;
     }
-    let n = size_of(r);
+    let n = entries::end_of(r);
     if size < n {
         return n;
     }

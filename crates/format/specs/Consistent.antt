@@ -22,7 +22,7 @@ unfoldable pub slotRight : Geometry → ℕ → Bool
 slotRight G b = eqb b 0 or (leb (G .area) b and ltb b (G .blocks))
 
 unfoldable pub slotsRight : Geometry → Bytes → Bool
-slotsRight G r = allBelow (λ (j : ℕ). slotRight G (slotOf r j)) slotCount
+slotsRight G r = allBelow (λ (j : ℕ). slotRight G (slotOf G r j)) slotCount
 
 -- each entry is empty, or has a user, a name, numbers and slots in range
 unfoldable pub entryRight : Geometry → Bytes → Bool
@@ -33,23 +33,24 @@ abbrev pub slotsInAll : Geometry → ℕ
 slotsInAll G = slotCount * G .entries
 
 -- the block that slot x of them lists: 0 is none, and only used entries list blocks
-unfoldable pub listed : Rows → ℕ → ℕ
-listed d x = cond (used (d (x / slotCount))) (slotOf (d (x / slotCount)) (x % slotCount)) 0
+unfoldable pub listed : Geometry → Rows → ℕ → ℕ
+listed G d x = cond (used (d (x / slotCount))) (slotOf G (d (x / slotCount)) (x % slotCount)) 0
 
 -- no block number other than 0 stands twice in the used entries
-unfoldable pub listedOnce : Rows → ℕ → Bool
-listedOnce d x = eqb (listed d x) 0 or not (taken (listed d) x (listed d x))
+unfoldable pub listedOnce : Geometry → Rows → ℕ → Bool
+listedOnce G d x = eqb (listed G d x) 0 or not (taken (listed G d) x (listed G d x))
 
--- no two used entries agree in user, seven-bit name and extent
+-- the rows are of one file, and cover the same extent
 unfoldable pub sameFile : Geometry → Bytes → Bytes → Bool
 sameFile G r t = used r and used t and isFile G (userOf t) t 1 (extentOf t) r
 
+-- no two used entries agree in user, seven-bit name and extent
 unfoldable pub alone : Geometry → Rows → ℕ → Bool
 alone G d e = not (anyBelow (λ (f : ℕ). sameFile G (d e) (d f)) e)
 
 unfoldable pub consistentRows : Geometry → Rows → Bool
 consistentRows G d =
-    allBelow (λ (e : ℕ). entryRight G (d e)) (G .entries) and allBelow (listedOnce d) (slotsInAll G) and allBelow (alone G d) (G .entries)
+    allBelow (λ (e : ℕ). entryRight G (d e)) (G .entries) and allBelow (listedOnce G d) (slotsInAll G) and allBelow (alone G d) (G .entries)
 
 unfoldable pub consistent : Geometry → Bytes → Bool
 consistent G img = consistentRows G (entryAt G img)

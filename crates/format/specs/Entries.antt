@@ -1,12 +1,12 @@
 -- Document 01, "Directory entries": a row is the 32 bytes of an entry. Bytes 1 to 31 of an FCB are laid out the same way.
-use mathlib.Core.Bool.{Bool, false}
+use mathlib.Core.Bool.{Bool, false, cond}
 use Prim.Native.Nat.{ℕ, _+_, _*_, _/_, _%_}
-use lib.Dec.{eqb, leb}
-use lib.ListN.{getD}
+use lib.Dec.{eqb, leb, ltb}
+use lib.ListN.{getD, set}
 use Rattle.lists.specs.Tests.{_and_}
 use Rattle.lists.specs.Splice.{part, splice}
 use Rattle.lists.specs.Below.{firstIn}
-use Rattle.format.specs.Diskette.{Bytes, Geometry, offsetOf, entryBytes, entriesPerRecord, slotCount}
+use Rattle.format.specs.Diskette.{Bytes, Geometry, offsetOf, entryBytes, entriesPerRecord, extentRecords, slotBytes}
 use Rattle.format.specs.Names.{nameLike}
 use Rattle.format.specs.Found.{foundBelow}
 use Rattle.format.specs.declared.Found.{Found}
@@ -39,12 +39,30 @@ rcOf r = getD r 15 0
 abbrev pub countOf : Bytes → ℕ
 countOf r = rcOf r
 
--- the sixteen block numbers
-unfoldable pub slotsOf : Bytes → Bytes
-slotsOf r = part r 16 slotCount
+-- a row with other numbers
+unfoldable pub withNumbers : Bytes → ℕ → ℕ → ℕ → Bytes
+withNumbers r ex s2 count = set (set (set r 12 ex) 14 s2) 15 count
 
-unfoldable pub slotOf : Bytes → ℕ → ℕ
-slotOf r j = getD r (16 + j) 0
+-- the sixteen bytes of the block numbers
+unfoldable pub slotsOf : Bytes → Bytes
+slotsOf r = part r 16 slotBytes
+
+-- ---- the slots. Each question has its own name, since other disks answer them otherwise
+-- the block number in slot j of such sixteen bytes
+unfoldable pub slotIn : Geometry → Bytes → ℕ → ℕ
+slotIn G ss j = getD ss j 0
+
+-- the slot of which byte i of them is a part
+unfoldable pub slotAt : Geometry → ℕ → ℕ
+slotAt G i = i
+
+-- slot j of a row or an FCB
+unfoldable pub slotOf : Geometry → Bytes → ℕ → ℕ
+slotOf G r j = slotIn G (slotsOf r) j
+
+-- a row or an FCB with block b in slot j
+unfoldable pub withSlot : Geometry → Bytes → ℕ → ℕ → Bytes
+withSlot G r j b = set r (16 + j) b
 
 -- byte 0 is E5H
 unfoldable pub empty : Bytes → Bool
@@ -58,18 +76,25 @@ used r = leb (userOf r) 15
 unfoldable pub readOnly : Bytes → Bool
 readOnly r = leb 128 (getD r 9 0)
 
--- ---- what an entry says of extents, each question under its own name, since other disks answer them otherwise. Byte 13 is s1, which no rule
--- reads
+-- ---- what an entry says of extents: here too each question has its own name. Byte 13 is s1, which no rule reads
 unfoldable pub extentOf : Bytes → ℕ
 extentOf r = 32 * s2Of r + exOf r
 
--- the row covers the extent
-unfoldable pub covers : Geometry → Bytes → ℕ → Bool
-covers G r ext = eqb (extentOf r) ext
+-- an entry covers a run of extents, of one s2; a number for the run that an extent is in. On this disk every extent is a run by itself
+unfoldable pub runOf : Geometry → ℕ → ℕ
+runOf G ext = ext
 
--- the records of that extent which the row counts
-unfoldable pub countIn : Geometry → Bytes → ℕ → ℕ
-countIn G r ext = countOf r
+-- the row covers the extent: its own is of the same run
+unfoldable pub covers : Geometry → Bytes → ℕ → Bool
+covers G r ext = eqb (runOf G (extentOf r)) (runOf G ext)
+
+-- the records of that extent which the row counts: in its own as many as it carries, 128 in an earlier one of the run, none in a later one
+unfoldable pub countIn : Bytes → ℕ → ℕ
+countIn r ext = cond (ltb ext (extentOf r)) extentRecords (cond (eqb ext (extentOf r)) (countOf r) 0)
+
+-- one past the last record that a row or an FCB counts
+unfoldable pub endOf : Bytes → ℕ
+endOf r = extentRecords * extentOf r + countOf r
 
 -- the slot that holds record k of the extent
 unfoldable pub slotFor : Geometry → ℕ → ℕ → ℕ

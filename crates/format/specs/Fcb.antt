@@ -7,7 +7,7 @@ use Rattle.lists.specs.Tests.{_and_, _or_}
 use Rattle.lists.specs.Below.{allBelow}
 use Rattle.format.specs.Diskette.{Bytes, Geometry, slotCount}
 use Rattle.format.specs.Names.{nameRight}
-use Rattle.format.specs.Entries.{Rows, slotsOf, extentOf, findFile}
+use Rattle.format.specs.Entries.{Rows, slotsOf, slotIn, extentOf, countOf, countIn, endOf, findFile}
 use Rattle.format.specs.Consistent.{numbersRight}
 use Rattle.format.specs.Notes.{pendingFor, noteAt}
 use Rattle.format.specs.declared.Found.{Found}
@@ -27,23 +27,32 @@ crRight fcb = leb (crOf fcb) 128
 unfoldable pub randomOf : Bytes → ℕ
 randomOf fcb = getD fcb 33 0 + 256 * getD fcb 34 0 + 65536 * getD fcb 35 0
 
+-- What an FCB counts in an extent, and one past the last record that it counts: as a row does, but where its count is 0 it counts nothing at
+-- all. On a disk whose entries cover several extents it may have been opened at one that its entry has not come to, and then says nothing of
+-- those before; on this disk 0 is never the larger count, and nothing changes by it
+unfoldable pub fcbCountIn : Bytes → ℕ → ℕ
+fcbCountIn fcb ext = cond (eqb (countOf fcb) 0) 0 (countIn fcb ext)
+
+unfoldable pub fcbEnd : Bytes → ℕ
+fcbEnd fcb = cond (eqb (countOf fcb) 0) 0 (endOf fcb)
+
 -- its name obeys the name rule; ex, s2, rc and cr are in range
 unfoldable pub fcbRight : Bytes → Bool
 fcbRight fcb = nameRight false fcb 1 and numbersRight fcb and crRight fcb
 
 -- slot j of the FCB (fs) equals the entry's (es), or the entry's is 0 and the FCB's block is noted pending for e, j
-unfoldable pub slotFits : Bytes → ℕ → Bytes → Bytes → ℕ → Bool
-slotFits map e es fs j =
-    eqb (getD fs j 0) (getD es j 0) or (eqb (getD es j 0) 0 and eqb (noteAt map (getD fs j 0)) (pendingFor e j))
+unfoldable pub slotFits : Geometry → Bytes → ℕ → Bytes → Bytes → ℕ → Bool
+slotFits G map e es fs j =
+    eqb (slotIn G fs j) (slotIn G es j) or (eqb (slotIn G es j) 0 and eqb (noteAt map (slotIn G fs j)) (pendingFor e j))
 
-unfoldable pub slotsFit : Bytes → ℕ → Bytes → Bytes → Bool
-slotsFit map e es fs = allBelow (slotFits map e es fs) slotCount
+unfoldable pub slotsFit : Geometry → Bytes → ℕ → Bytes → Bytes → Bool
+slotsFit G map e es fs = allBelow (slotFits G map e es fs) slotCount
 
 -- the entry found, if the FCB's slots fit it
-abbrev pub fitting : Rows → Bytes → Bytes → Found → Found
-fitting d map fcb (At e) = cond (slotsFit map e (slotsOf (d e)) (slotsOf fcb)) (At e) Nothing
-fitting d map fcb Nothing = Nothing
+abbrev pub fitting : Geometry → Rows → Bytes → Bytes → Found → Found
+fitting G d map fcb (At e) = cond (slotsFit G map e (slotsOf (d e)) (slotsOf fcb)) (At e) Nothing
+fitting G d map fcb Nothing = Nothing
 
 -- the entry of a current FCB; `Nothing` where it is not current
 unfoldable pub current : Geometry → Rows → Bytes → ℕ → Bytes → Found
-current G d map user fcb = cond (fcbRight fcb) (fitting d map fcb (findFile G d user fcb 1 (extentOf fcb))) Nothing
+current G d map user fcb = cond (fcbRight fcb) (fitting G d map fcb (findFile G d user fcb 1 (extentOf fcb))) Nothing

@@ -1,6 +1,6 @@
 -- Document 01 on the map: what a note says, when a map is right, and the fresh map.
 use mathlib.Core.Bool.{Bool, not, cond}
-use Prim.Native.Nat.{ℕ, _+_, _-_, _*_, _/_}
+use Prim.Native.Nat.{ℕ, _+_, _-_, _*_, _/_, _%_}
 use lib.Dec.{eqb, leb, ltb}
 use lib.ListN.{getD, set}
 use Rattle.lists.specs.Tests.{_and_, _or_}
@@ -8,7 +8,7 @@ use Rattle.lists.specs.Below.{allBelow, anyBelow, firstIn}
 use Rattle.lists.specs.Count.{countBelow}
 use Rattle.lists.specs.Tab.{tab}
 use Rattle.lists.specs.Seen.{taken}
-use Rattle.format.specs.Diskette.{Bytes, Geometry, slotCount}
+use Rattle.format.specs.Diskette.{Bytes, Geometry, slotCount, slotsOn}
 use Rattle.format.specs.Entries.{Rows, used}
 use Rattle.format.specs.Consistent.{listed, slotsInAll}
 use Rattle.format.specs.Found.{foundBelow}
@@ -35,6 +35,9 @@ isPending n = leb 16 n
 unfoldable pub pendingEntry : ℕ → ℕ
 pendingEntry n = (n - 16) / 16
 
+unfoldable pub pendingSlot : ℕ → ℕ
+pendingSlot n = n % 16
+
 -- the note of a block
 abbrev pub noteAt : Bytes → ℕ → ℕ
 noteAt map b = getD map b 0
@@ -42,11 +45,11 @@ noteAt map b = getD map b 0
 -- ---- the map that is right for a directory
 -- some used entry lists block b (asked only of blocks past the directory: a slot of 0 lists none)
 unfoldable pub isListed : Geometry → Rows → ℕ → Bool
-isListed G d b = taken (listed d) (slotsInAll G) b
+isListed G d b = taken (listed G d) (slotsInAll G) b
 
--- n is pending for a used entry
+-- n is pending for a slot of a used entry
 unfoldable pub heldByUsed : Geometry → Rows → ℕ → Bool
-heldByUsed G d n = isPending n and ltb (pendingEntry n) (G .entries) and used (d (pendingEntry n))
+heldByUsed G d n = isPending n and ltb (pendingEntry n) (G .entries) and used (d (pendingEntry n)) and ltb (pendingSlot n) (slotsOn G)
 
 -- 1 at the directory, 2 at the blocks that are listed, any other note free or pending for a used entry
 unfoldable pub noteRight : Geometry → Rows → ℕ → ℕ → Bool
@@ -87,7 +90,7 @@ freedMap G map = tab (G .blocks) (λ (b : ℕ). settledNote (noteAt map b))
 
 -- a picked entry lists block b: a slot of 0 lists no block
 unfoldable pub listedBy : Geometry → Rows → (ℕ → Bool) → ℕ → Bool
-listedBy G d picked b = not (eqb b 0) and anyBelow (λ (x : ℕ). picked (x / slotCount) and eqb (listed d x) b) (slotsInAll G)
+listedBy G d picked b = not (eqb b 0) and anyBelow (λ (x : ℕ). picked (x / slotCount) and eqb (listed G d x) b) (slotsInAll G)
 
 -- n is pending for a picked entry
 unfoldable pub heldFor : (ℕ → Bool) → ℕ → Bool

@@ -7,18 +7,19 @@ use Rattle.lists.specs.Tests.{_and_}
 use Rattle.lists.specs.Below.{anyBelow}
 use Rattle.lists.specs.Tab.{tab}
 use Rattle.format.specs.Diskette.{Bytes, Geometry, slotCount}
+use Rattle.format.specs.Entries.{slotIn}
 use Rattle.format.specs.Notes.{freeNote, noteAt, withNote, heldFor}
 
 -- one of the slots below j lists block b: a slot of 0 lists none
-unfoldable pub inSlots : Bytes → ℕ → ℕ → Bool
-inSlots slots j b = not (eqb b 0) and anyBelow (λ (k : ℕ). eqb (getD slots k 0) b) j
+unfoldable pub inSlots : Geometry → Bytes → ℕ → ℕ → Bool
+inSlots G slots j b = not (eqb b 0) and anyBelow (λ (k : ℕ). eqb (slotIn G slots k) b) j
 
 -- the blocks that the slots list become free
-unfoldable pub unlistedNote : Bytes → ℕ → ℕ → ℕ
-unlistedNote slots b n = cond (inSlots slots slotCount b) freeNote n
+unfoldable pub unlistedNote : Geometry → Bytes → ℕ → ℕ → ℕ
+unlistedNote G slots b n = cond (inSlots G slots slotCount b) freeNote n
 
 unfoldable pub unlistedMap : Geometry → Bytes → Bytes → Bytes
-unlistedMap G slots map = tab (G .blocks) (λ (b : ℕ). unlistedNote slots b (noteAt map b))
+unlistedMap G slots map = tab (G .blocks) (λ (b : ℕ). unlistedNote G slots b (noteAt map b))
 
 -- one slot's block becomes free
 unfoldable pub unlistedSlot : Bytes → ℕ → Bytes

@@ -4,18 +4,18 @@ use mathlib.Core.Bool.{Bool, true, false, not, cond}
 use Prim.Native.Nat.{ℕ, _+_, _*_, _/_, _%_, _<_}
 use native.Mathlib.Omega.{arith}
 use lib.Dec.{eqb}
-use lib.ListN.{length, getD}
+use lib.ListN.{length}
 use borrow.Author.Tests.{eq-eqb, ne-eqb, eqb-true, eqb-false, not-true}
 use Rattle.lists.specs.Cases.{split, bool-cases, bool-ext, cond-either, eq-or-ne}
 use Rattle.lists.specs.Tests.{_and_, _or_, and-left, and-right, and-both, and-then, and-fails-left, and-fails-right, or-left, or-right, or-first, cond-or}
 use Rattle.lists.specs.Below.{anyBelow, any-none, any-next, any-at, any-some}
 use Rattle.lists.specs.Tab.{tab, length-tab, getD-tab, tab-cong, tab-getD}
 use Rattle.format.specs.Diskette.{Bytes, Geometry, slotCount}
-use Rattle.format.specs.Entries.{Rows, used, slotsOf}
+use Rattle.format.specs.Entries.{Rows, used, slotsOf, slotIn}
 use Rattle.format.specs.Consistent.{listed, slotsInAll}
 use Rattle.consistency.specs.Facts.{Stands}
 use Rattle.consistency.specs.Listed.{stands-at, stands-place, stands-listed}
-use Rattle.facts.specs.Slots.{getD-slotsOf}
+use Rattle.facts.specs.Slots.{slotIn-slotsOf}
 use Rattle.format.specs.Notes.{freeNote, noteAt, withNote, heldFor, listedBy, releasedNote, releasedMap}
 use Rattle.notes.specs.Numbers.{settled-not}
 use Rattle.notes.specs.Changes.{length-note, note-same, note-other}
@@ -61,46 +61,46 @@ freed-is n {p} {old} {map} l u =
     ∙ tab-cong n (noteAt map) (λ (b : ℕ). cond (p b) freeNote (noteAt old b)) (λ b h. u .note b (omega arith))
 
 -- ---- a loop over slots: the blocks of those below j are free
-pub slots-none : (slots map : Bytes) → Freed (inSlots slots 0) map map
+pub slots-none : (G : Geometry) (slots map : Bytes) → Freed (inSlots G slots 0) map map
 unfolding inSlots
-slots-none slots map =
-    freed-cong (λ (b : ℕ). false) (inSlots slots 0)
-    (λ b h. sym (and-fails-right (not (eqb b 0)) _ (any-none (λ (k : ℕ). eqb (getD slots k 0) b)))) (freed-none map)
+slots-none G slots map =
+    freed-cong (λ (b : ℕ). false) (inSlots G slots 0)
+    (λ b h. sym (and-fails-right (not (eqb b 0)) _ (any-none (λ (k : ℕ). eqb (slotIn G slots k) b)))) (freed-none map)
 
-slot-empty : (slots : Bytes) (j b : ℕ) → getD slots j 0 ≡ 0 → inSlots slots j b ≡ inSlots slots (j + 1) b
+slot-empty : (G : Geometry) (slots : Bytes) (j b : ℕ) → slotIn G slots j ≡ 0 → inSlots G slots j b ≡ inSlots G slots (j + 1) b
 unfolding inSlots
-slot-empty slots j b z =
+slot-empty G slots j b z =
     split (eq-or-ne b 0)
     (λ q. let f : not (eqb b 0) ≡ false = rw (eq-eqb b 0 q) in rw f (and-fails-left false _ refl ∙ sym (and-fails-left false _ refl)))
     (λ q. ap (λ (t : Bool). not (eqb b 0) and t)
-    (sym (any-next _ j ∙ or-first _ _ (ne-eqb (getD slots j 0) b (λ w. q (sym w ∙ z))))))
+    (sym (any-next _ j ∙ or-first _ _ (ne-eqb (slotIn G slots j) b (λ w. q (sym w ∙ z))))))
 
-slot-lists : (slots : Bytes) (j b : ℕ) → (getD slots j 0 ≡ 0 → ⊥) → (inSlots slots j b or eqb b (getD slots j 0)) ≡ inSlots slots (j + 1) b
+slot-lists : (G : Geometry) (slots : Bytes) (j b : ℕ) → (slotIn G slots j ≡ 0 → ⊥) → (inSlots G slots j b or eqb b (slotIn G slots j)) ≡ inSlots G slots (j + 1) b
 unfolding inSlots
-slot-lists slots j b z =
-    split (eq-or-ne b (getD slots j 0))
+slot-lists G slots j b z =
+    split (eq-or-ne b (slotIn G slots j))
     (λ q. let n : not (eqb b 0) ≡ true = rw (ne-eqb b 0 (λ w. z (sym q ∙ w))) in
-    or-right _ _ (eq-eqb b (getD slots j 0) q)
-    ∙ sym (and-both _ _ n (any-next _ j ∙ or-right _ _ (eq-eqb (getD slots j 0) b (sym q)))))
-    (λ q. or-first _ _ (ne-eqb b (getD slots j 0) q)
-    ∙ ap (λ (t : Bool). not (eqb b 0) and t) (sym (any-next _ j ∙ or-first _ _ (ne-eqb (getD slots j 0) b (λ w. q (sym w))))))
+    or-right _ _ (eq-eqb b (slotIn G slots j) q)
+    ∙ sym (and-both _ _ n (any-next _ j ∙ or-right _ _ (eq-eqb (slotIn G slots j) b (sym q)))))
+    (λ q. or-first _ _ (ne-eqb b (slotIn G slots j) q)
+    ∙ ap (λ (t : Bool). not (eqb b 0) and t) (sym (any-next _ j ∙ or-first _ _ (ne-eqb (slotIn G slots j) b (λ w. q (sym w))))))
 
-pub slots-more : (slots old map : Bytes) (j : ℕ) → Freed (inSlots slots j) old map → Freed (inSlots slots (j + 1)) old (unlistedSlot map (getD slots j 0))
+pub slots-more : (G : Geometry) (slots old map : Bytes) (j : ℕ) → Freed (inSlots G slots j) old map → Freed (inSlots G slots (j + 1)) old (unlistedSlot map (slotIn G slots j))
 unfolding unlistedSlot
-slots-more slots old map j u =
-    cond-either (λ (m : Bytes). Freed (inSlots slots (j + 1)) old m) (eqb (getD slots j 0) 0)
-    (λ t. freed-cong (inSlots slots j) (inSlots slots (j + 1)) (λ b h. slot-empty slots j b (eqb-true _ _ t)) u)
-    (λ f. freed-cong (λ (b : ℕ). inSlots slots j b or eqb b (getD slots j 0)) (inSlots slots (j + 1))
-    (λ b h. slot-lists slots j b (eqb-false _ _ f)) (freed-then u (freed-one map (getD slots j 0))))
+slots-more G slots old map j u =
+    cond-either (λ (m : Bytes). Freed (inSlots G slots (j + 1)) old m) (eqb (slotIn G slots j) 0)
+    (λ t. freed-cong (inSlots G slots j) (inSlots G slots (j + 1)) (λ b h. slot-empty G slots j b (eqb-true _ _ t)) u)
+    (λ f. freed-cong (λ (b : ℕ). inSlots G slots j b or eqb b (slotIn G slots j)) (inSlots G slots (j + 1))
+    (λ b h. slot-lists G slots j b (eqb-false _ _ f)) (freed-then u (freed-one map (slotIn G slots j))))
 
-pub slots-done : (G : Geometry) (slots old map : Bytes) → length old ≡ G .blocks → Freed (inSlots slots slotCount) old map → map ≡ unlistedMap G slots old
+pub slots-done : (G : Geometry) (slots old map : Bytes) → length old ≡ G .blocks → Freed (inSlots G slots slotCount) old map → map ≡ unlistedMap G slots old
 unfolding unlistedMap unlistedNote
 slots-done G slots old map l u = freed-is (G .blocks) l u
 
 -- ---- the maps of a delete, note by note
-pub unlisted-freed : (G : Geometry) (slots map : Bytes) → length map ≡ G .blocks → Freed (inSlots slots slotCount) map (unlistedMap G slots map)
+pub unlisted-freed : (G : Geometry) (slots map : Bytes) → length map ≡ G .blocks → Freed (inSlots G slots slotCount) map (unlistedMap G slots map)
 unfolding unlistedMap unlistedNote
-unlisted-freed G slots map l = freed-tab (G .blocks) (inSlots slots slotCount) map l
+unlisted-freed G slots map l = freed-tab (G .blocks) (inSlots G slots slotCount) map l
 
 pub unheld-freed : (G : Geometry) (picked : ℕ → Bool) (map : Bytes) → length map ≡ G .blocks
     → Freed (λ (b : ℕ). heldFor picked (noteAt map b)) map (unheldMap G picked map)
@@ -114,38 +114,38 @@ free-unheld picked = and-fails-left _ _ (settled-not 0 (omega arith))
 
 -- ---- a loop over entries that frees the slots of those that are picked: the blocks of those below i are free
 -- some picked entry below i lists block b
-unfoldable pub inEntries : Rows → (ℕ → Bool) → ℕ → ℕ → Bool
-inEntries d picked i b = anyBelow (λ (e : ℕ). picked e and inSlots (slotsOf (d e)) slotCount b) i
+unfoldable pub inEntries : Geometry → Rows → (ℕ → Bool) → ℕ → ℕ → Bool
+inEntries G d picked i b = anyBelow (λ (e : ℕ). picked e and inSlots G (slotsOf (d e)) slotCount b) i
 
-module _ (d : Rows) (picked : ℕ → Bool) where
-  pub entries-none : (map : Bytes) → Freed (inEntries d picked 0) map map
+module _ (G : Geometry) (d : Rows) (picked : ℕ → Bool) where
+  pub entries-none : (map : Bytes) → Freed (inEntries G d picked 0) map map
   unfolding inEntries
   entries-none map =
-      freed-cong (λ (b : ℕ). false) (inEntries d picked 0)
-      (λ b h. sym (any-none (λ (e : ℕ). picked e and inSlots (slotsOf (d e)) slotCount b))) (freed-none map)
+      freed-cong (λ (b : ℕ). false) (inEntries G d picked 0)
+      (λ b h. sym (any-none (λ (e : ℕ). picked e and inSlots G (slotsOf (d e)) slotCount b))) (freed-none map)
 
-  pub entries-kept : (old map : Bytes) (i : ℕ) → picked i ≡ false → Freed (inEntries d picked i) old map → Freed (inEntries d picked (i + 1)) old map
+  pub entries-kept : (old map : Bytes) (i : ℕ) → picked i ≡ false → Freed (inEntries G d picked i) old map → Freed (inEntries G d picked (i + 1)) old map
   unfolding inEntries
   entries-kept old map i f u =
-      freed-cong (inEntries d picked i) (inEntries d picked (i + 1)) (λ b h. sym (any-next _ i ∙ or-first _ _ (and-fails-left _ _ f))) u
+      freed-cong (inEntries G d picked i) (inEntries G d picked (i + 1)) (λ b h. sym (any-next _ i ∙ or-first _ _ (and-fails-left _ _ f))) u
 
-  pub entries-more : (G : Geometry) (old map : Bytes) (i : ℕ) → length old ≡ G .blocks → picked i ≡ true
-      → Freed (inEntries d picked i) old map → Freed (inEntries d picked (i + 1)) old (unlistedMap G (slotsOf (d i)) map)
+  pub entries-more : (old map : Bytes) (i : ℕ) → length old ≡ G .blocks → picked i ≡ true
+      → Freed (inEntries G d picked i) old map → Freed (inEntries G d picked (i + 1)) old (unlistedMap G (slotsOf (d i)) map)
   unfolding inEntries
-  entries-more G old map i l t u =
-      freed-cong (λ (b : ℕ). inEntries d picked i b or inSlots (slotsOf (d i)) slotCount b) (inEntries d picked (i + 1))
-      (λ b h. sym (any-next _ i ∙ ap (λ (x : Bool). inEntries d picked i b or x) (and-then (picked i) _ t)))
+  entries-more old map i l t u =
+      freed-cong (λ (b : ℕ). inEntries G d picked i b or inSlots G (slotsOf (d i)) slotCount b) (inEntries G d picked (i + 1))
+      (λ b h. sym (any-next _ i ∙ ap (λ (x : Bool). inEntries G d picked i b or x) (and-then (picked i) _ t)))
       (freed-then u (unlisted-freed G (slotsOf (d i)) map (u .long ∙ l)))
 
 module _ (G : Geometry) (d : Rows) (picked : ℕ → Bool) (sure : (e : ℕ) → e < G .entries → picked e ≡ true → used (d e) ≡ true) where
   -- the slots of the picked entries, and all slots counted through
-  pub entries-listed : (b : ℕ) → inEntries d picked (G .entries) b ≡ listedBy G d picked b
+  pub entries-listed : (b : ℕ) → inEntries G d picked (G .entries) b ≡ listedBy G d picked b
   unfolding inEntries listedBy inSlots
   entries-listed b =
-      bool-ext (inEntries d picked (G .entries) b) (listedBy G d picked b)
-      (λ t. let s = any-some (λ (e : ℕ). picked e and inSlots (slotsOf (d e)) slotCount b) (G .entries) t in
+      bool-ext (inEntries G d picked (G .entries) b) (listedBy G d picked b)
+      (λ t. let s = any-some (λ (e : ℕ). picked e and inSlots G (slotsOf (d e)) slotCount b) (G .entries) t in
       let e : ℕ = s .place in
-      let r = any-some (λ (j : ℕ). eqb (getD (slotsOf (d e)) j 0) b) slotCount (and-right _ _ (and-right _ _ (s .holds))) in
+      let r = any-some (λ (j : ℕ). eqb (slotIn G (slotsOf (d e)) j) b) slotCount (and-right _ _ (and-right _ _ (s .holds))) in
       let j : ℕ = r .place in
       let l : j < slotCount = r .below in
       let z : not (eqb b 0) ≡ true = and-left _ _ (and-right _ _ (s .holds)) in
@@ -153,37 +153,37 @@ module _ (G : Geometry) (d : Rows) (picked : ℕ → Bool) (sure : (e : ℕ) →
         entry = s .below;
         place = l;
         uses = sure e (s .below) (and-left _ _ (s .holds));
-        is = sym (getD-slotsOf (d e) j l) ∙ eqb-true _ _ (r .holds);
+        is = sym (slotIn-slotsOf G (d e) j) ∙ eqb-true _ _ (r .holds);
         real = eqb-false b 0 (not-true (eqb b 0) z);
       } in
       let q : (slotCount * e + j) / slotCount ≡ e = omega arith in
       and-both _ _ z
-      (any-at (λ (x : ℕ). picked (x / slotCount) and eqb (listed d x) b) (slotsInAll G) (slotCount * e + j) (stands-place G d b e j a)
+      (any-at (λ (x : ℕ). picked (x / slotCount) and eqb (listed G d x) b) (slotsInAll G) (slotCount * e + j) (stands-place G d b e j a)
       (and-both _ _ (ap picked q ∙ and-left _ _ (s .holds)) (eq-eqb _ _ (stands-listed G d b e j a)))))
-      (λ t. let s = any-some (λ (x : ℕ). picked (x / slotCount) and eqb (listed d x) b) (slotsInAll G) (and-right _ _ t) in
+      (λ t. let s = any-some (λ (x : ℕ). picked (x / slotCount) and eqb (listed G d x) b) (slotsInAll G) (and-right _ _ t) in
       let x : ℕ = s .place in
       let z : not (eqb b 0) ≡ true = and-left _ _ t in
       let a = stands-at G d x b (s .below) (eqb-true _ _ (and-right _ _ (s .holds))) (eqb-false b 0 (not-true (eqb b 0) z)) in
-      any-at (λ (e : ℕ). picked e and inSlots (slotsOf (d e)) slotCount b) (G .entries) (x / slotCount) (a .entry)
+      any-at (λ (e : ℕ). picked e and inSlots G (slotsOf (d e)) slotCount b) (G .entries) (x / slotCount) (a .entry)
       (and-both _ _ (and-left _ _ (s .holds)) (and-both _ _ z
-      (any-at (λ (j : ℕ). eqb (getD (slotsOf (d (x / slotCount))) j 0) b) slotCount (x % slotCount) (a .place)
-      (eq-eqb _ _ (getD-slotsOf (d (x / slotCount)) (x % slotCount) (a .place) ∙ a .is))))))
+      (any-at (λ (j : ℕ). eqb (slotIn G (slotsOf (d (x / slotCount))) j) b) slotCount (x % slotCount) (a .place)
+      (eq-eqb _ _ (slotIn-slotsOf G (d (x / slotCount)) (x % slotCount) ∙ a .is))))))
 
   -- after the loop, freeing what is held releases the blocks of the picked entries
-  pub entries-released : (old map : Bytes) → length old ≡ G .blocks → Freed (inEntries d picked (G .entries)) old map → unheldMap G picked map ≡ releasedMap G d picked old
+  pub entries-released : (old map : Bytes) → length old ≡ G .blocks → Freed (inEntries G d picked (G .entries)) old map → unheldMap G picked map ≡ releasedMap G d picked old
   unfolding releasedMap releasedNote
   entries-released old map l u =
       freed-is (G .blocks) l
-      (freed-cong (λ (b : ℕ). inEntries d picked (G .entries) b or heldFor picked (noteAt map b))
+      (freed-cong (λ (b : ℕ). inEntries G d picked (G .entries) b or heldFor picked (noteAt map b))
       (λ (b : ℕ). listedBy G d picked b or heldFor picked (noteAt old b))
       (λ b h. same-held b h) (freed-then u (unheld-freed G picked map (u .long ∙ l))))
     where
       same-held : (b : ℕ) → b < length old
-          → (inEntries d picked (G .entries) b or heldFor picked (noteAt map b)) ≡ (listedBy G d picked b or heldFor picked (noteAt old b))
+          → (inEntries G d picked (G .entries) b or heldFor picked (noteAt map b)) ≡ (listedBy G d picked b or heldFor picked (noteAt old b))
       same-held b h =
-          split (bool-cases (inEntries d picked (G .entries) b))
+          split (bool-cases (inEntries G d picked (G .entries) b))
           (λ t. or-left _ _ t ∙ sym (or-left _ _ (sym (entries-listed b) ∙ t)))
-          (λ f. let q : noteAt map b ≡ cond (inEntries d picked (G .entries) b) freeNote (noteAt old b) = u .note b h in
+          (λ f. let q : noteAt map b ≡ cond (inEntries G d picked (G .entries) b) freeNote (noteAt old b) = u .note b h in
           let k : noteAt map b ≡ noteAt old b = rw f at q in rw (k, entries-listed b))
 
 -- ---- the released map, note by note

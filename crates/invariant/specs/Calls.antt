@@ -1,11 +1,11 @@
 -- What each accepted call does keeps image and map good.
-use mathlib.Core.Path.{_≡_, sym}
+use mathlib.Core.Path.{_≡_, sym, ap}
 use mathlib.Core.Bool.{true, false}
 use Prim.Native.Nat.{ℕ}
 use lib.Dec.{eqb}
 use Rattle.lists.specs.Cases.{split, bool-cases}
 use Rattle.format.specs.Diskette.{Bytes, Geometry, Sound}
-use Rattle.format.specs.Entries.{exOf}
+use Rattle.format.specs.Entries.{exOf, runOf}
 use Rattle.format.specs.Consistent.{consistent}
 use Rattle.model.specs.declared.Session.{Session}
 use Rattle.model.specs.Lent.{Lent, Outcome, rowsOf}
@@ -52,10 +52,10 @@ module _ {G : Geometry} (S : Sound G) (l : Lent) (s : Session) (f : Fits G l s) 
         let found = empty-says G (rowsOf G l) t (m .entry .is) in
         rw (m .entry .is)
         (good-made S (l .image) (l .map) g t (found .below) (found .holds) row (length-madeRow (s .user) (l .fcb))
-        (fine-made G (s .user) (l .fcb) (f .user-low) (m .name) (m .ex)) (λ j h. slot-made (s .user) (l .fcb) j) (s .user) (l .fcb) 1 (exOf (l .fcb))
+        (fine-made G (s .user) (l .fcb) (f .user-low) (m .name) (m .ex)) (λ j h. slot-made (s .user) (l .fcb) G j) (s .user) (l .fcb) 1 (exOf (l .fcb))
         (file-intro G (s .user) (l .fcb) 1 (exOf (l .fcb)) row
         (named-intro false (s .user) (l .fcb) 1 row (user-made (s .user) (l .fcb)) (like-intro (l .fcb) 1 row 1 (λ i b. sym (name-made (s .user) (l .fcb) i b))))
-        (extent-made (s .user) (l .fcb)))
+        (ap (runOf G) (extent-made (s .user) (l .fcb))))
         (no-file-says G (rowsOf G l) (s .user) (l .fcb) 1 (exOf (l .fcb)) (m .new)))
 
     renamed-good : Renames G l s → GoodOutcome G (renamed G s l)

@@ -13,11 +13,11 @@ use Rattle.consistency.specs.Listed.{listed-somewhere, somewhere-listed}
 use Rattle.consistency.specs.Reflect.{same-sym}
 use Rattle.notes.specs.Right.{Spare, NoteOk, ok-area, ok-recorded, ok-free, ok-pending}
 
-pub same-refl : (r : Bytes) → SameFile r r
-same-refl r = record { user = refl; name = like-refl r 1; extent = refl }
+pub same-refl : (G : Geometry) (r : Bytes) → SameFile G r r
+same-refl G r = record { user = refl; name = like-refl r 1; run = refl }
 
-pub same-trans : (r t s : Bytes) → SameFile r t → SameFile t s → SameFile r s
-same-trans r t s p q = record { user = p .user ∙ q .user; name = like-trans s 1 t 1 r 1 (q .name) (p .name); extent = p .extent ∙ q .extent }
+pub same-trans : (G : Geometry) (r t s : Bytes) → SameFile G r t → SameFile G t s → SameFile G r s
+same-trans G r t s p q = record { user = p .user ∙ q .user; name = like-trans s 1 t 1 r 1 (q .name) (p .name); run = p .run ∙ q .run }
 
 -- a block past the directory is not block 0, which stands for none
 pub past-real : {G : Geometry} → Sound G → (b : ℕ) → G .area ≤ b → b ≡ 0 → ⊥
@@ -39,7 +39,7 @@ module _ (G : Geometry) (d d′ : Rows) where
     entry = s .entry;
     place = s .place;
     uses = sym (ap used q) ∙ s .uses;
-    is = sym (ap (λ (r : Bytes). slotOf r j) q) ∙ s .is;
+    is = sym (ap (λ (r : Bytes). slotOf G r j) q) ∙ s .is;
     real = s .real;
   }
 
@@ -50,20 +50,20 @@ module _ (G : Geometry) (d d′ : Rows) where
       (other : (k : ℕ) → k < G .entries → picked k ≡ true → used (d′ k) ≡ false → empty (d′ k) ≡ true)
       (once-entry : (b e j f k : ℕ) → Stands G d′ b e j → Stands G d′ b f k → e ≡ f)
       (once-slot : (b e j f k : ℕ) → Stands G d′ b e j → Stands G d′ b f k → j ≡ k)
-      (apart : (k f : ℕ) → k < G .entries → f < G .entries → picked k ≡ true → picked f ≡ true → used (d′ k) ≡ true → used (d′ f) ≡ true → SameFile (d′ k) (d′ f) → k ≡ f)
-      (new : (k f : ℕ) → k < G .entries → f < G .entries → picked k ≡ true → picked f ≡ false → used (d′ k) ≡ true → used (d f) ≡ true → SameFile (d′ k) (d f) → ⊥) where
+      (apart : (k f : ℕ) → k < G .entries → f < G .entries → picked k ≡ true → picked f ≡ true → used (d′ k) ≡ true → used (d′ f) ≡ true → SameFile G (d′ k) (d′ f) → k ≡ f)
+      (new : (k f : ℕ) → k < G .entries → f < G .entries → picked k ≡ true → picked f ≡ false → used (d′ k) ≡ true → used (d f) ≡ true → SameFile G (d′ k) (d f) → ⊥) where
     use-back : (k : ℕ) → k < G .entries → picked k ≡ false → used (d′ k) ≡ true → used (d k) ≡ true
     use-back k l n u = sym (ap used (kept k l n)) ∙ u
 
-    alone : (e f : ℕ) → e < G .entries → f < G .entries → used (d′ e) ≡ true → used (d′ f) ≡ true → SameFile (d′ e) (d′ f) → e ≡ f
+    alone : (e f : ℕ) → e < G .entries → f < G .entries → used (d′ e) ≡ true → used (d′ f) ≡ true → SameFile G (d′ e) (d′ f) → e ≡ f
     alone e f l h u w s =
         split (bool-cases (picked e))
         (λ p. split (bool-cases (picked f)) (λ q. apart e f l h p q u w s)
-        (λ q. absurd (new e f l h p q u (use-back f h q w) (subst (SameFile (d′ e)) (kept f h q) s))))
+        (λ q. absurd (new e f l h p q u (use-back f h q w) (subst (SameFile G (d′ e)) (kept f h q) s))))
         (λ p. split (bool-cases (picked f))
-        (λ q. absurd (new f e h l q p w (use-back e l p u) (subst (SameFile (d′ f)) (kept e l p) (same-sym (d′ e) (d′ f) s))))
+        (λ q. absurd (new f e h l q p w (use-back e l p u) (subst (SameFile G (d′ f)) (kept e l p) (same-sym G (d′ e) (d′ f) s))))
         (λ q. c .apart e f l h (use-back e l p u) (use-back f h q w)
-        (subst (λ (r : Bytes). SameFile r (d f)) (kept e l p) (subst (SameFile (d′ e)) (kept f h q) s))))
+        (subst (λ (r : Bytes). SameFile G r (d f)) (kept e l p) (subst (SameFile G (d′ e)) (kept f h q) s))))
 
     pub change-dir : Consistent G d′
     change-dir = record {

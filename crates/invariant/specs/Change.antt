@@ -11,9 +11,10 @@ use Rattle.lists.specs.Tests.{_and_, and-left, and-right, and-both, and-then, a
 use Rattle.lists.specs.Below.{Some, any-some, any-at}
 use Rattle.format.specs.Diskette.{Bytes, Geometry, Sound, slotCount}
 use Rattle.format.specs.Names.{nameLike}
-use Rattle.format.specs.Entries.{Rows, userOf, slotOf, used, empty, extentOf}
+use Rattle.format.specs.Entries.{Rows, userOf, slotOf, used, empty, extentOf, runOf}
 use Rattle.format.specs.Consistent.{listed, slotsInAll}
 use Rattle.format.specs.Notes.{freeNote, isPending, pendingEntry, pendingFor, isListed, listedBy, heldFor, releasedNote}
+use Rattle.facts.specs.Slots.{slot-place}
 use Rattle.consistency.specs.Facts.{Fine, Stands, SameFile, Consistent}
 use Rattle.consistency.specs.Listed.{stands-at, stands-place, stands-listed, listed-somewhere, somewhere-listed}
 use Rattle.consistency.specs.Reflect.{used-full, low-used}
@@ -36,13 +37,13 @@ module _ (G : Geometry) (d : Rows) (picked : ℕ → Bool) (b : ℕ) where
   picked-listed e j s p =
       let q : (slotCount * e + j) / slotCount ≡ e = (let l = s .place in omega arith) in
       and-both _ _ (ap not (ne-eqb b 0 (s .real)))
-      (any-at (λ (x : ℕ). picked (x / slotCount) and eqb (listed d x) b) (slotsInAll G) (slotCount * e + j) (stands-place G d b e j s)
+      (any-at (λ (x : ℕ). picked (x / slotCount) and eqb (listed G d x) b) (slotsInAll G) (slotCount * e + j) (stands-place G d b e j s)
       (and-both _ _ (ap picked q ∙ p) (eq-eqb _ _ (stands-listed G d b e j s))))
 
   pub listed-picked : listedBy G d picked b ≡ true → PickedAt G d picked b
   unfolding listedBy
   listed-picked t =
-      let s : Some (λ (x : ℕ). picked (x / slotCount) and eqb (listed d x) b) (slotsInAll G) = any-some _ (slotsInAll G) (and-right _ _ t) in
+      let s : Some (λ (x : ℕ). picked (x / slotCount) and eqb (listed G d x) b) (slotsInAll G) = any-some _ (slotsInAll G) (and-right _ _ t) in
       let r : b ≡ 0 → ⊥ = eqb-false b 0 (not-true _ (and-left _ _ t)) in
       record {
         e = s .place / slotCount;
@@ -106,7 +107,7 @@ module _ {G : Geometry} (S : Sound G) (d d′ : Rows) (m m′ : ℕ → ℕ) (v 
   area-unpicked b h =
       sym (refute _ (λ t. let w = listed-picked G d picked b t in let s = w .stands in
       let low = v .dir .fine (w .e) (s .entry) (s .uses) .low (w .j) (s .place) (λ z. s .real (sym (s .is) ∙ z)) in
-      let q : slotOf (d (w .e)) (w .j) ≡ b = s .is in omega arith))
+      let q : slotOf G (d (w .e)) (w .j) ≡ b = s .is in omega arith))
 
   -- a block of a picked entry stands nowhere any more
   lost : (b : ℕ) → G .area ≤ b → listedBy G d picked b ≡ true → Spare G d′ b
@@ -131,8 +132,8 @@ module _ {G : Geometry} (S : Sound G) (d d′ : Rows) (m m′ : ℕ → ℕ) (v 
   erased-note b n (ok-free q s) = ok-free (released-settled G d picked b n (omega arith) (spare-unpicked b s) ∙ q) (spare-on S d d′ b (back b) s)
   erased-note b n (ok-pending e j q h l u s) =
       split (bool-cases (picked e))
-      (λ p. ok-free (ap (releasedNote G d picked b) q ∙ released-held G d picked b e j l p) (spare-on S d d′ b (back b) s))
-      (λ p. ok-pending e j (ap (releasedNote G d picked b) q ∙ released-kept G d picked b e j l (spare-unpicked b s) p) h l
+      (λ p. ok-free (ap (releasedNote G d picked b) q ∙ released-held G d picked b e j (slot-place G l) p) (spare-on S d d′ b (back b) s))
+      (λ p. ok-pending e j (ap (releasedNote G d picked b) q ∙ released-kept G d picked b e j (slot-place G l) (spare-unpicked b s) p) h l
       (ap used (kept e h p) ∙ u) (spare-on S d d′ b (back b) s))
 
   pub erase-inv : Inv G d′ m′
@@ -144,14 +145,14 @@ pub record RenamedTo (G : Geometry) (r r′ : Bytes) : Type 0 where
   pub fine : Fine G r′
   pub user : userOf r′ ≡ userOf r
   pub extent : extentOf r′ ≡ extentOf r
-  pub slot : (j : ℕ) → j < slotCount → slotOf r′ j ≡ slotOf r j
+  pub slot : (j : ℕ) → j < slotCount → slotOf G r′ j ≡ slotOf G r j
 
 module _ {G : Geometry} (S : Sound G) (d d′ : Rows) (m : ℕ → ℕ) (v : Inv G d m) (picked : ℕ → Bool)
     (kept : (k : ℕ) → k < G .entries → picked k ≡ false → d′ k ≡ d k)
     (uses : (k : ℕ) → k < G .entries → picked k ≡ true → used (d k) ≡ true)
     (renamed : (k : ℕ) → k < G .entries → picked k ≡ true → RenamedTo G (d k) (d′ k))
     (one : (k f : ℕ) → k < G .entries → f < G .entries → picked k ≡ true → picked f ≡ true → nameLike false (d f) 1 (d k) 1 ≡ true)
-    (new : (k f : ℕ) → k < G .entries → f < G .entries → picked k ≡ true → picked f ≡ false → used (d f) ≡ true → SameFile (d′ k) (d f) → ⊥) where
+    (new : (k f : ℕ) → k < G .entries → f < G .entries → picked k ≡ true → picked f ≡ false → used (d f) ≡ true → SameFile G (d′ k) (d f) → ⊥) where
   used-same : (k : ℕ) → k < G .entries → picked k ≡ true → used (d′ k) ≡ true
   used-same k l p = low-used (d′ k) (renamed k l p .fine .user)
 
@@ -177,7 +178,7 @@ module _ {G : Geometry} (S : Sound G) (d d′ : Rows) (m : ℕ → ℕ) (v : Inv
       (λ b e j f k s u. v .dir .once-slot b e j f k (slots-back b e j s) (slots-back b f k u))
       (λ k f l h p q u w s. let r = renamed k l p in let t = renamed f h q in
       v .dir .apart k f l h (uses k l p) (uses f h q)
-      (record { user = sym (r .user) ∙ s .user ∙ t .user; name = one k f l h p q; extent = sym (r .extent) ∙ s .extent ∙ t .extent }))
+      (record { user = sym (r .user) ∙ s .user ∙ t .user; name = one k f l h p q; run = sym (ap (runOf G) (r .extent)) ∙ s .run ∙ ap (runOf G) (t .extent) }))
       (λ k f l h p q u w s. new k f l h p q w s)
 
   pub rename-inv : Inv G d′ m

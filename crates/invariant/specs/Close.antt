@@ -12,6 +12,7 @@ use Rattle.format.specs.Diskette.{Bytes, Geometry, Sound, slotCount}
 use Rattle.format.specs.Names.{nameRight}
 use Rattle.format.specs.Entries.{Rows, userOf, slotOf, used}
 use Rattle.format.specs.Notes.{freeNote, areaNote, recordedNote, pendingFor}
+use Rattle.facts.specs.Slots.{slot-place}
 use Rattle.consistency.specs.Facts.{Numbers, Fine, Stands, SameFile, Consistent}
 use Rattle.consistency.specs.Listed.{somewhere-listed}
 use Rattle.consistency.specs.Reflect.{used-low, low-used, same-sym}
@@ -29,22 +30,22 @@ pending-spare G d b e j n (ok-pending f k q l i u s) p = s
 
 -- slot j of entry e is 0, and block b is noted pending for it
 pub record Held (G : Geometry) (d : Rows) (m : ℕ → ℕ) (e j b : ℕ) : Type 0 where
-  pub was : slotOf (d e) j ≡ 0
+  pub was : slotOf G (d e) j ≡ 0
   pub low : b < G .blocks
   pub noted : m b ≡ pendingFor e j
 
 -- what the closed entry's row r is to the row that it was
 pub record ClosedTo (G : Geometry) (d : Rows) (m : ℕ → ℕ) (e : ℕ) (r : Bytes) : Type 0 where
-  pub file : SameFile r (d e)
+  pub file : SameFile G r (d e)
   pub name : nameRight false r 1 ≡ true
   pub numbers : Numbers r
-  pub slot : (j : ℕ) → j < slotCount → (slotOf r j ≡ slotOf (d e) j) ⊎ Held G d m e j (slotOf r j)
+  pub slot : (j : ℕ) → j < slotCount → (slotOf G r j ≡ slotOf G (d e) j) ⊎ Held G d m e j (slotOf G r j)
 
 module _ {G : Geometry} (S : Sound G) (d d′ : Rows) (m m′ : ℕ → ℕ) (v : Inv G d m) (e : ℕ) (below : e < G .entries) (uses : used (d e) ≡ true)
     (there : (k : ℕ) → k < G .entries → (k ≡ e → ⊥) → d′ k ≡ d k) (closed : ClosedTo G d m e (d′ e))
     -- the blocks that the entry takes are recorded, the other notes stay
-    (settled : (b j : ℕ) → j < slotCount → Held G d m e j b → slotOf (d′ e) j ≡ b → (b ≡ 0 → ⊥) → m′ b ≡ recordedNote)
-    (left : (b : ℕ) → b < G .blocks → ((j : ℕ) → j < slotCount → Held G d m e j b → slotOf (d′ e) j ≡ b → ⊥) → m′ b ≡ m b) where
+    (settled : (b j : ℕ) → j < slotCount → Held G d m e j b → slotOf G (d′ e) j ≡ b → (b ≡ 0 → ⊥) → m′ b ≡ recordedNote)
+    (left : (b : ℕ) → b < G .blocks → ((j : ℕ) → j < slotCount → Held G d m e j b → slotOf G (d′ e) j ≡ b → ⊥) → m′ b ≡ m b) where
   held-spare : (b j : ℕ) → Held G d m e j b → Spare G d b
   held-spare b j h = pending-spare G d b e j (m b) (v .map b (h .low)) (h .noted)
 
@@ -75,7 +76,7 @@ module _ {G : Geometry} (S : Sound G) (d d′ : Rows) (m m′ : ℕ → ℕ) (v 
   forth : (b f j : ℕ) → Stands G d b f j → Stands G d′ b f j
   forth b f j s =
       split (eq-or-ne f e)
-      (λ q. let i : slotOf (d e) j ≡ b = sym (ap (λ (x : ℕ). slotOf (d x) j) q) ∙ s .is in
+      (λ q. let i : slotOf G (d e) j ≡ b = sym (ap (λ (x : ℕ). slotOf G (d x) j) q) ∙ s .is in
       subst (λ (x : ℕ). Stands G d′ b x j) (sym q)
       (record {
         entry = below;
@@ -112,7 +113,7 @@ module _ {G : Geometry} (S : Sound G) (d d′ : Rows) (m m′ : ℕ → ℕ) (v 
     numbers = closed .numbers;
     low = λ j l r. split (closed .slot j l)
         (λ q. subst (λ (x : ℕ). G .area ≤ x) (sym q) (v .dir .fine e below uses .low j l (λ z. r (q ∙ z))))
-        (λ h. held-spare (slotOf (d′ e) j) j h .past);
+        (λ h. held-spare (slotOf G (d′ e) j) j h .past);
     high = λ j l r. split (closed .slot j l)
         (λ q. subst (λ (x : ℕ). x < G .blocks) (sym q) (v .dir .fine e below uses .high j l (λ z. r (q ∙ z))))
         (λ h. h .low);
@@ -126,11 +127,11 @@ module _ {G : Geometry} (S : Sound G) (d d′ : Rows) (m m′ : ℕ → ℕ) (v 
       once-entry once-slot
       (λ k f l h p q u w s. eqb-true k e p ∙ sym (eqb-true f e q))
       (λ k f l h p q u w s. eqb-false f e q
-      (sym (v .dir .apart e f below h uses w (same-trans (d e) (d′ e) (d f) (same-sym (d′ e) (d e) (closed .file)) (subst (λ (x : ℕ). SameFile (d′ x) (d f)) (eqb-true k e p) s)))))
+      (sym (v .dir .apart e f below h uses w (same-trans G (d e) (d′ e) (d f) (same-sym G (d′ e) (d e) (closed .file)) (subst (λ (x : ℕ). SameFile G (d′ x) (d f)) (eqb-true k e p) s)))))
 
   -- ---- the notes
   -- a block that no slot takes keeps its note, and stays spare
-  spare-still : (b : ℕ) → ((j : ℕ) → j < slotCount → Held G d m e j b → slotOf (d′ e) j ≡ b → ⊥) → Spare G d b → Spare G d′ b
+  spare-still : (b : ℕ) → ((j : ℕ) → j < slotCount → Held G d m e j b → slotOf G (d′ e) j ≡ b → ⊥) → Spare G d b → Spare G d′ b
   spare-still b none s = record {
     past = s .past;
     unlisted = never-unlisted G d′ b (past-real S b (s .past)) (λ f j w. go f j w (origin b f j w));
@@ -138,13 +139,13 @@ module _ {G : Geometry} (S : Sound G) (d d′ : Rows) (m m′ : ℕ → ℕ) (v 
     where
       go : (f j : ℕ) → Stands G d′ b f j → Origin b f j → ⊥
       go f j w (old a) = unlisted-never G d b (s .unlisted) f j a
-      go f j w (new q l h) = none j l h (sym (ap (λ (x : ℕ). slotOf (d′ x) j) q) ∙ w .is)
+      go f j w (new q l h) = none j l h (sym (ap (λ (x : ℕ). slotOf G (d′ x) j) q) ∙ w .is)
 
   on : (k : ℕ) → k < G .entries → used (d k) ≡ true → used (d′ k) ≡ true
   on k l u = split (eq-or-ne k e) (λ q. subst (λ (x : ℕ). used (d′ x) ≡ true) (sym q) still-used) (λ q. ap used (there k l q) ∙ u)
 
   -- a block that is pending for slot k, and that the entry takes there
-  taken : (b k : ℕ) → k < slotCount → Spare G d b → slotOf (d′ e) k ≡ b → NoteOk G d′ b (m′ b)
+  taken : (b k : ℕ) → k < slotCount → Spare G d b → slotOf G (d′ e) k ≡ b → NoteOk G d′ b (m′ b)
   taken b k l s z =
       split (closed .slot k l)
       (λ p. absurd (unlisted-never G d b (s .unlisted) e k
@@ -153,7 +154,7 @@ module _ {G : Geometry} (S : Sound G) (d d′ : Rows) (m m′ : ℕ → ℕ) (v 
       (somewhere-listed G d′ b e k (record { entry = below; place = l; uses = still-used; is = z; real = past-real S b (s .past) })))
 
   -- a block whose note is no note of the entry's is not held for it
-  unheld : (b n : ℕ) → m b ≡ n → ((j : ℕ) → pendingFor e j ≡ n → ⊥) → (j : ℕ) → j < slotCount → Held G d m e j b → slotOf (d′ e) j ≡ b → ⊥
+  unheld : (b n : ℕ) → m b ≡ n → ((j : ℕ) → pendingFor e j ≡ n → ⊥) → (j : ℕ) → j < slotCount → Held G d m e j b → slotOf G (d′ e) j ≡ b → ⊥
   unheld b n q not j l h z = not j (sym (h .noted) ∙ q)
 
   closed-note : (b : ℕ) → b < G .blocks → NoteOk G d b (m b) → NoteOk G d′ b (m′ b)
@@ -162,9 +163,9 @@ module _ {G : Geometry} (S : Sound G) (d d′ : Rows) (m m′ : ℕ → ℕ) (v 
   closed-note b h (ok-free q s) =
       ok-free (left b h (unheld b _ q (pending-not freeNote (omega arith) e)) ∙ q) (spare-still b (unheld b _ q (pending-not freeNote (omega arith) e)) s)
   closed-note b h (ok-pending f k q l i u s) =
-      split (eq-or-ne (slotOf (d′ e) k) b) (λ z. taken b k i s z)
-      (λ z. let none : (j : ℕ) → j < slotCount → Held G d m e j b → slotOf (d′ e) j ≡ b → ⊥ =
-      λ j w g y. z (sym (ap (slotOf (d′ e)) (pending-once e j f k w i (sym (g .noted) ∙ q) .1)) ∙ y) in
+      split (eq-or-ne (slotOf G (d′ e) k) b) (λ z. taken b k (slot-place G i) s z)
+      (λ z. let none : (j : ℕ) → j < slotCount → Held G d m e j b → slotOf G (d′ e) j ≡ b → ⊥ =
+      λ j w g y. z (sym (ap (slotOf G (d′ e)) (pending-once e j f k w (slot-place G i) (sym (g .noted) ∙ q) .1)) ∙ y) in
       ok-pending f k (left b h none ∙ q) l i (on f l u) (spare-still b none s))
 
   pub close-inv : Inv G d′ m′

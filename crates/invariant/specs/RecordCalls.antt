@@ -1,20 +1,20 @@
 -- The record calls keep image and map good: a move closes the present extent and may make an entry; a write may take a block.
 use mathlib.Core.Path.{_≡_, ap, sym, _∙_, subst}
 use mathlib.Core.Bool.{true, false}
-use Prim.Native.Nat.{ℕ, _≤_, _<_}
+use Prim.Native.Nat.{ℕ, _≤_, _<_, max}
 use native.Mathlib.Omega.{arith}
 use lib.ListN.{length}
-use Rattle.lists.specs.Cases.{split, eq-or-ne}
+use Rattle.lists.specs.Cases.{split, bool-cases, eq-or-ne}
 use borrow.Author.Tests.{eq-eqb}
-use Rattle.format.specs.Diskette.{Bytes, Geometry, Sound, recordBytes, slotCount, extents}
-use Rattle.format.specs.Entries.{entryAt, slotOf, extentOf, used, empty, isFile, findEmpty}
+use Rattle.format.specs.Diskette.{Bytes, Geometry, Sound, recordBytes, slotCount, extents, slotsOn}
+use Rattle.format.specs.Entries.{entryAt, slotOf, extentOf, runOf, countOf, countIn, used, empty, isFile, findEmpty}
 use Rattle.format.specs.Notes.{noteAt, freeNote, pendingFor, findFree}
 use Rattle.format.specs.declared.Found.the-variants.{At, Nothing}
 use Rattle.model.specs.declared.Session.{Session}
 use Rattle.model.specs.Lent.{Lent, rowsOf}
 use Rattle.model.specs.Entering.{entered, nextRow}
 use Rattle.model.specs.Closing.{closedImage, closedMap}
-use Rattle.model.specs.Target.{targetExtent, targetRecord, targetSlot, crAfter, presentEntry, stays, targetEntry, blockThere, plan, moved, made, haveRead, haveWritten, writtenMap}
+use Rattle.model.specs.Target.{targetExtent, targetRecord, targetSlot, crAfter, presentEntry, stays, within, targetEntry, blockThere, countThere, plan, moved, made, haveRead, haveWritten, writtenMap}
 use Rattle.model.specs.declared.Plan.{Plan}
 use Rattle.model.specs.Calls.{readAt, reading, read, writtenAt, writing, written}
 use Rattle.facts.specs.Names.{like-trans, like-intro}
@@ -22,12 +22,15 @@ use Rattle.consistency.specs.Facts.{Fine}
 use Rattle.consistency.specs.Reflect.{empty-elsewhere}
 use Rattle.notes.specs.Free.{free-is, free-spare}
 use Rattle.rows.specs.Entries.{length-entryAt, entry-stored}
+use Rattle.facts.specs.Slots.{slot-place}
+use Rattle.table.specs.Present.{same-entry, other-entry, within-block, stay-block, beyond-block, make-block}
 use Rattle.facts.specs.Find.{file-says, no-file-says, empty-says}
 use Rattle.fields.specs.Agree.{isFile-cong, used-cong}
 use Rattle.fields.specs.Images.{row-closedImage-other}
+use Rattle.fields.specs.Closing.{count-closed}
 use Rattle.fields.specs.Fine.{fine-next}
 use Rattle.fields.specs.Making.{length-nextRow, user-next, name-next, slot-next, extent-next}
-use Rattle.fields.specs.Entering.{slot-entered}
+use Rattle.fields.specs.Entering.{slot-entered, count-entered}
 use Rattle.facts.specs.Naming.{named-intro, file-intro, file-user, file-like}
 use Rattle.consistency.specs.Naming.{file-used}
 use Rattle.fields.specs.Target.{map-written-kept, targetSlot-below}
@@ -40,41 +43,27 @@ use Rattle.invariant.specs.Good.{Good}
 use Rattle.invariant.specs.Close.{pending-spare}
 use Rattle.invariant.specs.Updates.{good-taken, good-record, good-made}
 use Rattle.notes.specs.Numbers.{pending-block}
-use Rattle.invariant.specs.CloseGood.{current-below, current-used, closed-file, closed-free, good-closed}
+use Rattle.invariant.specs.CloseGood.{current-below, current-used, closed-file, closed-free, closed-slot, here, good-closed}
 
 -- block b serves a write for slot j: it is past the directory, and free where the FCB has none in its slot
 pub record BlockFor (G : Geometry) (map fcb : Bytes) (j b : ℕ) : Type 0 where
   pub past : G .area ≤ b
   pub below : b < G .blocks
-  pub unless : slotOf fcb j ≡ 0 → noteAt map b ≡ freeNote
+  pub unless : slotOf G fcb j ≡ 0 → noteAt map b ≡ freeNote
 
 -- a record of a used entry's block is written, with the FCB come to that entry
 pub good-written : {G : Geometry} (S : Sound G) (l : Lent) → Good G (l .image) (l .map) → length (l .buffer) ≡ recordBytes
-    → (t j b r cr : ℕ) → t < G .entries → j < slotCount → used (entryAt G (l .image) t) ≡ true → BlockFor G (l .map) (l .fcb) j b
+    → (t j b r cr : ℕ) → t < G .entries → j < slotsOn G → used (entryAt G (l .image) t) ≡ true → BlockFor G (l .map) (l .fcb) j b
     → Good G (haveWritten G t j b r cr l .image) (haveWritten G t j b r cr l .map)
 unfolding haveWritten writtenMap
 good-written {G} S l g full t j b r cr ht hj u k =
-    split (eq-or-ne (slotOf (l .fcb) j) 0)
-    (λ z. rw (eq-eqb (slotOf (l .fcb) j) 0 z)
+    split (eq-or-ne (slotOf G (l .fcb) j) 0)
+    (λ z. rw (eq-eqb (slotOf G (l .fcb) j) 0 z)
     (good-record S (l .image) _ (good-taken G (l .image) (l .map) g b t j (k .below) (k .unless z) ht hj u) b r (k .past) (k .below) (l .buffer) full))
-    (λ n. subst (Good G _) (sym (map-written-kept (l .map) (l .fcb) t j b n)) (good-record S (l .image) (l .map) g b r (k .past) (k .below) (l .buffer) full))
-
--- ---- the block that is there, by the plan
-module _ (G : Geometry) (n user : ℕ) (l : Lent) where
-  pub stay-block : stays n (l .fcb) ≡ true → blockThere G n user l ≡ slotOf (l .fcb) (targetSlot G n (l .fcb))
-  unfolding blockThere
-  stay-block t = rw t
-
-  pub move-block : (t : ℕ) → stays n (l .fcb) ≡ false → targetEntry G n user l ≡ At t → blockThere G n user l ≡ slotOf (rowsOf G l t) (targetSlot G n (l .fcb))
-  unfolding blockThere
-  move-block t f q = rw (f, q)
-
-  pub make-block : stays n (l .fcb) ≡ false → targetEntry G n user l ≡ Nothing → blockThere G n user l ≡ 0
-  unfolding blockThere
-  make-block f q = rw (f, q)
+    (λ n. subst (Good G _) (sym (map-written-kept G (l .map) (l .fcb) t j b n)) (good-record S (l .image) (l .map) g b r (k .past) (k .below) (l .buffer) full))
 
 -- a block in a slot of a used entry is past the directory
-row-serves : (G : Geometry) (r : Bytes) → Fine G r → (map fcb : Bytes) (j b : ℕ) → j < slotCount → slotOf r j ≡ b → (b ≡ 0 → ⊥) → (slotOf fcb j ≡ 0 → ⊥)
+row-serves : (G : Geometry) (r : Bytes) → Fine G r → (map fcb : Bytes) (j b : ℕ) → j < slotCount → slotOf G r j ≡ b → (b ≡ 0 → ⊥) → (slotOf G fcb j ≡ 0 → ⊥)
     → BlockFor G map fcb j b
 row-serves G r fine map fcb j b h q real n = record {
   past = subst (λ (x : ℕ). G .area ≤ x) q (fine .low j h (λ z. real (sym q ∙ z)));
@@ -95,14 +84,17 @@ module _ {G : Geometry} (S : Sound G) (n : ℕ) (l : Lent) (s : Session) (g : Go
   pub present-used : used (rowsOf G l e) ≡ true
   present-used = current-used S (l .image) (l .map) g (s .user) (f .user-low) (l .fcb) e present-current
 
+  pub slot-real : targetSlot G n (l .fcb) < slotsOn G
+  slot-real = targetSlot-below S n (l .fcb) (fcb-says (l .fcb) (present-current .right) .cr)
+
   pub slot-below : targetSlot G n (l .fcb) < slotCount
-  slot-below = targetSlot-below S n (l .fcb) (fcb-says (l .fcb) (present-current .right) .cr)
+  slot-below = slot-place G slot-real
 
   -- ---- a close, and a move
-  pub good-present : Good G (closedImage G (l .image) e (l .fcb)) (closedMap (rowsOf G l e) (l .fcb) (l .map))
+  pub good-present : Good G (closedImage G (l .image) e (l .fcb)) (closedMap G (rowsOf G l e) (l .fcb) (l .map))
   good-present = good-closed S (l .image) (l .map) g (s .user) (f .user-low) (l .fcb) e present-current
 
-  pub good-moved : (t : ℕ) → Good G (moved G l e t .image) (moved G l e t .map)
+  pub good-moved : (t : ℕ) → Good G (moved G (targetExtent n (l .fcb)) l e t .image) (moved G (targetExtent n (l .fcb)) l e t .map)
   unfolding moved
   good-moved t = good-present
 
@@ -114,15 +106,15 @@ module _ {G : Geometry} (S : Sound G) (n : ℕ) (l : Lent) (s : Session) (g : Go
       record { past = free-spare G (rowsOf G l) b (noteAt (l .map) b) (g .inv .map b (h .below)) (h .free) .past; below = h .below; unless = λ y. z }
 
   -- it stays free over a close
-  still-free : (b : ℕ) → findFree G (l .map) ≡ At b → noteAt (closedMap (rowsOf G l e) (l .fcb) (l .map)) b ≡ freeNote
+  still-free : (b : ℕ) → findFree G (l .map) ≡ At b → noteAt (closedMap G (rowsOf G l e) (l .fcb) (l .map)) b ≡ freeNote
   still-free b q =
       let h = free-is G (l .map) b q in closed-free S (l .image) (l .map) g (s .user) (f .user-low) (l .fcb) e present-current b (h .below) (h .free)
 
   -- a block in the FCB's slot is the entry's, or pending for it
-  own-serves : (j b : ℕ) → j < slotCount → slotOf (l .fcb) j ≡ b → (b ≡ 0 → ⊥) → BlockFor G (l .map) (l .fcb) j b
+  own-serves : (j b : ℕ) → j < slotCount → slotOf G (l .fcb) j ≡ b → (b ≡ 0 → ⊥) → BlockFor G (l .map) (l .fcb) j b
   own-serves j b h q real = go (current-slot G (rowsOf G l) (l .map) (s .user) (l .fcb) e present-current j h)
     where
-      go : SlotOk (l .map) e (rowsOf G l e) (l .fcb) j → BlockFor G (l .map) (l .fcb) j b
+      go : SlotOk G (l .map) e (rowsOf G l e) (l .fcb) j → BlockFor G (l .map) (l .fcb) j b
       go (slot-same p) =
           row-serves G (rowsOf G l e) (g .inv .dir .fine e present-below present-used) (l .map) (l .fcb) j b h (sym p ∙ q) real (λ z. real (sym q ∙ z))
       go (slot-pending y p) =
@@ -138,7 +130,7 @@ module _ {G : Geometry} (S : Sound G) (n : ℕ) (l : Lent) (s : Session) (g : Go
   pub good-stay : (b : ℕ) → stays n (l .fcb) ≡ true → Block G n (s .user) l b → Good G (writtenAt G s l n e b l .lent .image) (writtenAt G s l n e b l .lent .map)
   unfolding writtenAt
   good-stay b t k =
-      good-written S l g (f .buffer-long) e (targetSlot G n (l .fcb)) b (targetRecord n (l .fcb)) (crAfter n (l .fcb)) present-below slot-below present-used (serves k)
+      good-written S l g (f .buffer-long) e (targetSlot G n (l .fcb)) b (targetRecord n (l .fcb)) (crAfter n (l .fcb)) present-below slot-real present-used (serves k)
     where
       serves : Block G n (s .user) l b → BlockFor G (l .map) (l .fcb) (targetSlot G n (l .fcb)) b
       serves (there q real) = own-serves (targetSlot G n (l .fcb)) b slot-below (sym (stay-block G n (s .user) l t) ∙ q) real
@@ -156,24 +148,70 @@ module _ {G : Geometry} (S : Sound G) (n : ℕ) (l : Lent) (s : Session) (g : Go
     pub target-used : used (rowsOf G l t) ≡ true
     target-used = file-used G (s .user) (l .fcb) 1 (targetExtent n (l .fcb)) (rowsOf G l t) target-file (f .user-low)
 
+    -- the buffers after a move there, and the target's row then: its own, or the present one closed
+    abbrev came-to : Lent
+    came-to = moved G (targetExtent n (l .fcb)) l e t
+
+    abbrev arrived : Bytes
+    arrived = entryAt G (closedImage G (l .image) e (l .fcb)) t
+
+    -- the block there is what its row then has
+    pub move-block : blockThere G n (s .user) l ≡ slotOf G (entryAt G (closedImage G (l .image) e (l .fcb)) t) (targetSlot G n (l .fcb))
+    move-block =
+        split (bool-cases (within G n (l .fcb)))
+        (λ w. within-block G n (s .user) l w
+        ∙ sym (ap (λ (x : ℕ). slotOf G (entryAt G (closedImage G (l .image) e (l .fcb)) x) (targetSlot G n (l .fcb))) (same-entry G n (s .user) l e at t target w)
+        ∙ ap (λ (r : Bytes). slotOf G r (targetSlot G n (l .fcb))) (here S (l .image) (l .map) g (s .user) (f .user-low) (l .fcb) e present-current)
+        ∙ closed-slot S (l .image) (l .map) g (s .user) (f .user-low) (l .fcb) e present-current (targetSlot G n (l .fcb)) slot-below))
+        (λ w. beyond-block G n (s .user) l t w target
+        ∙ sym (ap (λ (r : Bytes). slotOf G r (targetSlot G n (l .fcb)))
+        (row-closedImage-other S (l .image) (g .image-long) e present-below (l .fcb) t target-below (other-entry G n (s .user) l e at t target w))))
+
+    -- and the count there is what that row counts
+    arrived-count : countThere G n (s .user) l ≡ countIn arrived (targetExtent n (l .fcb))
+    unfolding countThere
+    arrived-count =
+        let ext : ℕ = targetExtent n (l .fcb) in
+        split (bool-cases (within G n (l .fcb)))
+        (λ w. let q = same-entry G n (s .user) l e at t target w in
+        let long = length-entryAt S (l .image) (g .image-long) e present-below in
+        let c = count-closed G (rowsOf G l e) (l .fcb) long (g .inv .dir .fine e present-below present-used .numbers) (fcb-says (l .fcb) (present-current .right) .numbers) ext in
+        rw (w, target, q, here S (l .image) (l .map) g (s .user) (f .user-low) (l .fcb) e present-current, c) (omega arith))
+        (λ w. rw (w, target, row-closedImage-other S (l .image) (g .image-long) e present-below (l .fcb) t target-below (other-entry G n (s .user) l e at t target w)))
+
+    -- so the table, which decides before the move, goes by the larger of the FCB's and the entry's count as they are after it
+    pub move-count : countThere G n (s .user) l ≡ max (countOf (came-to .fcb)) (countIn (entryAt G (came-to .image) t) (targetExtent n (l .fcb)))
+    unfolding moved
+    move-count =
+        let c = arrived-count in
+        let own = count-entered (l .fcb) arrived (targetExtent n (l .fcb)) (let q : length (l .fcb) ≡ 36 = f .fcb-long in omega arith)
+        (let q = length-entryAt S (closedImage G (l .image) e (l .fcb)) (good-present .image-long) t target-below in omega arith) in
+        omega arith
+
+    -- it is used still
+    pub arrived-used : used (entryAt G (closedImage G (l .image) e (l .fcb)) t) ≡ true
+    arrived-used =
+        used-cong (entryAt G (closedImage G (l .image) e (l .fcb)) t) (rowsOf G l t)
+        (closed-file S (l .image) (l .map) g (s .user) (f .user-low) (l .fcb) e present-current t target-below .user) ∙ target-used
+
     pub good-move : (b : ℕ) → stays n (l .fcb) ≡ false → Block G n (s .user) l b
-        → Good G (writtenAt G s l n t b (moved G l e t) .lent .image) (writtenAt G s l n t b (moved G l e t) .lent .map)
+        → Good G (writtenAt G s l n t b came-to .lent .image) (writtenAt G s l n t b came-to .lent .map)
     unfolding writtenAt moved
     good-move b go k =
-        good-written S (moved G l e t) (good-moved t) (f .buffer-long) t (targetSlot G n (l .fcb)) b (targetRecord n (l .fcb)) (crAfter n (l .fcb)) target-below slot-below
-        (used-cong (entryAt G (closedImage G (l .image) e (l .fcb)) t) (rowsOf G l t)
-        (closed-file S (l .image) (l .map) g (s .user) (f .user-low) (l .fcb) e present-current t target-below .user) ∙ target-used) (serves k)
+        good-written S came-to (good-moved t) (f .buffer-long) t (targetSlot G n (l .fcb)) b (targetRecord n (l .fcb)) (crAfter n (l .fcb)) target-below slot-real
+        arrived-used (serves k)
       where
-        same : slotOf (entered (l .fcb) (rowsOf G l t)) (targetSlot G n (l .fcb)) ≡ slotOf (rowsOf G l t) (targetSlot G n (l .fcb))
-        same = slot-entered (l .fcb) (rowsOf G l t) (let q : length (l .fcb) ≡ 36 = f .fcb-long in omega arith) (targetSlot G n (l .fcb)) slot-below
+        same : slotOf G (entered (l .fcb) arrived (targetExtent n (l .fcb))) (targetSlot G n (l .fcb)) ≡ slotOf G arrived (targetSlot G n (l .fcb))
+        same = slot-entered (l .fcb) arrived (targetExtent n (l .fcb)) (let q : length (l .fcb) ≡ 36 = f .fcb-long in omega arith) G (targetSlot G n (l .fcb))
 
         serves : Block G n (s .user) l b
-            → BlockFor G (closedMap (rowsOf G l e) (l .fcb) (l .map)) (entered (l .fcb) (rowsOf G l t)) (targetSlot G n (l .fcb)) b
+            → BlockFor G (closedMap G (rowsOf G l e) (l .fcb) (l .map)) (entered (l .fcb) arrived (targetExtent n (l .fcb))) (targetSlot G n (l .fcb)) b
         serves (there q real) =
-            let own : slotOf (rowsOf G l t) (targetSlot G n (l .fcb)) ≡ b = sym (move-block G n (s .user) l t go target) ∙ q in
-            row-serves G (rowsOf G l t) (g .inv .dir .fine t target-below target-used) (closedMap (rowsOf G l e) (l .fcb) (l .map)) (entered (l .fcb) (rowsOf G l t))
-            (targetSlot G n (l .fcb)) b slot-below own real (λ z. real (sym own ∙ sym same ∙ z))
-        serves (free z q) = free-serves (closedMap (rowsOf G l e) (l .fcb) (l .map)) (entered (l .fcb) (rowsOf G l t)) (targetSlot G n (l .fcb)) b q (still-free b q)
+            let own : slotOf G arrived (targetSlot G n (l .fcb)) ≡ b = sym move-block ∙ q in
+            row-serves G arrived (good-present .inv .dir .fine t target-below arrived-used) (closedMap G (rowsOf G l e) (l .fcb) (l .map))
+            (entered (l .fcb) arrived (targetExtent n (l .fcb))) (targetSlot G n (l .fcb)) b slot-below own real (λ z. real (sym own ∙ sym same ∙ z))
+        serves (free z q) =
+            free-serves (closedMap G (rowsOf G l e) (l .fcb) (l .map)) (entered (l .fcb) arrived (targetExtent n (l .fcb))) (targetSlot G n (l .fcb)) b q (still-free b q)
 
   -- ---- a move that makes an entry for the target's extent
   module _ (t : ℕ) (room : findEmpty G (rowsOf G l) ≡ At t) (none : targetEntry G n (s .user) l ≡ Nothing) (low : targetExtent n (l .fcb) < extents) where
@@ -200,16 +238,16 @@ module _ {G : Geometry} (S : Sound G) (n : ℕ) (l : Lent) (s : Session) (g : Go
         (named-intro false (s .user) (l .fcb) 1 row (user-next (rowsOf G l e) ext long ∙ file-user G (s .user) (l .fcb) 1 (extentOf (l .fcb)) (rowsOf G l e) is)
         (like-trans (l .fcb) 1 (rowsOf G l e) 1 row 1 (file-like G (s .user) (l .fcb) 1 (extentOf (l .fcb)) (rowsOf G l e) is)
         (like-intro (rowsOf G l e) 1 row 1 (λ i b. sym (name-next (rowsOf G l e) ext long i b)))))
-        (extent-next (rowsOf G l e) ext long)
+        (ap (runOf G) (extent-next (rowsOf G l e) ext long))
 
     pub good-next : Good G (came .image) (came .map)
     unfolding made targetEntry
     good-next =
         let ext : ℕ = targetExtent n (l .fcb) in
         let row : Bytes = nextRow (rowsOf G l e) ext in
-        good-made S (closedImage G (l .image) e (l .fcb)) (closedMap (rowsOf G l e) (l .fcb) (l .map)) good-present t room-below
+        good-made S (closedImage G (l .image) e (l .fcb)) (closedMap G (rowsOf G l e) (l .fcb) (l .map)) good-present t room-below
         (ap empty (row-closedImage-other S (l .image) (g .image-long) e present-below (l .fcb) t room-below elsewhere) ∙ empty-says G (rowsOf G l) t room .holds) row (length-nextRow (rowsOf G l e) ext long)
-        (fine-next G (rowsOf G l e) ext long (g .inv .dir .fine e present-below present-used) low) (λ j h. slot-next (rowsOf G l e) ext long j)
+        (fine-next G (rowsOf G l e) ext long (g .inv .dir .fine e present-below present-used) low) (λ j h. slot-next (rowsOf G l e) ext long G j)
         (s .user) (l .fcb) 1 ext next-file
         (λ k h. isFile-cong G (s .user) (l .fcb) 1 ext (entryAt G (closedImage G (l .image) e (l .fcb)) k) (rowsOf G l k)
         (closed-file S (l .image) (l .map) g (s .user) (f .user-low) (l .fcb) e present-current k h) ∙ no-file-says G (rowsOf G l) (s .user) (l .fcb) 1 ext none k h)
@@ -227,10 +265,10 @@ module _ {G : Geometry} (S : Sound G) (n : ℕ) (l : Lent) (s : Session) (g : Go
         → Good G (writtenAt G s l n t b came .lent .image) (writtenAt G s l n t b came .lent .map)
     unfolding writtenAt made
     good-make b go k =
-        good-written S came good-next (f .buffer-long) t (targetSlot G n (l .fcb)) b (targetRecord n (l .fcb)) (crAfter n (l .fcb)) room-below slot-below next-used (serves k)
+        good-written S came good-next (f .buffer-long) t (targetSlot G n (l .fcb)) b (targetRecord n (l .fcb)) (crAfter n (l .fcb)) room-below slot-real next-used (serves k)
       where
         serves : Block G n (s .user) l b → BlockFor G (came .map) (came .fcb) (targetSlot G n (l .fcb)) b
-        serves (there q real) = absurd (real (sym q ∙ make-block G n (s .user) l go none))
+        serves (there q real) = absurd (real (sym q ∙ make-block G n (s .user) l e at none))
         serves (free z q) = free-serves (came .map) (came .fcb) (targetSlot G n (l .fcb)) b q (still-free b q)
 
 -- ---- any plan of a record call

@@ -6,7 +6,7 @@ use Prim.Native.Nat.{ℕ, _<_}
 use lib.Dec.{eqb}
 use borrow.Author.Tests.{eqb-true, eqb-false}
 use Rattle.lists.specs.Cases.{split, eq-or-ne, not-both, clash}
-use Rattle.format.specs.Diskette.{Geometry, Sound, slotCount}
+use Rattle.format.specs.Diskette.{Geometry, Sound, slotCount, slotsOn}
 use Rattle.format.specs.Entries.{Rows, slotOf, used, empty}
 use Rattle.format.specs.Notes.{freeNote, pendingFor, freshNote}
 use Rattle.consistency.specs.Facts.{Fine, Stands, SameFile, Consistent}
@@ -23,7 +23,7 @@ module _ (G : Geometry) (d : Rows) where
   fresh-inv m c note = record { dir = c; map = λ b h. subst (NoteOk G d b) (sym (note b h)) (fresh-ok G d b) }
 
   -- a free block is taken for slot j of the used entry t
-  pub take-inv : (m m′ : ℕ → ℕ) → Inv G d m → (b t j : ℕ) → b < G .blocks → m b ≡ freeNote → t < G .entries → j < slotCount → used (d t) ≡ true
+  pub take-inv : (m m′ : ℕ → ℕ) → Inv G d m → (b t j : ℕ) → b < G .blocks → m b ≡ freeNote → t < G .entries → j < slotsOn G → used (d t) ≡ true
       → m′ b ≡ pendingFor t j → ((c : ℕ) → c < G .blocks → (c ≡ b → ⊥) → m′ c ≡ m c) → Inv G d m′
   take-inv m m′ v b t j low free ht hj u noted left = record {
     dir = v .dir;
@@ -54,15 +54,15 @@ module _ {G : Geometry} (S : Sound G) (d d′ : Rows) (m m′ : ℕ → ℕ) (v 
 
 -- ---- the empty entry t becomes a row without blocks, of a file and extent that no entry had
 module _ {G : Geometry} (S : Sound G) (d d′ : Rows) (m : ℕ → ℕ) (v : Inv G d m) (t : ℕ) (below : t < G .entries) (was : empty (d t) ≡ true)
-    (there : (k : ℕ) → k < G .entries → (k ≡ t → ⊥) → d′ k ≡ d k) (fine : Fine G (d′ t)) (bare : (j : ℕ) → j < slotCount → slotOf (d′ t) j ≡ 0)
-    (new : (k : ℕ) → k < G .entries → used (d k) ≡ true → SameFile (d′ t) (d k) → ⊥) where
+    (there : (k : ℕ) → k < G .entries → (k ≡ t → ⊥) → d′ k ≡ d k) (fine : Fine G (d′ t)) (bare : (j : ℕ) → j < slotCount → slotOf G (d′ t) j ≡ 0)
+    (new : (k : ℕ) → k < G .entries → used (d k) ≡ true → SameFile G (d′ t) (d k) → ⊥) where
   -- an entry in use is another
   elsewhere : (k : ℕ) → used (d k) ≡ true → k ≡ t → ⊥
   elsewhere k u q = empty-elsewhere d t k was u (sym q)
 
   made-back : (b e j : ℕ) → Stands G d′ b e j → Stands G d b e j
   made-back b e j s =
-      split (eq-or-ne e t) (λ q. absurd (s .real (sym (s .is) ∙ ap (λ (k : ℕ). slotOf (d′ k) j) q ∙ bare j (s .place))))
+      split (eq-or-ne e t) (λ q. absurd (s .real (sym (s .is) ∙ ap (λ (k : ℕ). slotOf G (d′ k) j) q ∙ bare j (s .place))))
       (λ q. stands-row G d′ d b e j (there e (s .entry) q) s)
 
   made-forth : (b e j : ℕ) → Stands G d b e j → Stands G d′ b e j
@@ -76,7 +76,7 @@ module _ {G : Geometry} (S : Sound G) (d d′ : Rows) (m : ℕ → ℕ) (v : Inv
       (λ b e j f k s u. v .dir .once-entry b e j f k (made-back b e j s) (made-back b f k u))
       (λ b e j f k s u. v .dir .once-slot b e j f k (made-back b e j s) (made-back b f k u))
       (λ k f l h p q u w s. eqb-true k t p ∙ sym (eqb-true f t q))
-      (λ k f l h p q u w s. new f h w (subst (λ (x : ℕ). SameFile (d′ x) (d f)) (eqb-true k t p) s))
+      (λ k f l h p q u w s. new f h w (subst (λ (x : ℕ). SameFile G (d′ x) (d f)) (eqb-true k t p) s))
 
   pub make-inv : Inv G d′ m
   make-inv = record {

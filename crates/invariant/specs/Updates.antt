@@ -4,7 +4,7 @@ use mathlib.Core.Bool.{Bool, true, false}
 use Prim.Native.Nat.{ℕ, _*_, _%_, _≤_, _<_}
 use lib.ListN.{length}
 use Rattle.lists.specs.Cases.{not-both}
-use Rattle.format.specs.Diskette.{Bytes, Geometry, Sound, recordBytes, imageBytes, withRecord, entryBytes, slotCount}
+use Rattle.format.specs.Diskette.{Bytes, Geometry, Sound, recordBytes, withRecord, entryBytes, slotCount, slotsOn, Long}
 use Rattle.format.specs.Names.{nameRight}
 use Rattle.format.specs.Entries.{entryAt, withEntry, slotOf, used, empty, named, isFile}
 use Rattle.format.specs.Consistent.{consistent}
@@ -19,6 +19,7 @@ use Rattle.notes.specs.Right.{length-fresh, fresh-at, freed-fresh}
 use Rattle.freeing.specs.Laws.{length-released, released-at}
 use Rattle.rows.specs.Entries.{block-past, length-entryAt, entry-kept, length-withEntry, entry-stored, entry-left}
 use Rattle.disk.specs.Records.{length-withRecord}
+use Rattle.facts.specs.Long.{long-on}
 use Rattle.fields.specs.Agree.{isFile-cong}
 use Rattle.fields.specs.Fine.{fine-renamed}
 use Rattle.fields.specs.Making.{length-renamedRow, user-renamed, name-renamed, extent-renamed, slot-renamed}
@@ -34,7 +35,7 @@ use Rattle.invariant.specs.Good.{Good, good-consistent, good-right}
 -- ---- the map alone
 module _ (G : Geometry) (img : Bytes) where
   -- 13: any consistent image, with the fresh map
-  pub good-fresh : length img ≡ imageBytes G → consistent G img ≡ true → Good G img (freshMap G (entryAt G img))
+  pub good-fresh : Long G img → consistent G img ≡ true → Good G img (freshMap G (entryAt G img))
   good-fresh long t = record {
     image-long = long;
     map-long = length-fresh G (entryAt G img);
@@ -48,7 +49,7 @@ module _ (G : Geometry) (img : Bytes) where
         subst (Good G img) (sym (freed-fresh G (entryAt G img) map (good-right G img map g))) (good-fresh (g .image-long) (good-consistent G img map g))
 
     -- a write that takes a free block for slot j of the used entry t
-    pub good-taken : (b t j : ℕ) → b < G .blocks → noteAt map b ≡ freeNote → t < G .entries → j < slotCount → used (entryAt G img t) ≡ true
+    pub good-taken : (b t j : ℕ) → b < G .blocks → noteAt map b ≡ freeNote → t < G .entries → j < slotsOn G → used (entryAt G img t) ≡ true
         → Good G img (withNote map b (pendingFor t j))
     good-taken b t j low free ht hj u = record {
       image-long = g .image-long;
@@ -68,7 +69,7 @@ module _ {G : Geometry} (S : Sound G) (img map : Bytes) (g : Good G img map) whe
   good-record b r past below bytes full =
       let p : placeIn G b r < G .perBlock * G .blocks = place-below S b r below in
       record {
-        image-long = length-withRecord S img (g .image-long) (placeIn G b r) p bytes full ∙ g .image-long;
+        image-long = long-on G (length-withRecord S img (g .image-long) (placeIn G b r) p bytes full) (g .image-long);
         map-long = g .map-long;
         inv = keep-inv S (entryAt G img) (entryAt G (withRecord G img (placeIn G b r) bytes)) (λ c. noteAt map c) (λ c. noteAt map c) (g .inv)
             (λ k l. entry-kept S img (g .image-long) (placeIn G b r) (block-past G b (r % G .perBlock) past) p bytes full k l) (λ c h. refl);
@@ -76,26 +77,26 @@ module _ {G : Geometry} (S : Sound G) (img map : Bytes) (g : Good G img map) whe
 
   -- a row without blocks in an empty entry, of a file and extent that no entry has
   module _ (t : ℕ) (below : t < G .entries) (was : empty (entryAt G img t) ≡ true) (row : Bytes) (full : length row ≡ entryBytes) (fine : Fine G row)
-      (bare : (j : ℕ) → j < slotCount → slotOf row j ≡ 0) (user : ℕ) (s : Bytes) (q ext : ℕ) (is : isFile G user s q ext row ≡ true)
+      (bare : (j : ℕ) → j < slotCount → slotOf G row j ≡ 0) (user : ℕ) (s : Bytes) (q ext : ℕ) (is : isFile G user s q ext row ≡ true)
       (new : (k : ℕ) → k < G .entries → isFile G user s q ext (entryAt G img k) ≡ false) where
     pub good-made : Good G (withEntry G img t row) map
     good-made =
         let here : entryAt G (withEntry G img t row) t ≡ row = entry-stored S img (g .image-long) t below row full in
         record {
-          image-long = length-withEntry S img (g .image-long) t below row full ∙ g .image-long;
+          image-long = long-on G (length-withEntry S img (g .image-long) t below row full) (g .image-long);
           map-long = g .map-long;
           inv = make-inv S (entryAt G img) (entryAt G (withEntry G img t row)) (λ c. noteAt map c) (g .inv) t below was
               (λ k l n. entry-left S img (g .image-long) t below row full k l (λ z. n (sym z))) (subst (Fine G) (sym here) fine)
-              (λ j l. ap (λ (r : Bytes). slotOf r j) here ∙ bare j l)
+              (λ j l. ap (λ (r : Bytes). slotOf G r j) here ∙ bare j l)
               (λ k l u f. not-both (isFile G user s q ext (entryAt G img k))
-              (sym (isFile-cong G user s q ext row (entryAt G img k) (subst (λ (r : Bytes). SameFile r (entryAt G img k)) here f)) ∙ is) (new k l));
+              (sym (isFile-cong G user s q ext row (entryAt G img k) (subst (λ (r : Bytes). SameFile G r (entryAt G img k)) here f)) ∙ is) (new k l));
         }
 
   -- 19: the rows that a test picks become empty, and their blocks free
   pub good-erased : (picks : Bytes → Bool) → Good G (changedRows G picks erasedRow img) (releasedMap G (entryAt G img) (λ (e : ℕ). picks (entryAt G img e)) map)
   good-erased picks =
       record {
-        image-long = length-changedRows S picks erasedRow length-erasedRow img (g .image-long) ∙ g .image-long;
+        image-long = long-on G (length-changedRows S picks erasedRow length-erasedRow img (g .image-long)) (g .image-long);
         map-long = length-released G (entryAt G img) (λ (e : ℕ). picks (entryAt G img e)) map;
         inv = erase-inv S (entryAt G img) (entryAt G (changedRows G picks erasedRow img)) (λ c. noteAt map c)
             (λ c. noteAt (releasedMap G (entryAt G img) (λ (e : ℕ). picks (entryAt G img e)) map) c) (g .inv) (λ (e : ℕ). picks (entryAt G img e))
@@ -112,12 +113,12 @@ module _ {G : Geometry} (S : Sound G) (img map : Bytes) (g : Good G img map) whe
       fine = fine-renamed G (entryAt G img k) fcb (whole k l) (g .inv .dir .fine k l (named-used false user fcb 1 (entryAt G img k) p low)) right;
       user = user-renamed fcb (entryAt G img k) (whole k l);
       extent = extent-renamed fcb (entryAt G img k) (whole k l);
-      slot = slot-renamed fcb (entryAt G img k) (whole k l);
+      slot = λ j h. slot-renamed fcb (entryAt G img k) (whole k l) G j;
     }
 
     -- a row of the renamed file's user and name has the new name
     clashes : (k f : ℕ) → k < G .entries → f < G .entries → named false user fcb 1 (entryAt G img k) ≡ true
-        → SameFile (renamedRow fcb (entryAt G img k)) (entryAt G img f) → ⊥
+        → SameFile G (renamedRow fcb (entryAt G img k)) (entryAt G img f) → ⊥
     clashes k f l h p s =
         not-both (named false user fcb 17 (entryAt G img f))
         (named-intro false user fcb 17 (entryAt G img f)
@@ -134,7 +135,7 @@ module _ {G : Geometry} (S : Sound G) (img map : Bytes) (g : Good G img map) whe
         let here : (k : ℕ) → k < G .entries → picks (entryAt G img k) ≡ true → entryAt G (changedRows G picks (renamedRow fcb) img) k ≡ renamedRow fcb (entryAt G img k) =
         λ k l p. row-picked S picks (renamedRow fcb) keeps img (g .image-long) k l p in
         record {
-          image-long = length-changedRows S picks (renamedRow fcb) keeps img (g .image-long) ∙ g .image-long;
+          image-long = long-on G (length-changedRows S picks (renamedRow fcb) keeps img (g .image-long)) (g .image-long);
           map-long = g .map-long;
           inv = rename-inv S (entryAt G img) (entryAt G (changedRows G picks (renamedRow fcb) img)) (λ c. noteAt map c) (g .inv)
               (λ (e : ℕ). picks (entryAt G img e)) (λ k l p. row-unpicked S picks (renamedRow fcb) keeps img (g .image-long) k l p)
@@ -142,5 +143,5 @@ module _ {G : Geometry} (S : Sound G) (img map : Bytes) (g : Good G img map) whe
               (λ k l p. subst (RenamedTo G (entryAt G img k)) (sym (here k l p)) (renamed-to k l p))
               (λ k f l h p q. like-trans (entryAt G img f) 1 fcb 1 (entryAt G img k) 1
               (like-sym fcb 1 (entryAt G img f) 1 (named-like false user fcb 1 (entryAt G img f) q)) (named-like false user fcb 1 (entryAt G img k) p))
-              (λ k f l h p q u s. clashes k f l h p (subst (λ (r : Bytes). SameFile r (entryAt G img f)) (here k l p) s));
+              (λ k f l h p q u s. clashes k f l h p (subst (λ (r : Bytes). SameFile G r (entryAt G img f)) (here k l p) s));
         }

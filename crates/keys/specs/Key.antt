@@ -10,9 +10,9 @@ use lib.Bits.{bitAnd, bitXor, and-mask, and-zero-r}
 use Rattle.lists.specs.Tests.{_and_}
 use Rattle.lists.specs.Below.{allBelow}
 use Rattle.lanes.specs.Lanes.{lanes, bytesAt, halfAt, wordAt, lanes-cong, lanes-and, lanes-short, five-lanes, eight-bytes}
-use Rattle.format.specs.Diskette.{Bytes}
+use Rattle.format.specs.Diskette.{Bytes, Geometry}
 use Rattle.format.specs.Names.{nameBytes, nameLike}
-use Rattle.format.specs.Entries.{userOf, exOf, extentOf}
+use Rattle.format.specs.Entries.{userOf, exOf, extentOf, runOf}
 use Rattle.facts.specs.Names.{like-at, like-refl}
 use Rattle.consistency.specs.Facts.{SameFile}
 
@@ -86,10 +86,10 @@ module _ (r : Bytes) (user : ℕ) (s : Bytes) (q ext : ℕ) (u : userOf r ≡ us
   unfolding keyOf fileKey
   key-asked = rw (low-asked, high-asked)
 
--- so rows of one file have one key
-pub key-same : (r t : Bytes) → SameFile r t → keyOf r ≡ keyOf t
-key-same r t s =
-    key-asked r (userOf t) t 1 (extentOf t) (s .user) (s .name) (s .extent)
+-- so rows of one file have one key, where each extent is a run by itself
+pub key-same : (G : Geometry) (single : (x : ℕ) → runOf G x ≡ x) (r t : Bytes) → SameFile G r t → keyOf r ≡ keyOf t
+key-same G single r t s =
+    key-asked r (userOf t) t 1 (extentOf t) (s .user) (s .name) (sym (single (extentOf r)) ∙ s .run ∙ single (extentOf t))
     ∙ sym (key-asked t (userOf t) t 1 (extentOf t) refl (like-refl t 1) refl)
 
 from-below : (low high : ℕ) → keyFrom low high < keyCount

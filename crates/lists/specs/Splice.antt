@@ -101,6 +101,24 @@ module _ (xs : List ℕ) (at : ℕ) (ys : List ℕ) (fits : at + length ys ≤ l
       getD-part (splice xs at ys) b n room′ i h′ ∙ getD-splice-out (b + i) (split apart (λ w. inl (omega arith)) (λ w. inr (omega arith)))
       ∙ sym (getD-part xs b n room i h′))
 
+-- an element set to what it was
+pub set-own : (xs : List ℕ) (i v : ℕ) → i < length xs → getD xs i 0 ≡ v → set xs i v ≡ xs
+set-own xs i v h q =
+    ext-getD 0 (set xs i v) xs (length-set xs i v)
+    (λ k b. split (eq-or-ne k i) (λ e. rw e (getD-set-same xs i v 0 h ∙ sym q)) (λ n. getD-set-other xs i k v 0 n))
+
+-- a part put back where it stood
+pub splice-own : (xs : List ℕ) (at n : ℕ) → at + n ≤ length xs → splice xs at (part xs at n) ≡ xs
+splice-own xs at n h =
+    let room : at + length (part xs at n) ≤ length xs = rw (length-part xs at n h) h in
+    let long = length-part xs at n h in
+    ext-getD 0 (splice xs at (part xs at n)) xs (length-splice xs at (part xs at n) room)
+    (λ k b. split (lt-or-le k at) (λ l. getD-splice-out xs at (part xs at n) room k (inl l))
+    (λ l. split (lt-or-le k (at + n))
+    (λ m. getD-splice-at xs at (part xs at n) room k l (omega arith) ∙ getD-part xs at n h (k - at) (omega arith)
+    ∙ (let q : at + (k - at) ≡ k = omega arith in ap (λ (i : ℕ). getD xs i 0) q))
+    (λ m. getD-splice-out xs at (part xs at n) room k (inr (omega arith)))))
+
 -- a part put back with one element changed
 pub splice-set : (xs : List ℕ) (at n i v : ℕ) → at + n ≤ length xs → i < n → splice xs at (set (part xs at n) i v) ≡ set xs (at + i) v
 splice-set xs at n i v fits below =

@@ -7,7 +7,7 @@ use lib.ListN.{set}
 use Rattle.lists.specs.Splice.{splice}
 use Rattle.lists.specs.Fold.{foldBelow}
 use Rattle.format.specs.Diskette.{Bytes, Geometry, recordAt, entriesPerRecord, extentRecords}
-use Rattle.format.specs.Entries.{Rows, entryAt, withEntry, extentOf, countIn, named, findEmpty}
+use Rattle.format.specs.Entries.{Rows, entryAt, withEntry, exOf, extentOf, endOf, named, findEmpty}
 use Rattle.format.specs.Notes.{freshMap, freedMap, releasedMap, freeCount}
 use Rattle.format.specs.Fcb.{crOf}
 use Rattle.format.specs.Found.{numberOf}
@@ -42,14 +42,11 @@ unfoldable pub erasedRow : Bytes → Bytes
 erasedRow row = set row 0 229
 
 -- the largest of 128 × extent + rc over the name's entries
-unfoldable pub sizeOf : Geometry → Bytes → ℕ
-sizeOf G row = extentRecords * extentOf row + countIn G row (extentOf row)
-
-unfoldable pub largerSize : Geometry → Rows → (Bytes → Bool) → ℕ → ℕ → ℕ
-largerSize G d picks size e = cond (picks (d e)) (max size (sizeOf G (d e))) size
+unfoldable pub largerSize : Rows → (Bytes → Bool) → ℕ → ℕ → ℕ
+largerSize d picks size e = cond (picks (d e)) (max size (endOf (d e))) size
 
 unfoldable pub fileSize : Geometry → Rows → (Bytes → Bool) → ℕ
-fileSize G d picks = foldBelow (largerSize G d picks) 0 (G .entries)
+fileSize G d picks = foldBelow (largerSize d picks) 0 (G .entries)
 
 module _ (G : Geometry) (s : Session) (l : Lent) where
   -- 13: the map becomes the fresh map
@@ -66,7 +63,7 @@ module _ (G : Geometry) (s : Session) (l : Lent) where
 
   -- 15: FCB bytes 1 to 31 become the entry's
   unfoldable pub openedAt : ℕ → Outcome
-  openedAt e = done (entryNumber e) s (lend (l .image) (l .map) (entered (l .fcb) (rowsOf G l e)) (l .buffer))
+  openedAt e = done (entryNumber e) s (lend (l .image) (l .map) (entered (l .fcb) (rowsOf G l e) (exOf (l .fcb))) (l .buffer))
 
   unfoldable pub opened : Outcome
   opened = openedAt (numberOf (G .entries) (askedEntry G l (s .user)))
@@ -75,7 +72,7 @@ module _ (G : Geometry) (s : Session) (l : Lent) where
   unfoldable pub closedAt : ℕ → Outcome
   closedAt e =
       done (entryNumber e) s
-      (lend (closedImage G (l .image) e (l .fcb)) (closedMap (rowsOf G l e) (l .fcb) (l .map)) (closedFcb (l .fcb)) (l .buffer))
+      (lend (closedImage G (l .image) e (l .fcb)) (closedMap G (rowsOf G l e) (l .fcb) (l .map)) (closedFcb (l .fcb)) (l .buffer))
 
   unfoldable pub closed : Outcome
   closed = closedAt (numberOf (G .entries) (presentEntry G (s .user) l))
@@ -119,7 +116,7 @@ module _ (G : Geometry) (s : Session) (l : Lent) where
   -- a read never makes an entry: the table refuses one of an extent without
   abbrev pub reading : ℕ → Plan → Outcome
   reading n (Stay e b) = readAt n b l
-  reading n (Move e t b) = readAt n b (moved G l e t)
+  reading n (Move e t b) = readAt n b (moved G (targetExtent n (l .fcb)) l e t)
   reading n (Make e t b) = readAt n b (made G (targetExtent n (l .fcb)) l e t)
 
   unfoldable pub read : ℕ → Outcome
@@ -131,7 +128,7 @@ module _ (G : Geometry) (s : Session) (l : Lent) where
 
   abbrev pub writing : ℕ → Plan → Outcome
   writing n (Stay e b) = writtenAt n e b l
-  writing n (Move e t b) = writtenAt n t b (moved G l e t)
+  writing n (Move e t b) = writtenAt n t b (moved G (targetExtent n (l .fcb)) l e t)
   writing n (Make e t b) = writtenAt n t b (made G (targetExtent n (l .fcb)) l e t)
 
   unfoldable pub written : ℕ → Outcome

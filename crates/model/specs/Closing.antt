@@ -7,38 +7,40 @@ use Rattle.lists.specs.Tests.{_and_}
 use Rattle.lists.specs.Splice.{splice}
 use Rattle.lists.specs.Tab.{tab}
 use Rattle.lists.specs.Fold.{foldBelow}
-use Rattle.format.specs.Diskette.{Bytes, Geometry, slotCount}
+use Rattle.format.specs.Diskette.{Bytes, Geometry, slotCount, slotBytes}
 use Rattle.format.specs.Names.{sevenBits}
-use Rattle.format.specs.Entries.{entryAt, withEntry, slotsOf, rcOf, countOf, extentOf, countIn}
+use Rattle.format.specs.Entries.{entryAt, withEntry, exOf, s2Of, countOf, withNumbers, slotsOf, slotIn, slotAt, endOf}
+use Rattle.format.specs.Fcb.{fcbEnd}
 use Rattle.format.specs.Notes.{withNote, recordedNote}
 
 -- a slot where the entry (es) has 0 and the FCB (fs) doesn't takes the FCB's block
-unfoldable pub takesSlot : Bytes → Bytes → ℕ → Bool
-takesSlot es fs j = eqb (getD es j 0) 0 and not (eqb (getD fs j 0) 0)
+unfoldable pub takesSlot : Geometry → Bytes → Bytes → ℕ → Bool
+takesSlot G es fs j = eqb (slotIn G es j) 0 and not (eqb (slotIn G fs j) 0)
 
-unfoldable pub mergedSlot : Bytes → Bytes → ℕ → ℕ
-mergedSlot es fs j = cond (takesSlot es fs j) (getD fs j 0) (getD es j 0)
+-- the bytes of a slot that is taken are the FCB's
+unfoldable pub mergedByte : Geometry → Bytes → Bytes → ℕ → ℕ
+mergedByte G es fs i = cond (takesSlot G es fs (slotAt G i)) (getD fs i 0) (getD es i 0)
 
-unfoldable pub mergedSlots : Bytes → Bytes → Bytes
-mergedSlots es fs = tab slotCount (mergedSlot es fs)
+unfoldable pub mergedSlots : Geometry → Bytes → Bytes → Bytes
+mergedSlots G es fs = tab slotBytes (mergedByte G es fs)
 
--- the FCB counts more records than the entry
-unfoldable pub countsMore : Geometry → Bytes → Bytes → Bool
-countsMore G row fcb = ltb (countIn G row (extentOf fcb)) (countOf fcb)
+-- the FCB's end is later than the entry's: in one extent, its count is the larger
+unfoldable pub endsLater : Bytes → Bytes → Bool
+endsLater row fcb = ltb (endOf row) (fcbEnd fcb)
 
--- the entry's rc becomes the larger of the two: it is left as it is unless the FCB's is larger
-unfoldable pub closedCount : Geometry → Bytes → Bytes → ℕ
-closedCount G row fcb = cond (countsMore G row fcb) (countOf fcb) (rcOf row)
+-- the entry's rc becomes the larger of the two: its end becomes the FCB's where that is later, and else stays as it is
+unfoldable pub laterEnd : Bytes → Bytes → Bytes
+laterEnd row fcb = cond (endsLater row fcb) (withNumbers row (exOf fcb) (s2Of fcb) (countOf fcb)) row
 
 unfoldable pub closedRow : Geometry → Bytes → Bytes → Bytes
-closedRow G row fcb = splice (set row 15 (closedCount G row fcb)) 16 (mergedSlots (slotsOf row) (slotsOf fcb))
+closedRow G row fcb = splice (laterEnd row fcb) 16 (mergedSlots G (slotsOf row) (slotsOf fcb))
 
 -- the notes of the blocks taken become recorded
-unfoldable pub closedNote : Bytes → Bytes → Bytes → ℕ → Bytes
-closedNote es fs map j = cond (takesSlot es fs j) (withNote map (getD fs j 0) recordedNote) map
+unfoldable pub closedNote : Geometry → Bytes → Bytes → Bytes → ℕ → Bytes
+closedNote G es fs map j = cond (takesSlot G es fs j) (withNote map (slotIn G fs j) recordedNote) map
 
-unfoldable pub closedMap : Bytes → Bytes → Bytes → Bytes
-closedMap row fcb map = foldBelow (closedNote (slotsOf row) (slotsOf fcb)) map slotCount
+unfoldable pub closedMap : Geometry → Bytes → Bytes → Bytes → Bytes
+closedMap G row fcb map = foldBelow (closedNote G (slotsOf row) (slotsOf fcb)) map slotCount
 
 unfoldable pub closedImage : Geometry → Bytes → ℕ → Bytes → Bytes
 closedImage G img e fcb = withEntry G img e (closedRow G (entryAt G img e) fcb)

@@ -7,7 +7,7 @@ use lib.Dec.{eqb, leb, ltb}
 use lib.ListN.{getD, length}
 use Rattle.lists.specs.Tests.{_and_, _or_}
 use Rattle.lists.specs.Below.{anyBelow}
-use Rattle.format.specs.Diskette.{Bytes, Geometry, imageBytes, recordBytes, extents, lastRecord}
+use Rattle.format.specs.Diskette.{Bytes, Geometry, isLong, recordBytes, extents, lastRecord}
 use Rattle.format.specs.Names.{nameRight}
 use Rattle.format.specs.Entries.{exOf, named, readOnly, findFile, findNamed, findEmpty}
 use Rattle.format.specs.Consistent.{extentRight, consistent}
@@ -60,7 +60,7 @@ randomCalls = 33 ∷ 34 ∷ []
 module _ (G : Geometry) (l : Lent) where
   unfoldable pub lengthsRight : Bool
   lengthsRight =
-      eqb (length (l .image)) (imageBytes G) and eqb (length (l .map)) (G .blocks) and eqb (length (l .fcb)) fcbBytes
+      isLong G (l .image) and eqb (length (l .map)) (G .blocks) and eqb (length (l .fcb)) fcbBytes
       and eqb (length (l .buffer)) recordBytes
 
   -- a length, the session's user or place, or byte 0 of an FCB that is used

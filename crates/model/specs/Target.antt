@@ -6,9 +6,9 @@ use lib.Dec.{eqb, ltb}
 use lib.ListN.{set}
 use Rattle.lists.specs.Tests.{_and_, _or_}
 use Rattle.format.specs.Diskette.{Bytes, Geometry, diskRecord, recordAt, withRecord, extentRecords}
-use Rattle.format.specs.Entries.{Rows, entryAt, withEntry, slotOf, countOf, extentOf, countIn, slotFor, findFile, findEmpty, readOnly}
+use Rattle.format.specs.Entries.{Rows, entryAt, withEntry, slotOf, withSlot, countOf, extentOf, covers, countIn, slotFor, findFile, findEmpty, readOnly}
 use Rattle.format.specs.Notes.{pendingFor, withNote, findFree}
-use Rattle.format.specs.Fcb.{crOf, randomOf, current}
+use Rattle.format.specs.Fcb.{crOf, randomOf, fcbCountIn, current}
 use Rattle.format.specs.Found.{numberOf}
 use Rattle.format.specs.declared.Found.{Found}
 use Rattle.format.specs.declared.Found.the-variants.{At, Nothing}
@@ -42,6 +42,10 @@ presentEntry G user l = current G (rowsOf G l) (l .map) user (l .fcb)
 unfoldable pub stays : ℕ → Bytes → Bool
 stays n fcb = eqb (targetExtent n fcb) (extentOf fcb)
 
+-- the FCB's entry covers the target's extent: the FCB's slots, and its end, hold there too
+unfoldable pub within : Geometry → ℕ → Bytes → Bool
+within G n fcb = covers G fcb (targetExtent n fcb)
+
 -- the slot of the target's record
 unfoldable pub targetSlot : Geometry → ℕ → Bytes → ℕ
 targetSlot G n fcb = slotFor G (targetExtent n fcb) (targetRecord n fcb)
@@ -57,20 +61,20 @@ module _ (G : Geometry) (n user : ℕ) (l : Lent) where
   targetEntry = findFile G (rowsOf G l) user (l .fcb) 1 (targetExtent n (l .fcb))
 
   -- the block in its slot once the FCB has come to the target's extent: the FCB's own, or that of the entry moved to; 0 is none
-  abbrev pub slotIn : Found → ℕ
-  slotIn (At t) = slotOf (rowsOf G l t) (targetSlot G n (l .fcb))
-  slotIn Nothing = 0
+  abbrev pub rowSlot : Found → ℕ
+  rowSlot (At t) = slotOf G (rowsOf G l t) (targetSlot G n (l .fcb))
+  rowSlot Nothing = 0
 
   unfoldable pub blockThere : ℕ
-  blockThere = cond (stays n (l .fcb)) (slotOf (l .fcb) (targetSlot G n (l .fcb))) (slotIn targetEntry)
+  blockThere = cond (within G n (l .fcb)) (slotOf G (l .fcb) (targetSlot G n (l .fcb))) (rowSlot targetEntry)
 
   -- the larger of the counts that the FCB, come there, and the entry have
   abbrev pub countAt : Found → ℕ
-  countAt (At t) = countIn G (rowsOf G l t) (targetExtent n (l .fcb))
+  countAt (At t) = countIn (rowsOf G l t) (targetExtent n (l .fcb))
   countAt Nothing = 0
 
   unfoldable pub countThere : ℕ
-  countThere = cond (stays n (l .fcb)) (max (countOf (l .fcb)) (countAt targetEntry)) (countAt targetEntry)
+  countThere = cond (within G n (l .fcb)) (max (fcbCountIn (l .fcb) (targetExtent n (l .fcb))) (countAt targetEntry)) (countAt targetEntry)
 
   -- the record is there exactly when the target is below that count and its slot isn't 0
   unfoldable pub recordThere : Bool
@@ -95,17 +99,19 @@ module _ (G : Geometry) (n user : ℕ) (l : Lent) where
   unfoldable pub plan : Plan
   plan = planFrom (numberOf (G .entries) (presentEntry G user l))
 
--- ---- moving: the present extent (entry e) is closed, then the FCB takes the target's entry (t), which a write may have to make. The two
--- are different entries, and a close leaves user, name and attributes, so both rows are read as they came
-unfoldable pub moved : Geometry → Lent → ℕ → ℕ → Lent
-moved G l e t =
-    lend (closedImage G (l .image) e (l .fcb)) (closedMap (rowsOf G l e) (l .fcb) (l .map)) (entered (l .fcb) (rowsOf G l t)) (l .buffer)
+-- ---- moving: the present extent (entry e) is closed, then the FCB takes the target's entry (t), which a write may have to make. On a disk
+-- whose entries cover several extents the two may be one, so the target's row is read after the close; a close leaves user, name and
+-- attributes
+unfoldable pub moved : Geometry → ℕ → Lent → ℕ → ℕ → Lent
+moved G ext l e t =
+    let img = closedImage G (l .image) e (l .fcb) in
+    lend img (closedMap G (rowsOf G l e) (l .fcb) (l .map)) (entered (l .fcb) (entryAt G img t) ext) (l .buffer)
 
 -- ext is the new entry's extent
 unfoldable pub made : Geometry → ℕ → Lent → ℕ → ℕ → Lent
 made G ext l e t =
     let next = nextRow (rowsOf G l e) ext in
-    lend (withEntry G (closedImage G (l .image) e (l .fcb)) t next) (closedMap (rowsOf G l e) (l .fcb) (l .map)) (entered (l .fcb) next) (l .buffer)
+    lend (withEntry G (closedImage G (l .image) e (l .fcb)) t next) (closedMap G (rowsOf G l e) (l .fcb) (l .map)) (entered (l .fcb) next ext) (l .buffer)
 
 -- ---- reading and writing record r of an extent, in block b, with the FCB come to that extent; cr afterwards is given
 unfoldable pub placeIn : Geometry → ℕ → ℕ → ℕ
@@ -114,18 +120,19 @@ placeIn G b r = diskRecord G b (r % G .perBlock)
 unfoldable pub haveRead : Geometry → ℕ → ℕ → ℕ → Lent → Lent
 haveRead G b r cr l = lend (l .image) (l .map) (set (l .fcb) 32 cr) (recordAt G (l .image) (placeIn G b r))
 
--- the slot takes the block, noted pending; the largest of the FCB's rc, the entry's and target + 1
-unfoldable pub writtenCount : Geometry → Bytes → Bytes → ℕ → ℕ
-writtenCount G fcb row r = max (max (countOf fcb) (countIn G row (extentOf fcb))) (r + 1)
+-- the FCB's rc becomes the largest of its own, the entry's and target + 1; the entry's is handed in
+unfoldable pub writtenCount : Bytes → ℕ → ℕ → ℕ
+writtenCount fcb count r = max (max (countOf fcb) count) (r + 1)
 
-unfoldable pub writtenFcb : Geometry → Bytes → Bytes → ℕ → ℕ → ℕ → ℕ → Bytes
-writtenFcb G fcb row j b r cr = set (set (set fcb (16 + j) b) 15 (writtenCount G fcb row r)) 32 cr
+unfoldable pub writtenFcb : Geometry → Bytes → ℕ → ℕ → ℕ → ℕ → ℕ → Bytes
+writtenFcb G fcb count j b r cr = set (set (withSlot G fcb j b) 15 (writtenCount fcb count r)) 32 cr
 
-unfoldable pub writtenMap : Bytes → Bytes → ℕ → ℕ → ℕ → Bytes
-writtenMap map fcb t j b = cond (eqb (slotOf fcb j) 0) (withNote map b (pendingFor t j)) map
+-- a slot of 0 takes the block, noted pending
+unfoldable pub writtenMap : Geometry → Bytes → Bytes → ℕ → ℕ → ℕ → Bytes
+writtenMap G map fcb t j b = cond (eqb (slotOf G fcb j) 0) (withNote map b (pendingFor t j)) map
 
 -- record r goes to block b, in slot j of entry t
 unfoldable pub haveWritten : Geometry → ℕ → ℕ → ℕ → ℕ → ℕ → Lent → Lent
 haveWritten G t j b r cr l =
-    lend (withRecord G (l .image) (placeIn G b r) (l .buffer)) (writtenMap (l .map) (l .fcb) t j b)
-    (writtenFcb G (l .fcb) (entryAt G (l .image) t) j b r cr) (l .buffer)
+    lend (withRecord G (l .image) (placeIn G b r) (l .buffer)) (writtenMap G (l .map) (l .fcb) t j b)
+    (writtenFcb G (l .fcb) (countIn (entryAt G (l .image) t) (extentOf (l .fcb))) j b r cr) (l .buffer)

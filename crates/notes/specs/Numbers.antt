@@ -1,13 +1,13 @@
 -- The numbers of notes: a pending note tells its entry and slot, and is no other kind of note.
 use mathlib.Core.Path.{_≡_, sym, _∙_}
 use mathlib.Core.Bool.{true, false}
-use Prim.Native.Nat.{ℕ, _%_, _≤_, _<_}
+use Prim.Native.Nat.{ℕ, _≤_, _<_}
 use native.Mathlib.Omega.{arith}
 use lib.ListN.{length, List·getD-eq-default}
 use borrow.Author.Tests.{le-leb, lt-leb, leb-true}
 use Rattle.lists.specs.Cases.{split, lt-or-le}
 use Rattle.format.specs.Diskette.{Bytes}
-use Rattle.format.specs.Notes.{freeNote, pendingFor, isPending, pendingEntry, noteAt}
+use Rattle.format.specs.Notes.{freeNote, pendingFor, isPending, pendingEntry, pendingSlot, noteAt}
 
 pub pending-low : (e j : ℕ) → 16 ≤ pendingFor e j
 unfolding pendingFor
@@ -25,13 +25,9 @@ pub pending-once : (e j f k : ℕ) → j < 16 → k < 16 → pendingFor e j ≡ 
 unfolding pendingFor
 pending-once e j f k h l q = (omega arith, omega arith)
 
--- the slot for which a note is pending
-unfoldable pub pendingSlot : ℕ → ℕ
-pendingSlot n = n % 16
-
-pub pending-slot-low : (n : ℕ) → pendingSlot n < 16
-unfolding pendingSlot
-pending-slot-low n = omega arith
+pub pending-slot : (e j : ℕ) → j < 16 → pendingSlot (pendingFor e j) ≡ j
+unfolding pendingFor pendingSlot
+pending-slot e j h = omega arith
 
 -- a pending note is that of its entry and slot
 pub pending-back : (n : ℕ) → isPending n ≡ true → n ≡ pendingFor (pendingEntry n) (pendingSlot n)

@@ -10,10 +10,11 @@ use Rattle.lists.specs.Cases.{split, bool-cases, lt-or-le}
 use Rattle.lists.specs.Tests.{_and_, _or_, and-left, and-right, and-both, or-left, or-right, or-cases}
 use Rattle.lists.specs.Below.{all-at, all-intro}
 use Rattle.lists.specs.Tab.{length-tab, getD-tab, tab-cong}
-use Rattle.format.specs.Diskette.{Bytes, Geometry, slotCount}
+use Rattle.format.specs.Diskette.{Bytes, Geometry, slotCount, slotsOn}
 use Rattle.format.specs.Entries.{Rows, used}
-use Rattle.format.specs.Notes.{freeNote, areaNote, recordedNote, pendingFor, isPending, pendingEntry, noteAt, isListed, heldByUsed, noteRight, mapRight, freshNote, freshMap, settledNote, freedMap}
-use Rattle.notes.specs.Numbers.{pending-is, pending-entry, pendingSlot, pending-back, pending-slot-low, settled-not}
+use Rattle.format.specs.Notes.{freeNote, areaNote, recordedNote, pendingFor, isPending, pendingEntry, pendingSlot, noteAt, isListed, heldByUsed, noteRight, mapRight, freshNote, freshMap, settledNote, freedMap}
+use Rattle.facts.specs.Slots.{slots-on-high}
+use Rattle.notes.specs.Numbers.{pending-is, pending-entry, pending-slot, pending-back, settled-not}
 
 -- a block past the directory that no used entry lists
 pub record Spare (G : Geometry) (d : Rows) (b : ℕ) : Type 0 where
@@ -25,15 +26,16 @@ pub data NoteOk (G : Geometry) (d : Rows) (b n : ℕ) : Type 0 where
   ok-area : n ≡ areaNote → b < G .area → NoteOk G d b n
   ok-recorded : n ≡ recordedNote → G .area ≤ b → isListed G d b ≡ true → NoteOk G d b n
   ok-free : n ≡ freeNote → Spare G d b → NoteOk G d b n
-  ok-pending : (e j : ℕ) → n ≡ pendingFor e j → e < G .entries → j < slotCount → used (d e) ≡ true → Spare G d b → NoteOk G d b n
+  ok-pending : (e j : ℕ) → n ≡ pendingFor e j → e < G .entries → j < slotsOn G → used (d e) ≡ true → Spare G d b → NoteOk G d b n
 
 module _ (G : Geometry) (d : Rows) where
   -- a note that is pending for a used entry
-  pub held-by : (e j : ℕ) → e < G .entries → j < slotCount → used (d e) ≡ true → heldByUsed G d (pendingFor e j) ≡ true
+  pub held-by : (e j : ℕ) → e < G .entries → j < slotsOn G → used (d e) ≡ true → heldByUsed G d (pendingFor e j) ≡ true
   unfolding heldByUsed
   held-by e j h l t =
-      let q : pendingEntry (pendingFor e j) ≡ e = pending-entry e j l in
-      and-both _ _ (pending-is e j) (and-both _ _ (rw q (lt-ltb e (G .entries) h)) (rw q t))
+      let low : j < slotCount = omega (arith, slots-on-high G) in
+      let q : pendingEntry (pendingFor e j) ≡ e = pending-entry e j low in
+      and-both _ _ (pending-is e j) (and-both _ _ (rw q (lt-ltb e (G .entries) h)) (and-both _ _ (rw q t) (rw (pending-slot e j low) (lt-ltb j (slotsOn G) l))))
 
   -- ---- the test and the cases, both ways
   pub right-ok : (b n : ℕ) → noteRight G d b n ≡ true → NoteOk G d b n
@@ -44,9 +46,10 @@ module _ (G : Geometry) (d : Rows) where
       (λ h. split (bool-cases (isListed G d b))
       (λ y. let z : eqb n recordedNote ≡ true = rw (le-ltb b (G .area) h, y) at t in ok-recorded (eqb-true _ _ z) h y)
       (λ y. let s : Spare G d b = record { past = h; unlisted = y } in
-      let z : (eqb n freeNote or (isPending n and ltb (pendingEntry n) (G .entries) and used (d (pendingEntry n)))) ≡ true = rw (le-ltb b (G .area) h, y) at t in
+      let z : (eqb n freeNote or (isPending n and ltb (pendingEntry n) (G .entries) and used (d (pendingEntry n)) and ltb (pendingSlot n) (slotsOn G))) ≡ true = rw (le-ltb b (G .area) h, y) at t in
       split (or-cases _ _ z) (λ w. ok-free (eqb-true _ _ w) s)
-      (λ w. ok-pending (pendingEntry n) (pendingSlot n) (pending-back n (and-left _ _ w)) (ltb-true _ _ (and-left _ _ (and-right _ _ w))) (pending-slot-low n) (and-right _ _ (and-right _ _ w)) s)))
+      (λ w. ok-pending (pendingEntry n) (pendingSlot n) (pending-back n (and-left _ _ w)) (ltb-true _ _ (and-left _ _ (and-right _ _ w)))
+      (ltb-true (pendingSlot n) (slotsOn G) (and-right _ _ (and-right _ _ (and-right _ _ w)))) (and-left _ _ (and-right _ _ (and-right _ _ w))) s)))
 
   pub ok-right : (b n : ℕ) → NoteOk G d b n → noteRight G d b n ≡ true
   unfolding noteRight

@@ -1,9 +1,20 @@
 -- A plan carried out: the FCB comes to the target's extent, and the record is read or written there. The plan matters to the first
 -- half alone, and the kind of call to the second.
-use mathlib.Core.Path.{_≡_, refl}
+use mathlib.Core.Path.{_≡_, refl, sym, ap, _∙_}
 use mathlib.Core.Bool.{true}
 use Prim.Native.Nat.{ℕ, _<_}
-use Rattle.format.specs.Diskette.{Geometry}
+use native.Mathlib.Omega.{arith}
+use lib.ListN.{length}
+use Rattle.format.specs.Diskette.{Bytes, Geometry, Sound, Long, entryBytes}
+use Rattle.format.specs.Entries.{entryAt, extentOf}
+use Rattle.format.specs.Fcb.{fcbBytes}
+use Rattle.facts.specs.Long.{long-on}
+use Rattle.rows.specs.Entries.{length-entryAt, entry-stored}
+use Rattle.fields.specs.Images.{length-closedImage}
+use Rattle.fields.specs.Entering.{extent-entered}
+use Rattle.fields.specs.Making.{length-nextRow, extent-next}
+use Rattle.model.specs.Closing.{closedImage}
+use Rattle.model.specs.Entering.{nextRow}
 use Rattle.model.specs.declared.Session.{Session}
 use Rattle.model.specs.declared.Answer.{Answer}
 use Rattle.model.specs.declared.Code.{Code}
@@ -19,13 +30,13 @@ use Rattle.table.specs.Own.{Call}
 use Rattle.table.specs.OwnStep.{ownStep}
 use Rattle.rulings.specs.declared.Ruling.the-variants.{Refuse, Follow}
 use Rattle.rulings.specs.Ruling.{readRuling, writeRuling}
-use Rattle.rulings.specs.Bounds.{Within}
+use Rattle.rulings.specs.Bounds.{OnDisk, OwnExtent}
 use Rattle.rulings.specs.Own.{own-read, own-write}
 
 -- the buffers once the FCB has come to the target's extent, ext
 abbrev pub arrived : Geometry → ℕ → Lent → Plan → Lent
 arrived G ext l (Stay e b) = l
-arrived G ext l (Move e t b) = moved G l e t
+arrived G ext l (Move e t b) = moved G ext l e t
 arrived G ext l (Make e t b) = made G ext l e t
 
 -- the target's entry and block
@@ -51,15 +62,35 @@ module _ (G : Geometry) (s : Session) (l : Lent) (n : ℕ) where
   writing-by (Make e t b) = refl
 
 -- the target's entry and block are the disk's
-pub entry-within : (G : Geometry) (p : Plan) → Within G p → entryOf p < G .entries
-entry-within G (Stay e b) w = w .0
-entry-within G (Move e t b) w = w .1
-entry-within G (Make e t b) w = w .1
+pub entry-on-disk : (G : Geometry) (p : Plan) → OnDisk G p → entryOf p < G .entries
+entry-on-disk G (Stay e b) w = w .0
+entry-on-disk G (Move e t b) w = w .1
+entry-on-disk G (Make e t b) w = w .1
 
-pub block-within : (G : Geometry) (p : Plan) → Within G p → blockOf p < G .blocks
-block-within G (Stay e b) w = w .1
-block-within G (Move e t b) w = w .2
-block-within G (Make e t b) w = w .2
+pub block-on-disk : (G : Geometry) (p : Plan) → OnDisk G p → blockOf p < G .blocks
+block-on-disk G (Stay e b) w = w .1
+block-on-disk G (Move e t b) w = w .2
+block-on-disk G (Make e t b) w = w .2
+
+-- the FCB has the extent of the entry that it has come to
+pub arrived-own : {G : Geometry} (S : Sound G) (ext : ℕ) (l : Lent) (p : Plan) → Long G (l .image) → length (l .fcb) ≡ fcbBytes → OnDisk G p
+    → OwnExtent G (l .image) (l .fcb) ext p → extentOf (arrived G ext l p .fcb) ≡ extentOf (entryAt G (arrived G ext l p .image) (entryOf p))
+unfolding moved made
+arrived-own {G} S ext l (Stay e b) long hf w own = sym own
+arrived-own {G} S ext l (Move e t b) long hf w own =
+    let shut : Bytes = closedImage G (l .image) e (l .fcb) in
+    let kept : Long G shut = long-on G (length-closedImage S (l .image) long e (w .0) (l .fcb)) long in
+    let whole = length-entryAt S shut kept t (w .1) in
+    extent-entered (l .fcb) (entryAt G shut t) ext (omega arith) (omega arith) ∙ sym own
+arrived-own {G} S ext l (Make e t b) long hf w own =
+    let shut : Bytes = closedImage G (l .image) e (l .fcb) in
+    let kept : Long G shut = long-on G (length-closedImage S (l .image) long e (w .0) (l .fcb)) long in
+    let row : Bytes = entryAt G (l .image) e in
+    let whole = length-entryAt S (l .image) long e (w .0) in
+    let next : Bytes = nextRow row ext in
+    let full : length next ≡ entryBytes = length-nextRow row ext whole in
+    extent-entered (l .fcb) next ext (omega arith) (omega arith) ∙ sym (extent-next row ext whole)
+    ∙ ap extentOf (sym (entry-stored S shut kept t (w .1) next full))
 
 -- ---- the calls: refused with nothing changed, or the plan carried out
 module _ (G : Geometry) (argument n : ℕ) (l : Lent) (s : Session) (r : Answer) where

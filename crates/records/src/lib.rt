@@ -4,16 +4,17 @@ ghost use mathlib.Core.Bool.{true};
 ghost use Prim.Native.Nat.{ℕ, _≤_, _<_};
 ghost use lib.ListN.{length};
 ghost use Rattle.format.specs.Diskette.{Bytes, eightInch, imageBytes, recordBytes, extents, extentRecords};
-ghost use Rattle.format.specs.Entries.{entryAt, slotFor};
+ghost use Rattle.format.specs.Entries.{entryAt, extentOf, slotFor};
 ghost use Rattle.format.specs.Consistent.{consistent};
 ghost use Rattle.format.specs.Fcb.{fcbBytes};
 ghost use Rattle.model.specs.Lent.{lend, outcome};
+ghost use Rattle.model.specs.Closing.{closedImage};
 ghost use Rattle.model.specs.Target.{moved, made, haveRead, haveWritten};
 ghost use Rattle.model.specs.Table.{oneOf, readCalls, writeCalls};
 ghost use Rattle.chains.specs.Chain.{Indexed};
 ghost use Rattle.table.specs.Own.{Call};
 ghost use Rattle.table.specs.OwnStep.{ownStep};
-ghost use Rattle.rulings.specs.Bounds.{Within};
+ghost use Rattle.rulings.specs.Bounds.{OnDisk, OwnExtent};
 ghost use Rattle.records.specs.Carry.{arrived, entryOf, blockOf};
 use model::Answer;
 use model::Plan;
@@ -21,15 +22,15 @@ use model::Session;
 use rulings::Ruling;
 use targets::Target;
 
-// A move: the present extent, entry e, is closed, and the FCB takes entry t.
+// A move: the present extent, entry e, is closed, and the FCB takes entry t as it stands then, of its own extent.
 fn move_to(image: &mut [u8], map: &mut [u16], fcb: &mut [u8], e: usize, t: usize)
     requires { ⌜ (length (now image) ≡ imageBytes eightInch) × (length (now fcb) ≡ fcbBytes) × (e < eightInch .entries) × (t < eightInch .entries) ⌝ }
     ensures { λ _. ⌜ ((buffer : Bytes) → lend (now (image .exit)) (now (map .exit)) (now (fcb .exit)) buffer
-        ≡ moved eightInch (lend (now (image .entry)) (now (map .entry)) (now (fcb .entry)) buffer) e t) ⌝ }
+        ≡ moved eightInch (extentOf (entryAt eightInch (closedImage eightInch (now (image .entry)) e (now (fcb .entry))) t))
+        (lend (now (image .entry)) (now (map .entry)) (now (fcb .entry)) buffer) e t) ⌝ }
 {
-    let row = rows::copy_row(image, t);
     closing::close_entry(image, map, e, fcb);
-    entering::enter(fcb, row);
+    entering::enter(fcb, rows::copy_row(image, t));
 }
 
 // A move into an extent that has no entry: the present extent is closed, and the FCB takes the entry that is made for it at t.
@@ -47,7 +48,8 @@ fn make_next(image: &mut [u8], map: &mut [u16], fcb: &mut [u8], e: usize, t: usi
 
 // The FCB comes to the target's extent, as the plan says.
 fn arrive(image: &mut [u8], map: &mut [u16], fcb: &mut [u8], plan: Plan, extent: usize)
-    requires { ⌜ (length (now image) ≡ imageBytes eightInch) × (length (now fcb) ≡ fcbBytes) × (extent < extents) × Within eightInch plan ⌝ }
+    requires { ⌜ (length (now image) ≡ imageBytes eightInch) × (length (now fcb) ≡ fcbBytes) × (extent < extents) × OnDisk eightInch plan
+        × OwnExtent eightInch (now image) (now fcb) extent plan ⌝ }
     ensures { λ _. ⌜ ((buffer : Bytes) → lend (now (image .exit)) (now (map .exit)) (now (fcb .exit)) buffer
         ≡ arrived eightInch extent (lend (now (image .entry)) (now (map .entry)) (now (fcb .entry)) buffer) plan) ⌝ }
 {
@@ -90,7 +92,8 @@ fn follow_read(
     target: Target,
 )
     requires { ⌜ (length (now image) ≡ imageBytes eightInch) × (length (now fcb) ≡ fcbBytes) × (length (now buffer) ≡ recordBytes)
-        × (target .extent < extents) × (target .after ≤ extentRecords) × Within eightInch plan ⌝ }
+        × (target .extent < extents) × (target .after ≤ extentRecords) × OnDisk eightInch plan
+        × OwnExtent eightInch (now image) (now fcb) (target .extent) plan ⌝ }
     ensures { λ _. ⌜ lend (now (image .exit)) (now (map .exit)) (now (fcb .exit)) (now (buffer .exit))
         ≡ haveRead eightInch (blockOf plan) (target .at) (target .after)
         (arrived eightInch (target .extent) (lend (now (image .entry)) (now (map .entry)) (now (fcb .entry)) (now (buffer .entry))) plan) ⌝ }
@@ -110,7 +113,7 @@ fn follow_write(
 )
     requires { ⌜ (length (now image) ≡ imageBytes eightInch) × (length (now map) ≡ eightInch .blocks) × (length (now fcb) ≡ fcbBytes)
         × (length (now buffer) ≡ recordBytes) × (target .extent < extents) × (target .at < extentRecords) × (target .after ≤ extentRecords)
-        × Within eightInch plan ⌝ }
+        × OnDisk eightInch plan × OwnExtent eightInch (now image) (now fcb) (target .extent) plan ⌝ }
     ensures { λ _. ⌜ lend (now (image .exit)) (now (map .exit)) (now (fcb .exit)) (now (buffer .entry))
         ≡ haveWritten eightInch (entryOf plan) (slotFor eightInch (target .extent) (target .at)) (blockOf plan) (target .at) (target .after)
         (arrived eightInch (target .extent) (lend (now (image .entry)) (now (map .entry)) (now (fcb .entry)) (now (buffer .entry))) plan) ⌝ }

@@ -7,8 +7,8 @@ use native.Mathlib.Omega.{arith}
 use lib.Dec.{eqb}
 use lib.ListN.{length, getD, replicate, getD-replicate, length-replicate}
 use Rattle.lists.specs.Cases.{split, lt-or-le, eq-or-ne}
-use Rattle.lists.specs.Splice.{part, splice, length-part, length-splice, getD-part, part-part, part-splice-same, part-splice-other, getD-splice-out}
-use Rattle.format.specs.Diskette.{Bytes, Geometry, Sound, recordBytes, imageBytes, diskRecord, offsetOf, recordAt, withRecord, entryBytes, entriesPerRecord}
+use Rattle.lists.specs.Splice.{part, splice, length-part, length-splice, getD-part, part-part, part-splice-same, part-splice-other, getD-splice-out, splice-own}
+use Rattle.format.specs.Diskette.{Bytes, Geometry, Sound, recordBytes, imageBytes, diskRecord, offsetOf, recordAt, withRecord, entryBytes, entriesPerRecord, Long}
 use Rattle.format.specs.Entries.{entryPlace, entryAt, withEntry, userOf, empty}
 use Rattle.disk.specs.Places.{blockRecords, offset-fits, offset-past, offset-apart}
 
@@ -44,7 +44,7 @@ module _ {G : Geometry} (S : Sound G) where
   entry-fits e h = omega (arith, offset-fits S (e / entriesPerRecord) (omega (arith, entry-record e h, area-within)))
 
   -- where every byte of the image is the same, each entry begins with it
-  pub entry-of-same : (size x : ℕ) → size ≡ imageBytes G → (e : ℕ) → e < G .entries → userOf (entryAt G (replicate size x) e) ≡ x
+  pub entry-of-same : (size x : ℕ) → imageBytes G ≤ size → (e : ℕ) → e < G .entries → userOf (entryAt G (replicate size x) e) ≡ x
   unfolding entryAt
   entry-of-same size x is e h =
       getD-part (replicate size x) (entryPlace G e) entryBytes (omega (arith, length-replicate {A = ℕ} size x, entry-fits e h)) 0 (omega arith)
@@ -69,7 +69,7 @@ module _ {G : Geometry} (S : Sound G) where
   entry-record-apart e d h past =
       split (offset-apart S (e / entriesPerRecord) d (λ q. omega (arith, entry-record e h))) (λ w. inl (omega arith)) (λ w. inr (omega arith))
 
-  module _ (img : Bytes) (long : length img ≡ imageBytes G) where
+  module _ (img : Bytes) (long : Long G img) where
     pub length-entryAt : (e : ℕ) → e < G .entries → length (entryAt G img e) ≡ entryBytes
     unfolding entryAt
     length-entryAt e h = length-part img (entryPlace G e) entryBytes (omega (arith, entry-fits e h))
@@ -95,6 +95,11 @@ module _ {G : Geometry} (S : Sound G) where
     entry-kept d past below bytes whole e h =
         part-splice-other img (offsetOf G d) bytes (omega (arith, offset-fits S d below)) (entryPlace G e) entryBytes (omega (arith, entry-fits e h))
         (split (entry-record-apart e d h past) (λ w. inl w) (λ w. inr (omega arith)))
+
+    -- an entry put back as it was
+    pub entry-own : (e : ℕ) → e < G .entries → withEntry G img e (entryAt G img e) ≡ img
+    unfolding entryAt withEntry
+    entry-own e below = splice-own img (entryPlace G e) entryBytes (omega (arith, entry-fits e below))
 
     module _ (e : ℕ) (below : e < G .entries) (row : Bytes) (whole : length row ≡ entryBytes) where
       room : entryPlace G e + length row ≤ length img

@@ -4,11 +4,11 @@ use mathlib.Core.Bool.{true}
 use Prim.Native.Nat.{ℕ, _≤_, _<_}
 use native.Mathlib.Omega.{arith}
 use lib.ListN.{length}
-use borrow.Author.Tests.{leb-false, eq-eqb, not-false}
+use borrow.Author.Tests.{leb-false, eq-eqb, eqb-false, not-false}
 use Rattle.lists.specs.Cases.{split, bool-cases}
 use Rattle.lists.specs.Tests.{second-fails}
-use Rattle.format.specs.Diskette.{Bytes, Geometry, Sound, slotCount, extents}
-use Rattle.format.specs.Entries.{slotOf, findFile}
+use Rattle.format.specs.Diskette.{Bytes, Geometry, Sound, Long, slotCount, extents}
+use Rattle.format.specs.Entries.{entryAt, slotOf, extentOf, runOf, findFile}
 use Rattle.format.specs.Consistent.{consistent}
 use Rattle.format.specs.Notes.{noteAt}
 use Rattle.facts.specs.Found.{FoundAt, found-cases}
@@ -19,16 +19,19 @@ use Rattle.model.specs.declared.Session.{Session}
 use Rattle.model.specs.declared.Plan.{Plan}
 use Rattle.model.specs.declared.Plan.the-variants.{Stay, Move, Make}
 use Rattle.model.specs.Lent.{Lent, rowsOf}
-use Rattle.model.specs.Target.{targetExtent, targetRecord, targetSlot, crAfter, presentEntry, stays, targetEntry, blockThere, plan}
+use Rattle.model.specs.Target.{targetExtent, targetRecord, targetSlot, crAfter, presentEntry, stays, within, targetEntry, blockThere, plan}
 use Rattle.model.specs.Table.{firstRow}
 use Rattle.consistency.specs.Reflect.{image-facts}
 use Rattle.notes.specs.Numbers.{pending-block}
 use Rattle.notes.specs.Free.{free-is}
-use Rattle.facts.specs.Find.{file-says, empty-says}
+use Rattle.facts.specs.Find.{file-says, found-own, empty-says}
+use Rattle.facts.specs.Slots.{slot-place}
 use Rattle.facts.specs.Current.{Current, current-says}
 use Rattle.slots.specs.Slots.{SlotOk, slot-same, slot-pending}
 use Rattle.current.specs.Current.{fcb-says, current-slot, current-low}
 use Rattle.consistency.specs.Naming.{file-used}
+use Rattle.model.specs.Closing.{closedImage}
+use Rattle.fields.specs.Images.{row-closedImage-other}
 use Rattle.fields.specs.Target.{record-below, crAfter-high, targetSlot-below}
 use Rattle.table.specs.First.{passed-none}
 use Rattle.table.specs.Present.{file-extent-below}
@@ -39,14 +42,22 @@ use Rattle.rulings.specs.declared.Ruling.the-variants.{Follow}
 use Rattle.rulings.specs.Ruling.{rulingOf, readRows, writeRows, readRuling, writeRuling}
 
 -- ---- the entries and the block of a plan
-abbrev pub Within : Geometry → Plan → Type 0
-Within G (Stay e b) = (e < G .entries) × (b < G .blocks)
-Within G (Move e t b) = (e < G .entries) × (t < G .entries) × (b < G .blocks)
-Within G (Make e t b) = (e < G .entries) × (t < G .entries) × (b < G .blocks)
+abbrev pub OnDisk : Geometry → Plan → Type 0
+OnDisk G (Stay e b) = (e < G .entries) × (b < G .blocks)
+OnDisk G (Move e t b) = (e < G .entries) × (t < G .entries) × (b < G .blocks)
+OnDisk G (Make e t b) = (e < G .entries) × (t < G .entries) × (b < G .blocks)
+
+-- the entry that the FCB comes to has as its own the extent that the FCB then has: the FCB's where it stays, ext where it moves. So it is where
+-- an entry covers one extent; a row that is made for ext has it anyway
+abbrev pub OwnExtent : Geometry → Bytes → Bytes → ℕ → Plan → Type 0
+OwnExtent G img fcb ext (Stay e b) = extentOf (entryAt G img e) ≡ extentOf fcb
+OwnExtent G img fcb ext (Move e t b) = extentOf (entryAt G (closedImage G img e fcb) t) ≡ ext
+OwnExtent G img fcb ext (Make e t b) = Unit {0}
 
 -- a plan to be followed, for the target of call n
-pub record Sure (G : Geometry) (n : ℕ) (fcb : Bytes) (p : Plan) : Type 0 where
-  pub within : Within G p
+pub record Sure (G : Geometry) (n : ℕ) (img fcb : Bytes) (p : Plan) : Type 0 where
+  pub on-disk : OnDisk G p
+  pub own : OwnExtent G img fcb (targetExtent n fcb) p
   pub extent : targetExtent n fcb < extents
   pub at : targetRecord n fcb < 128
   pub after : crAfter n fcb ≤ 128
@@ -60,10 +71,11 @@ follow-plan : (v : Verdict) (q p : Plan) → rulingOf v q ≡ Follow p → q ≡
 follow-plan Passed q p h = cc
 follow-plan (Refused code) q p h = absurd (let z : _≡_ {A = ℕ} 0 1 = cc in omega arith)
 
-module _ {G : Geometry} (S : Sound G) (n : ℕ) (l : Lent) (s : Session) (map-long : length (l .map) ≡ G .blocks)
-    (right : consistent G (l .image) ≡ true) (low : s .user ≤ 15) where
+module _ {G : Geometry} (S : Sound G) (single : (x : ℕ) → runOf G x ≡ x) (n : ℕ) (l : Lent) (s : Session) (image-long : Long G (l .image))
+    (map-long : length (l .map) ≡ G .blocks) (right : consistent G (l .image) ≡ true) (low : s .user ≤ 15) where
   -- the entry of a file that was found: a block in a slot of it
-  row-block : (name : Bytes) (q ext t j b : ℕ) → findFile G (rowsOf G l) (s .user) name q ext ≡ At t → j < slotCount → slotOf (rowsOf G l t) j ≡ b → (b ≡ 0 → ⊥) → b < G .blocks
+  row-block : (name : Bytes) (q ext t j b : ℕ) → findFile G (rowsOf G l) (s .user) name q ext ≡ At t → j < slotCount → slotOf G (rowsOf G l t) j ≡ b
+      → (b ≡ 0 → ⊥) → b < G .blocks
   row-block name q ext t j b found h is real =
       let first = file-says G (rowsOf G l) (s .user) name q ext t found in
       let fine = image-facts G (l .image) right .fine t (first .below) (file-used G (s .user) name q ext (rowsOf G l t) (first .holds) low) in
@@ -84,13 +96,13 @@ module _ {G : Geometry} (S : Sound G) (n : ℕ) (l : Lent) (s : Session) (map-lo
     after-low = crAfter-high n (l .fcb) (fcb-says (l .fcb) (present .right) .cr)
 
     slot-low : targetSlot G n (l .fcb) < slotCount
-    slot-low = targetSlot-below S n (l .fcb) (fcb-says (l .fcb) (present .right) .cr)
+    slot-low = slot-place G (targetSlot-below S n (l .fcb) (fcb-says (l .fcb) (present .right) .cr))
 
     -- a block in a slot of the FCB
-    fcb-block : (j b : ℕ) → j < slotCount → slotOf (l .fcb) j ≡ b → (b ≡ 0 → ⊥) → b < G .blocks
+    fcb-block : (j b : ℕ) → j < slotCount → slotOf G (l .fcb) j ≡ b → (b ≡ 0 → ⊥) → b < G .blocks
     fcb-block j b h is real = fits (current-slot G (rowsOf G l) (l .map) (s .user) (l .fcb) e present j h)
       where
-        fits : SlotOk (l .map) e (rowsOf G l e) (l .fcb) j → b < G .blocks
+        fits : SlotOk G (l .map) e (rowsOf G l e) (l .fcb) j → b < G .blocks
         fits (slot-same q) = row-block (l .fcb) 1 _ e j b (present .found) h (sym q ∙ is) real
         fits (slot-pending z q) =
             subst (λ (x : ℕ). b < x) map-long (pending-block (l .map) b e j (ap (noteAt (l .map)) (sym is) ∙ q))
@@ -99,10 +111,10 @@ module _ {G : Geometry} (S : Sound G) (n : ℕ) (l : Lent) (s : Session) (map-lo
     block-low : (b : ℕ) → blockThere G n (s .user) l ≡ b → (b ≡ 0 → ⊥) → b < G .blocks
     unfolding blockThere targetEntry
     block-low b q real =
-        split (bool-cases (stays n (l .fcb)))
-        (λ y. let is : slotOf (l .fcb) (targetSlot G n (l .fcb)) ≡ b = rw y at q in fcb-block (targetSlot G n (l .fcb)) b slot-low is real)
+        split (bool-cases (within G n (l .fcb)))
+        (λ y. let is : slotOf G (l .fcb) (targetSlot G n (l .fcb)) ≡ b = rw y at q in fcb-block (targetSlot G n (l .fcb)) b slot-low is real)
         (λ f. found-cases (targetEntry G n (s .user) l)
-        (λ t w. let is : slotOf (rowsOf G l t) (targetSlot G n (l .fcb)) ≡ b = rw (f, w) at q in
+        (λ t w. let is : slotOf G (rowsOf G l t) (targetSlot G n (l .fcb)) ≡ b = rw (f, w) at q in
         row-block (l .fcb) 1 (targetExtent n (l .fcb)) t (targetSlot G n (l .fcb)) b w slot-low is real)
         (λ w. let is : 0 ≡ b = rw (f, w) at q in absurd (real (sym is))))
 
@@ -114,26 +126,42 @@ module _ {G : Geometry} (S : Sound G) (n : ℕ) (l : Lent) (s : Session) (map-lo
   some-block e at b (free z q) = free-is G (l .map) b q .below
 
   -- a plan whose block is one of the disk's
-  plan-within : (B : ℕ → Type 0) → ((e : ℕ) → presentEntry G (s .user) l ≡ At e → (b : ℕ) → B b → b < G .blocks)
-      → (p : Plan) → Planned G n (s .user) l B p → Within G p
+  plan-on-disk : (B : ℕ → Type 0) → ((e : ℕ) → presentEntry G (s .user) l ≡ At e → (b : ℕ) → B b → b < G .blocks)
+      → (p : Plan) → Planned G n (s .user) l B p → OnDisk G p
   unfolding targetEntry
-  plan-within B k p (stay e b at y target x) = (e-below e at, k e at b x)
-  plan-within B k p (move e t b at y target x) =
+  plan-on-disk B k p (stay e b at y target x) = (e-below e at, k e at b x)
+  plan-on-disk B k p (move e t b at y target x) =
       (e-below e at, file-says G (rowsOf G l) (s .user) (l .fcb) 1 (targetExtent n (l .fcb)) t target .below, k e at b x)
-  plan-within B k p (make e t b at y target room x) = (e-below e at, empty-says G (rowsOf G l) t room .below, k e at b x)
+  plan-on-disk B k p (make e t b at y target room x) = (e-below e at, empty-says G (rowsOf G l) t room .below, k e at b x)
+
+  -- the FCB's entry, and the target's where there is a move to another: closing the one leaves the other
+  present-own : (e : ℕ) → presentEntry G (s .user) l ≡ At e → extentOf (rowsOf G l e) ≡ extentOf (l .fcb)
+  present-own e at = found-own G (rowsOf G l) (s .user) (l .fcb) 1 (extentOf (l .fcb)) single e (present e at .found)
+
+  plan-own : (B : ℕ → Type 0) → (p : Plan) → Planned G n (s .user) l B p → OwnExtent G (l .image) (l .fcb) (targetExtent n (l .fcb)) p
+  unfolding targetEntry stays
+  plan-own B p (stay e b at y target x) = present-own e at
+  plan-own B p (move e t b at y target x) =
+      let ext : ℕ = targetExtent n (l .fcb) in
+      let own = found-own G (rowsOf G l) (s .user) (l .fcb) 1 ext single t target in
+      let other : t ≡ e → ⊥ = λ q. eqb-false ext (extentOf (l .fcb)) y (sym own ∙ ap (λ (k : ℕ). extentOf (rowsOf G l k)) q ∙ present-own e at) in
+      ap extentOf (row-closedImage-other S (l .image) image-long e (e-below e at) (l .fcb) t
+      (file-says G (rowsOf G l) (s .user) (l .fcb) 1 ext t target .below) other) ∙ own
+  plan-own B p (make e t b at y target room x) = tt
 
   -- ---- the two rulings
   sure : (B : ℕ → Type 0) → ((e : ℕ) → presentEntry G (s .user) l ≡ At e → (b : ℕ) → B b → b < G .blocks)
       → Planned G n (s .user) l B (plan G n (s .user) l) → FoundAt (presentEntry G (s .user) l) → targetExtent n (l .fcb) < extents
-      → (p : Plan) → plan G n (s .user) l ≡ p → Sure G n (l .fcb) p
+      → (p : Plan) → plan G n (s .user) l ≡ p → Sure G n (l .image) (l .fcb) p
   sure B k planned entry below p q = record {
-    within = rw (← q) (plan-within B k (plan G n (s .user) l) planned);
+    on-disk = rw (← q) (plan-on-disk B k (plan G n (s .user) l) planned);
+    own = rw (← q) (plan-own B (plan G n (s .user) l) planned);
     extent = below;
     at = record-low (entry .place) (entry .is);
     after = after-low (entry .place) (entry .is);
   }
 
-  pub read-sure : (p : Plan) → readRuling G n (s .user) l ≡ Follow p → Sure G n (l .fcb) p
+  pub read-sure : (p : Plan) → readRuling G n (s .user) l ≡ Follow p → Sure G n (l .image) (l .fcb) p
   unfolding readRuling readRows targetEntry
   read-sure p h =
       let v : Verdict = firstRow (readRows G n (s .user) l) in
@@ -144,7 +172,7 @@ module _ {G : Geometry} (S : Sound G) (n : ℕ) (l : Lent) (s : Session) (map-lo
       let reads : Reads G l s n = record { entry = entry; target = target; extent = below; there = not-false _ (none .1 .1 .1 .0) } in
       sure (There G n (s .user) l) there-block (planned-read G n l s reads) entry below p (follow-plan v (plan G n (s .user) l) p h)
 
-  pub write-sure : (p : Plan) → writeRuling G n (s .user) l ≡ Follow p → Sure G n (l .fcb) p
+  pub write-sure : (p : Plan) → writeRuling G n (s .user) l ≡ Follow p → Sure G n (l .image) (l .fcb) p
   unfolding writeRuling writeRows
   write-sure p h =
       let v : Verdict = firstRow (writeRows G n (s .user) l) in

@@ -5,15 +5,15 @@ use mathlib.Core.List.{List}
 use Prim.Native.Nat.{ℕ, _≤_, _<_}
 use lib.Dec.{eqb, leb, ltb}
 use borrow.Author.Tests.{eq-eqb, ne-eqb, lt-ltb, le-ltb, not-true}
-use Rattle.lists.specs.Cases.{split, bool-cases}
+use Rattle.lists.specs.Cases.{split, bool-cases, not-both}
 use Rattle.lists.specs.Tests.{and-right, and-fails-left, and-fails-right, and-both, or-left, or-then}
 use Rattle.format.specs.Diskette.{Bytes, Geometry, extents}
-use Rattle.format.specs.Entries.{Rows, extentOf, readOnly, findFile, findEmpty}
+use Rattle.format.specs.Entries.{Rows, runOf, covers, readOnly, findEmpty}
 use Rattle.format.specs.Notes.{findFree}
 use Rattle.format.specs.Fcb.{current}
-use Rattle.facts.specs.Found.{at-once, at-not-nothing, found-cases, found-row, missed-row}
-use Rattle.facts.specs.Find.{file-says}
-use Rattle.facts.specs.Naming.{file-extent}
+use Rattle.facts.specs.Found.{found-cases, found-row, missed-row}
+use Rattle.facts.specs.Find.{found-own}
+use Rattle.facts.specs.Counts.{count-there, fcb-count-there}
 use Rattle.format.specs.declared.Found.{Found}
 use Rattle.format.specs.declared.Found.the-variants.{At, Nothing}
 use Rattle.model.specs.declared.Code.{Code}
@@ -21,13 +21,14 @@ use Rattle.model.specs.declared.Code.the-variants.{BadRecord, NotCurrent, ReadO
 use Rattle.model.specs.declared.Plan.{Plan}
 use Rattle.model.specs.declared.Plan.the-variants.{Make}
 use Rattle.model.specs.Lent.{Lent, rowsOf}
-use Rattle.model.specs.Target.{targetExtent, targetRecord, targetSlot, presentEntry, stays, targetEntry, blockThere, countThere, recordThere, targetBlock, readOnlyIn, readOnlyThere, planFrom, plan}
+use Rattle.model.specs.Target.{targetExtent, targetRecord, targetSlot, presentEntry, stays, within, targetEntry, blockThere, countThere, recordThere, targetBlock, readOnlyIn, readOnlyThere, planFrom, plan}
 use Rattle.model.specs.Table.{Row, firstRow}
 use Rattle.facts.specs.Current.{current-says}
 use Rattle.current.specs.Current.{fcb-says}
-use Rattle.fields.specs.Target.{record-below, moves-extent}
+use Rattle.fields.specs.Target.{record-below}
+use Rattle.fields.specs.OneExtent.{within-extent, within-stays}
 use Rattle.table.specs.First.{_&_, NoneHolds, Decides, here, later, none-passed, decides-refused}
-use Rattle.table.specs.Present.{target-present}
+use Rattle.table.specs.Present.{stays-within, same-entry, other-entry, make-beyond, make-block}
 use Rattle.rulings.specs.declared.Ruling.{Ruling}
 use Rattle.rulings.specs.declared.Ruling.the-variants.{Refuse, Follow}
 use Rattle.targets.specs.declared.Target.{Target}
@@ -42,44 +43,40 @@ follows : (rows : List Row) (p q : Plan) → NoneHolds rows → p ≡ q → ruli
 follows rows p q none h = rw (none-passed rows none, h)
 
 module _ (G : Geometry) (n user : ℕ) (l : Lent) (e : ℕ) (at : presentEntry G user l ≡ At e) where
-  -- ---- the FCB's entry e and the target's t are one exactly where there is no move
-  pub stays-by : (t : ℕ) → targetEntry G n user l ≡ At t → stays n (l .fcb) ≡ eqb t e
-  unfolding presentEntry targetEntry
-  stays-by t q =
-      split (bool-cases (stays n (l .fcb)))
-      (λ y. y ∙ sym (eq-eqb t e (at-once t e (sym q ∙ target-present G n user l e at y))))
-      (λ f. f ∙ sym (ne-eqb t e (λ z. moves-extent n (l .fcb) f
-      (sym (found-extent (targetExtent n (l .fcb)) t q) ∙ ap (λ (k : ℕ). extentOf (rowsOf G l k)) z
-      ∙ found-extent (extentOf (l .fcb)) e (current-says G (rowsOf G l) (l .map) user (l .fcb) e at .found)))))
-    where
-      found-extent : (ext k : ℕ) → findFile G (rowsOf G l) user (l .fcb) 1 ext ≡ At k → extentOf (rowsOf G l k) ≡ ext
-      found-extent ext k h = file-extent G user (l .fcb) 1 ext (rowsOf G l k) (file-says G (rowsOf G l) user (l .fcb) 1 ext k h .holds)
-
-  -- without an entry the target is in another extent
-  moves : targetEntry G n user l ≡ Nothing → stays n (l .fcb) ≡ false
-  moves q = split (bool-cases (stays n (l .fcb))) (λ y. absurd (at-not-nothing e (sym (target-present G n user l e at y) ∙ q))) (λ f. f)
+  -- ---- the FCB's entry e and the target's t are one exactly where the target lies within it
+  within-by : (t : ℕ) → targetEntry G n user l ≡ At t → within G n (l .fcb) ≡ eqb t e
+  within-by t target =
+      split (bool-cases (within G n (l .fcb))) (λ w. w ∙ sym (eq-eqb t e (same-entry G n user l e at t target w)))
+      (λ w. w ∙ sym (ne-eqb t e (other-entry G n user l e at t target w)))
 
   module _ (t : ℕ) (target : targetEntry G n user l ≡ At t) where
-    block-by : blockThere G n user l ≡ arrivedSlot (rowsOf G l) (l .fcb) e t (targetSlot G n (l .fcb))
+    block-by : blockThere G n user l ≡ arrivedSlot G (rowsOf G l) (l .fcb) e t (targetSlot G n (l .fcb))
     unfolding blockThere arrivedSlot
-    block-by = rw (stays-by t target, target)
+    block-by = rw (within-by t target, target)
 
-    count-by : countThere G n user l ≡ arrivedCount G (rowsOf G l) (l .fcb) e t (targetExtent n (l .fcb))
-    unfolding countThere arrivedCount
-    count-by = rw (stays-by t target, target)
+    -- where an entry covers one extent, each carries the count of its own, and a move is one to another entry
+    module _ (single : (x : ℕ) → runOf G x ≡ x) where
+      count-by : countThere G n user l ≡ arrivedCount (rowsOf G l) (l .fcb) e t
+      unfolding countThere arrivedCount targetEntry
+      count-by =
+          let ext : ℕ = targetExtent n (l .fcb) in
+          let there = count-there (rowsOf G l t) ext (sym (found-own G (rowsOf G l) user (l .fcb) 1 ext single t target)) in
+          split (bool-cases (within G n (l .fcb)))
+          (λ w. rw (w, sym (within-by t target) ∙ w, target, there, fcb-count-there (l .fcb) ext (within-extent G single n (l .fcb) w)))
+          (λ w. rw (w, sym (within-by t target) ∙ w, target, there))
 
-    plan-by : (b : ℕ) → targetBlock G n user l ≡ b → plan G n user l ≡ goTo e t b
-    unfolding plan planFrom goTo
-    plan-by b q = rw (at, stays-by t target, target, q)
+      plan-by : (b : ℕ) → targetBlock G n user l ≡ b → plan G n user l ≡ goTo e t b
+      unfolding plan planFrom goTo
+      plan-by b q = rw (at, sym (within-stays G single n (l .fcb)) ∙ within-by t target, target, q)
 
-  module _ (none : targetEntry G n user l ≡ Nothing) where
-    block-none : blockThere G n user l ≡ 0
-    unfolding blockThere
-    block-none = rw (moves none, none)
-
-    plan-new : (t b : ℕ) → findEmpty G (rowsOf G l) ≡ At t → targetBlock G n user l ≡ b → plan G n user l ≡ Make e t b
-    unfolding plan planFrom
-    plan-new t b m q = rw (at, moves none, none, m, q)
+  plan-new : (t b : ℕ) → targetEntry G n user l ≡ Nothing → findEmpty G (rowsOf G l) ≡ At t → targetBlock G n user l ≡ b → plan G n user l ≡ Make e t b
+  unfolding plan planFrom
+  plan-new t b none m q = rw (at, moves, none, m, q)
+    where
+      moves : stays n (l .fcb) ≡ false
+      moves =
+          split (bool-cases (stays n (l .fcb)))
+          (λ y. absurd (not-both _ (stays-within G n user l y) (make-beyond G n user l e at none))) (λ f. f)
 
 -- ---- the target's block
 module _ (G : Geometry) (n user : ℕ) (l : Lent) where
@@ -109,15 +106,15 @@ module _ (G : Geometry) (n user : ℕ) (l : Lent) where
           refuses (missingCode n NoExtent) _ _
           (later in-range (later (found-row _ at) (here (missed-row _ q) refl)))
 
-      pub read-found : (t : ℕ) → targetEntry G n user l ≡ At t
-          → readRuling G n user l ≡ readTo G (rowsOf G l) (l .fcb) e t (targetExtent n (l .fcb)) (targetSlot G n (l .fcb)) (targetRecord n (l .fcb))
+      pub read-found : ((x : ℕ) → runOf G x ≡ x) → (t : ℕ) → targetEntry G n user l ≡ At t
+          → readRuling G n user l ≡ readTo G (rowsOf G l) (l .fcb) e t (targetSlot G n (l .fcb)) (targetRecord n (l .fcb))
       unfolding readRuling readRows readTo recordThere
-      read-found t q =
+      read-found single t q =
           let chosen : Bool → Ruling = λ (x : Bool). cond x (Follow (goTo e t (blockThere G n user l))) (Refuse NoRecord) in
-          rw (← block-by G n user l e at t q, ← count-by G n user l e at t q)
+          rw (← block-by G n user l e at t q, ← count-by G n user l e at t q single)
           (split (bool-cases (recordThere G n user l))
           (λ y. follows _ _ _ (in-range & found-row _ at & found-row _ q & ap not y & tt)
-          (plan-by G n user l e at t q (blockThere G n user l) (block-there G n user l (not-true _ (and-right _ _ y)))) ∙ sym (ap chosen y))
+          (plan-by G n user l e at t q single (blockThere G n user l) (block-there G n user l (not-true _ (and-right _ _ y)))) ∙ sym (ap chosen y))
           (λ f. refuses NoRecord _ _ (later in-range (later (found-row _ at) (later (found-row _ q) (here (ap not f) refl)))) ∙ sym (ap chosen f)))
 
 -- ---- 21 and 34
@@ -148,10 +145,10 @@ module _ (G : Geometry) (n user : ℕ) (l : Lent) where
             refuses NoRecord _ _
             (later in-range (later (found-row _ at) (later (guarded-is ∙ writable) (here h refl))))
 
-        module _ (below : leb extents (targetExtent n (l .fcb)) ≡ false) where
+        module _ (below : leb extents (targetExtent n (l .fcb)) ≡ false) (single : (x : ℕ) → runOf G x ≡ x) where
           -- the rows that are left are those of the entry and of the block
           write-there : (t : ℕ) → targetEntry G n user l ≡ At t
-              → writeRuling G n user l ≡ withBlock (goTo e t) (blockFor G (l .map) (arrivedSlot (rowsOf G l) (l .fcb) e t (targetSlot G n (l .fcb))))
+              → writeRuling G n user l ≡ withBlock (goTo e t) (blockFor G (l .map) (arrivedSlot G (rowsOf G l) (l .fcb) e t (targetSlot G n (l .fcb))))
           unfolding writeRuling writeRows blockFor
           write-there t q =
               let block : Found → Ruling = withBlock (goTo e t) in
@@ -161,24 +158,24 @@ module _ (G : Geometry) (n user : ℕ) (l : Lent) where
               found-cases (findFree G (l .map))
               (λ b f. follows _ _ _
               (in-range & found-row _ at & (guarded-is ∙ writable) & below & and-fails-left _ _ (found-row _ q) & and-fails-right _ _ (found-row _ f) & tt)
-              (plan-by G n user l e at t q b (block-free G n user l b z f)) ∙ sym (ap block (want ∙ f)))
+              (plan-by G n user l e at t q single b (block-free G n user l b z f)) ∙ sym (ap block (want ∙ f)))
               (λ f. refuses DiskFull _ _
               (later in-range (later (found-row _ at) (later (guarded-is ∙ writable) (later below (later (and-fails-left _ _ (found-row _ q))
               (here (and-both _ _ z (missed-row _ f)) refl)))))) ∙ sym (ap block (want ∙ f))))
               (λ z. let kept : blockFor G (l .map) (blockThere G n user l) ≡ At (blockThere G n user l) = rw z in
               follows _ _ _
               (in-range & found-row _ at & (guarded-is ∙ writable) & below & and-fails-left _ _ (found-row _ q) & and-fails-left _ _ z & tt)
-              (plan-by G n user l e at t q (blockThere G n user l) (block-there G n user l z)) ∙ sym (ap block kept)))
+              (plan-by G n user l e at t q single (blockThere G n user l) (block-there G n user l z)) ∙ sym (ap block kept)))
 
           write-made : targetEntry G n user l ≡ Nothing → writeRuling G n user l ≡ writeNew G (rowsOf G l) (l .map) (missingCode n NoEntry) e
           unfolding writeRuling writeRows writeNew
           write-made q =
-              let z : eqb (blockThere G n user l) 0 ≡ true = eq-eqb _ _ (block-none G n user l e at q) in
+              let z : eqb (blockThere G n user l) 0 ≡ true = eq-eqb _ _ (make-block G n user l e at q) in
               found-cases (findEmpty G (rowsOf G l))
               (λ t m. found-cases (findFree G (l .map))
               (λ b f. follows _ _ _
               (in-range & found-row _ at & (guarded-is ∙ writable) & below & and-fails-right _ _ (found-row _ m) & and-fails-right _ _ (found-row _ f) & tt)
-              (plan-new G n user l e at q t b m (block-free G n user l b z f)) ∙ sym (rw (m, f)))
+              (plan-new G n user l e at t b q m (block-free G n user l b z f)) ∙ sym (rw (m, f)))
               (λ f. refuses DiskFull _ _
               (later in-range (later (found-row _ at) (later (guarded-is ∙ writable) (later below (later (and-fails-right _ _ (found-row _ m))
               (here (and-both _ _ z (missed-row _ f)) refl)))))) ∙ sym (rw (m, f))))
@@ -196,25 +193,25 @@ pub target-low : (G : Geometry) (d : Rows) (map : Bytes) (user : ℕ) (fcb : Byt
 target-low G d map user fcb e n t q is = rw (is .at) (record-below n fcb (fcb-says fcb (current-says G d map user fcb e q .right) .cr))
 
 -- ---- the parts, from what the callees have answered
-module _ (G : Geometry) (d : Rows) (fcb : Bytes) (e t ext j r : ℕ) where
-  pub read-short : (x : ℕ) → x ≡ arrivedCount G d fcb e t ext → x ≤ r → Refuse NoRecord ≡ readTo G d fcb e t ext j r
+module _ (G : Geometry) (d : Rows) (fcb : Bytes) (e t j r : ℕ) where
+  pub read-short : (x : ℕ) → x ≡ arrivedCount d fcb e t → x ≤ r → Refuse NoRecord ≡ readTo G d fcb e t j r
   unfolding readTo
   read-short x q h =
-      let f : ltb r (arrivedCount G d fcb e t ext) ≡ false = rw (← q) (le-ltb r x h) in
-      sym (ap (λ (b : Bool). cond b (Follow (goTo e t (arrivedSlot d fcb e t j))) (Refuse NoRecord)) (and-fails-left _ _ f))
+      let f : ltb r (arrivedCount d fcb e t) ≡ false = rw (← q) (le-ltb r x h) in
+      sym (ap (λ (b : Bool). cond b (Follow (goTo e t (arrivedSlot G d fcb e t j))) (Refuse NoRecord)) (and-fails-left _ _ f))
 
-  pub read-empty : (b : ℕ) → b ≡ arrivedSlot d fcb e t j → b ≡ 0 → Refuse NoRecord ≡ readTo G d fcb e t ext j r
+  pub read-empty : (b : ℕ) → b ≡ arrivedSlot G d fcb e t j → b ≡ 0 → Refuse NoRecord ≡ readTo G d fcb e t j r
   unfolding readTo
   read-empty b q h =
-      sym (ap (λ (b : Bool). cond b (Follow (goTo e t (arrivedSlot d fcb e t j))) (Refuse NoRecord)) (and-fails-right _ _ (ap not (eq-eqb _ _ (sym q ∙ h)))))
+      sym (ap (λ (b : Bool). cond b (Follow (goTo e t (arrivedSlot G d fcb e t j))) (Refuse NoRecord)) (and-fails-right _ _ (ap not (eq-eqb _ _ (sym q ∙ h)))))
 
-  pub read-there : (x b : ℕ) (p : Plan) → x ≡ arrivedCount G d fcb e t ext → r < x → b ≡ arrivedSlot d fcb e t j → (b ≡ 0 → ⊥)
-      → p ≡ goTo e t b → Follow p ≡ readTo G d fcb e t ext j r
+  pub read-there : (x b : ℕ) (p : Plan) → x ≡ arrivedCount d fcb e t → r < x → b ≡ arrivedSlot G d fcb e t j → (b ≡ 0 → ⊥)
+      → p ≡ goTo e t b → Follow p ≡ readTo G d fcb e t j r
   unfolding readTo
   read-there x b p q h s real is =
-      let y : ltb r (arrivedCount G d fcb e t ext) ≡ true = rw (← q) (lt-ltb r x h) in
+      let y : ltb r (arrivedCount d fcb e t) ≡ true = rw (← q) (lt-ltb r x h) in
       ap Follow (is ∙ ap (goTo e t) s)
-      ∙ sym (ap (λ (b : Bool). cond b (Follow (goTo e t (arrivedSlot d fcb e t j))) (Refuse NoRecord))
+      ∙ sym (ap (λ (b : Bool). cond b (Follow (goTo e t (arrivedSlot G d fcb e t j))) (Refuse NoRecord))
       (and-both _ _ y (ap not (ne-eqb _ _ (λ z. real (s ∙ z))))))
 
 module _ (d : Rows) (e : ℕ) (target : Found) where

@@ -59,9 +59,9 @@ module _ (G : Geometry) (n user : ℕ) (l : Lent) where
 
 -- ---- the ruling once the FCB's entry is known: e
 -- reading record r of the extent, in slot j
-unfoldable pub readTo : Geometry → Rows → Bytes → ℕ → ℕ → ℕ → ℕ → ℕ → Ruling
-readTo G d fcb e t ext j r =
-    cond (ltb r (arrivedCount G d fcb e t ext) and not (eqb (arrivedSlot d fcb e t j) 0)) (Follow (goTo e t (arrivedSlot d fcb e t j)))
+unfoldable pub readTo : Geometry → Rows → Bytes → ℕ → ℕ → ℕ → ℕ → Ruling
+readTo G d fcb e t j r =
+    cond (ltb r (arrivedCount d fcb e t) and not (eqb (arrivedSlot G d fcb e t j) 0)) (Follow (goTo e t (arrivedSlot G d fcb e t j)))
     (Refuse NoRecord)
 
 -- a look-up's answer, where it has found something, is below n
@@ -90,5 +90,5 @@ writeNew G d map code e = madeAt G map code e (findEmpty G d)
 
 -- writing into slot j of the target's entry
 abbrev pub writeTo : Geometry → Rows → Bytes → Bytes → Code → ℕ → ℕ → Found → Ruling
-writeTo G d map fcb code e j (At t) = withBlock (goTo e t) (blockFor G map (arrivedSlot d fcb e t j))
+writeTo G d map fcb code e j (At t) = withBlock (goTo e t) (blockFor G map (arrivedSlot G d fcb e t j))
 writeTo G d map fcb code e j Nothing = writeNew G d map code e

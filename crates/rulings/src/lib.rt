@@ -21,19 +21,11 @@ pub enum Ruling {
 }
 
 // Reading record r of an extent that has entry t, in slot j.
-fn read_to(
-    image: &[u8],
-    fcb: &[u8],
-    e: usize,
-    t: usize,
-    extent: usize,
-    j: usize,
-    r: usize,
-) -> Ruling
+fn read_to(image: &[u8], fcb: &[u8], e: usize, t: usize, j: usize, r: usize) -> Ruling
     requires { ⌜ (length (now image) ≡ imageBytes eightInch) × (length (now fcb) ≡ fcbBytes) × (t < eightInch .entries) × (j < slotCount) ⌝ }
-    ensures { λ o. ⌜ o ≡ readTo eightInch (entryAt eightInch (now (image .entry))) (now (fcb .entry)) e t extent j r ⌝ }
+    ensures { λ o. ⌜ o ≡ readTo eightInch (entryAt eightInch (now (image .entry))) (now (fcb .entry)) e t j r ⌝ }
 {
-    if lists::wide(targets::arrived_count(image, fcb, e, t, extent)) <= r {
+    if lists::wide(targets::arrived_count(image, fcb, e, t)) <= r {
         return Ruling::Refuse(Code::NoRecord);
     }
     let slot = targets::arrived_slot(image, fcb, e, t, j);
@@ -69,7 +61,7 @@ pub fn rule_read(
         return Ruling::Refuse(targets::missing(number, Code::NoExtent));
     };
     let j = entries::slot_for(extent, at);
-    read_to(image, fcb, e, t, extent, j, at)
+    read_to(image, fcb, e, t, j, at)
 }
 
 // Whether t1' is set in the FCB's entry or in the target's.

@@ -18,10 +18,11 @@ use model::Answer;
 use model::Code;
 use model::Session;
 
-// Whether byte 12 of a pattern asks for a row's extent: 3FH for any, another value for the same ex where s2 is 0.
+// Whether byte 12 of a pattern asks for a row's extent: 3FH for any, another value for the same ex where s2 is 0, which is the row that covers
+// that extent.
 fn extent_hit(x: u8, row: &[u8]) -> bool
     requires { ⌜ entryBytes ≤ length (now row) ⌝ }
-    ensures { λ r. ⌜ r ≡ extentHit x (now (row .entry)) ⌝ }
+    ensures { λ r. ⌜ r ≡ extentHit eightInch x (now (row .entry)) ⌝ }
 {
     if x == 63 {
         return true;
@@ -35,7 +36,7 @@ fn extent_hit(x: u8, row: &[u8]) -> bool
 // Whether a row is the user's and matches a pattern. The name is compared last: it takes longest.
 fn hit(user: u8, pattern: &[u8], row: &[u8]) -> bool
     requires { ⌜ (patternBytes ≤ length (now pattern)) × (entryBytes ≤ length (now row)) ⌝ }
-    ensures { λ r. ⌜ r ≡ hit user (now (pattern .entry)) (now (row .entry)) ⌝ }
+    ensures { λ r. ⌜ r ≡ hit eightInch user (now (pattern .entry)) (now (row .entry)) ⌝ }
 {
     if row[0] != user {
         return false;

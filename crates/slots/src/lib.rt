@@ -9,7 +9,7 @@ ghost use Rattle.slots.specs.Slots.{slotsSame};
 // Whether slot j of an FCB is entry e's, or holds a block that is pending for it where the entry has none.
 fn slot_fits(map: &[u16], e: usize, es: [u8; 16], fs: [u8; 16], j: usize) -> bool
     requires { ⌜ (e < eightInch .entries) × (j < slotCount) ⌝ }
-    ensures { λ r. ⌜ r ≡ slotFits (now (map .entry)) e es fs j ⌝ }
+    ensures { λ r. ⌜ r ≡ slotFits eightInch (now (map .entry)) e es fs j ⌝ }
 {
     if fs[j] == es[j] {
         return true;
@@ -45,7 +45,7 @@ pub fn slots_same(es: [u8; 16], fs: [u8; 16]) -> bool
 // Whether every slot of an FCB fits entry e.
 pub fn slots_fit(map: &[u16], e: usize, es: [u8; 16], fs: [u8; 16]) -> bool
     requires { ⌜ e < eightInch .entries ⌝ }
-    ensures { λ r. ⌜ r ≡ slotsFit (now (map .entry)) e es fs ⌝ }
+    ensures { λ r. ⌜ r ≡ slotsFit eightInch (now (map .entry)) e es fs ⌝ }
 {
     let mut j = 0;
     while j < format::SLOTS {

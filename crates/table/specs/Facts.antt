@@ -4,7 +4,7 @@ use mathlib.Core.Logic.{_⊎_}
 use mathlib.Core.Bool.{Bool, true, false}
 use Prim.Native.Nat.{ℕ, _≤_, _<_}
 use lib.ListN.{length, getD}
-use Rattle.format.specs.Diskette.{Geometry, imageBytes, recordBytes, extents}
+use Rattle.format.specs.Diskette.{Geometry, recordBytes, extents, Long}
 use Rattle.format.specs.Names.{nameRight}
 use Rattle.format.specs.Entries.{exOf, s2Of, named, readOnly, findNamed, findEmpty}
 use Rattle.format.specs.Consistent.{consistent}
@@ -21,7 +21,7 @@ use Rattle.table.specs.Own.{Call, call13, call15, call16, call17, call18
 
 -- the lengths, the user and the search place are right
 pub record Fits (G : Geometry) (l : Lent) (s : Session) : Type 0 where
-  pub image-long : length (l .image) ≡ imageBytes G
+  pub image-long : Long G (l .image)
   pub map-long : length (l .map) ≡ G .blocks
   pub fcb-long : length (l .fcb) ≡ fcbBytes
   pub buffer-long : length (l .buffer) ≡ recordBytes

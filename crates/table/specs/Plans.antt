@@ -17,7 +17,7 @@ use Rattle.model.specs.declared.Plan.{Plan}
 use Rattle.model.specs.declared.Plan.the-variants.{Stay, Move, Make}
 use Rattle.model.specs.Lent.{Lent, rowsOf}
 use Rattle.model.specs.Target.{targetRecord, presentEntry, stays, targetEntry, blockThere, countThere, recordThere, targetBlock, planTo, planFrom, plan}
-use Rattle.table.specs.Present.{target-present}
+use Rattle.table.specs.Present.{stays-within, target-present}
 use Rattle.table.specs.Facts.{Reads, Writes}
 
 module _ (G : Geometry) (n user : ℕ) (l : Lent) where
@@ -45,7 +45,7 @@ module _ (G : Geometry) (n user : ℕ) (l : Lent) where
     unfolding plan planFrom
     planned =
         rw at (split (bool-cases (stays n (l .fcb)))
-        (λ t. rw t (stay e (targetBlock G n user l) at t (target-present G n user l e at t) block))
+        (λ t. rw t (stay e (targetBlock G n user l) at t (target-present G n user l e at (stays-within G n user l t)) block))
         (λ f. rw f (planned-to f (targetEntry G n user l) refl)))
 
   pub target-block : (blockThere G n user l ≡ 0 → FoundAt (findFree G (l .map))) → Block (targetBlock G n user l)

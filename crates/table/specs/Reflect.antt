@@ -15,6 +15,7 @@ use Rattle.format.specs.Entries.{named, readOnly, findNamed}
 use Rattle.format.specs.Consistent.{consistent}
 use Rattle.format.specs.Notes.{mapRight}
 use Rattle.format.specs.Found.{isFound}
+use Rattle.facts.specs.Long.{long-says, long-is}
 use Rattle.facts.specs.Found.{FoundAt, found-row, missed-row, is-found, not-found, none-says, none-is}
 use Rattle.format.specs.declared.Found.{Found}
 use Rattle.format.specs.declared.Found.the-variants.{At, Nothing}
@@ -60,7 +61,7 @@ module _ (G : Geometry) (n : ℕ) (l : Lent) (s : Session) where
       let p = and-left _ _ h in
       let t = and-right _ _ h in
       record {
-        image-long = eqb-true _ _ (and-left _ _ p);
+        image-long = long-says G (l .image) (and-left _ _ p);
         map-long = eqb-true _ _ (and-left _ _ (and-right _ _ p));
         fcb-long = eqb-true _ _ (and-left _ _ (and-right _ _ (and-right _ _ p)));
         buffer-long = eqb-true _ _ (and-right _ _ (and-right _ _ (and-right _ _ p)));
@@ -79,7 +80,7 @@ module _ (G : Geometry) (n : ℕ) (l : Lent) (s : Session) where
   unfolding parametersRight lengthsRight
   parameters-right f d =
       and-both _ _
-      (and-both _ _ (eq-eqb _ _ (f .image-long)) (and-both _ _ (eq-eqb _ _ (f .map-long)) (and-both _ _ (eq-eqb _ _ (f .fcb-long)) (eq-eqb _ _ (f .buffer-long)))))
+      (and-both _ _ (long-is G (l .image) (f .image-long)) (and-both _ _ (eq-eqb _ _ (f .map-long)) (and-both _ _ (eq-eqb _ _ (f .fcb-long)) (eq-eqb _ _ (f .buffer-long)))))
       (and-both _ _ (le-leb _ _ (f .user-low)) (and-both _ _ (le-leb _ _ (f .place-low)) (drive-right d)))
 
   -- ---- the image and the map

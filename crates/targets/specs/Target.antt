@@ -5,7 +5,7 @@ use Prim.Native.Nat.{ℕ, max}
 use lib.Dec.{eqb, leb}
 use Rattle.lists.specs.Tests.{_and_}
 use Rattle.format.specs.Diskette.{Bytes, Geometry, extents}
-use Rattle.format.specs.Entries.{Rows, countOf, slotOf, countIn}
+use Rattle.format.specs.Entries.{Rows, slotOf, countOf}
 use Rattle.model.specs.declared.Code.{Code}
 use Rattle.model.specs.declared.Code.the-variants.{NoRecord}
 use Rattle.model.specs.declared.Plan.{Plan}
@@ -27,13 +27,14 @@ overLast n ext = isRandom n and leb extents ext
 unfoldable pub missingCode : ℕ → Code → Code
 missingCode n random = cond (isRandom n) random NoRecord
 
--- ---- from the FCB's entry e to the target's entry t: they are one exactly where there is no move
+-- ---- from the FCB's entry e to the target's entry t, on a disk whose entries cover one extent each: they are one exactly where there is no
+-- move, and each carries the count of the extent that it is asked for
 -- the slot and the count as the FCB has them once it has come there: its own, or those of the entry moved to
-unfoldable pub arrivedSlot : Rows → Bytes → ℕ → ℕ → ℕ → ℕ
-arrivedSlot d fcb e t j = cond (eqb t e) (slotOf fcb j) (slotOf (d t) j)
+unfoldable pub arrivedSlot : Geometry → Rows → Bytes → ℕ → ℕ → ℕ → ℕ
+arrivedSlot G d fcb e t j = cond (eqb t e) (slotOf G fcb j) (slotOf G (d t) j)
 
-unfoldable pub arrivedCount : Geometry → Rows → Bytes → ℕ → ℕ → ℕ → ℕ
-arrivedCount G d fcb e t ext = cond (eqb t e) (max (countOf fcb) (countIn G (d t) ext)) (countIn G (d t) ext)
+unfoldable pub arrivedCount : Rows → Bytes → ℕ → ℕ → ℕ
+arrivedCount d fcb e t = cond (eqb t e) (max (countOf fcb) (countOf (d t))) (countOf (d t))
 
 unfoldable pub goTo : ℕ → ℕ → ℕ → Plan
 goTo e t b = cond (eqb t e) (Stay e b) (Move e t b)

@@ -119,7 +119,7 @@ pub fn larger(x: u8, y: u8) -> u8
 // Slot j as the FCB has it once it has come from entry e to entry t.
 pub fn arrived_slot(image: &[u8], fcb: &[u8], e: usize, t: usize, j: usize) -> u8
     requires { ⌜ (length (now image) ≡ imageBytes eightInch) × (length (now fcb) ≡ fcbBytes) × (t < eightInch .entries) × (j < slotCount) ⌝ }
-    ensures { λ r. ⌜ r ≡ arrivedSlot (entryAt eightInch (now (image .entry))) (now (fcb .entry)) e t j ⌝ }
+    ensures { λ r. ⌜ r ≡ arrivedSlot eightInch (entryAt eightInch (now (image .entry))) (now (fcb .entry)) e t j ⌝ }
 {
     if t == e {
         return fcb[16 + j];
@@ -128,11 +128,11 @@ pub fn arrived_slot(image: &[u8], fcb: &[u8], e: usize, t: usize, j: usize) -> u
 }
 
 // The larger of the counts that the FCB, come from entry e to entry t, and that entry have.
-pub fn arrived_count(image: &[u8], fcb: &[u8], e: usize, t: usize, extent: usize) -> u8
+pub fn arrived_count(image: &[u8], fcb: &[u8], e: usize, t: usize) -> u8
     requires { ⌜ (length (now image) ≡ imageBytes eightInch) × (length (now fcb) ≡ fcbBytes) × (t < eightInch .entries) ⌝ }
-    ensures { λ r. ⌜ r ≡ arrivedCount eightInch (entryAt eightInch (now (image .entry))) (now (fcb .entry)) e t extent ⌝ }
+    ensures { λ r. ⌜ r ≡ arrivedCount (entryAt eightInch (now (image .entry))) (now (fcb .entry)) e t ⌝ }
 {
-    let count = entries::count_in(rows::row(image, t), extent);
+    let count = entries::count_of(rows::row(image, t));
     if t == e {
         return larger(entries::count_of(fcb), count);
     }

@@ -3,6 +3,7 @@ ghost use mathlib.Core.Path.{_≡_};
 ghost use Prim.Native.Nat.{_*_, _≤_, _<_};
 ghost use lib.ListN.{length};
 ghost use Rattle.format.specs.Diskette.{Bytes, eightInch, imageBytes, recordBytes, slotCount, extentRecords};
+ghost use Rattle.format.specs.Entries.{entryAt, extentOf};
 ghost use Rattle.format.specs.Fcb.{fcbBytes};
 ghost use Rattle.model.specs.Lent.{lend};
 ghost use Rattle.model.specs.Target.{placeIn, haveRead, writtenFcb, writtenMap, haveWritten};
@@ -29,7 +30,7 @@ pub fn read_at(image: &[u8], fcb: &mut [u8], buffer: &mut [u8], b: usize, r: usi
 // A block that a slot of 0 takes is noted pending for its entry and slot.
 fn note_block(map: &mut [u16], fcb: &[u8], t: usize, j: usize, b: usize)
     requires { ⌜ (length (now map) ≡ eightInch .blocks) × (length (now fcb) ≡ fcbBytes) × (t < eightInch .entries) × (j < slotCount) × (b < eightInch .blocks) ⌝ }
-    ensures { λ _. ⌜ now (map .exit) ≡ writtenMap (now (map .entry)) (now (fcb .entry)) t j b ⌝ }
+    ensures { λ _. ⌜ now (map .exit) ≡ writtenMap eightInch (now (map .entry)) (now (fcb .entry)) t j b ⌝ }
 {
     if fcb[16 + j] != 0 {
         return;
@@ -37,12 +38,11 @@ fn note_block(map: &mut [u16], fcb: &[u8], t: usize, j: usize, b: usize)
     notes::set_note(map, b, notes::pending_note(t, j));
 }
 
-// The FCB after a write of record r: the block in its slot, the largest count, and cr.
-fn set_written(fcb: &mut [u8], row: [u8; 32], j: usize, b: usize, r: usize, cr: usize)
+// The FCB after a write of record r: the block in its slot, the largest count, and cr. What its entry counts in its extent is handed in.
+fn set_written(fcb: &mut [u8], count: u8, j: usize, b: usize, r: usize, cr: usize)
     requires { ⌜ (length (now fcb) ≡ fcbBytes) × (j < slotCount) × (b < eightInch .blocks) × (r < extentRecords) × (cr ≤ extentRecords) ⌝ }
-    ensures { λ _. ⌜ now (fcb .exit) ≡ writtenFcb eightInch (now (fcb .entry)) row j b r cr ⌝ }
+    ensures { λ _. ⌜ now (fcb .exit) ≡ writtenFcb eightInch (now (fcb .entry)) count j b r cr ⌝ }
 {
-    let count = entries::count_in(&row, entries::extent(fcb));
     let rc = targets::larger(
         targets::larger(entries::count_of(fcb), count),
         (r + 1) as u8,
@@ -52,7 +52,7 @@ fn set_written(fcb: &mut [u8], row: [u8; 32], j: usize, b: usize, r: usize, cr: 
     fcb[32] = cr as u8;
 }
 
-// Writing record r of the extent that the FCB has come to, entry t, in slot j and block b.
+// Writing record r of the extent that the FCB has come to, entry t's own, in slot j and block b.
 pub fn write_at(
     image: &mut [u8],
     map: &mut [u16],
@@ -66,12 +66,12 @@ pub fn write_at(
 )
     requires { ⌜ (length (now image) ≡ imageBytes eightInch) × (length (now map) ≡ eightInch .blocks) × (length (now fcb) ≡ fcbBytes)
         × (length (now buffer) ≡ recordBytes) × (t < eightInch .entries) × (j < slotCount) × (b < eightInch .blocks) × (r < extentRecords)
-        × (cr ≤ extentRecords) ⌝ }
+        × (cr ≤ extentRecords) × (extentOf (now fcb) ≡ extentOf (entryAt eightInch (now image) t)) ⌝ }
     ensures { λ _. ⌜ lend (now (image .exit)) (now (map .exit)) (now (fcb .exit)) (now (buffer .entry))
         ≡ haveWritten eightInch t j b r cr (lend (now (image .entry)) (now (map .entry)) (now (fcb .entry)) (now (buffer .entry))) ⌝ }
 {
-    let row = rows::copy_row(image, t);
+    let count = entries::count_of(rows::row(image, t));
     disk::write_record(image, place_in(b, r), buffer);
     note_block(map, fcb, t, j, b);
-    set_written(fcb, row, j, b, r, cr);
+    set_written(fcb, count, j, b, r, cr);
 }

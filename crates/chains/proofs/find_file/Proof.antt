@@ -8,6 +8,7 @@ use Rattle.format.specs.Diskette.{eightInch}
 use Rattle.format.specs.Entries.{Rows, entryAt}
 use Rattle.keys.specs.Key.{fileKey, asked-below}
 use Rattle.facts.specs.Find.{fileTest}
+use Rattle.facts.specs.Naming.{run-own}
 use Rattle.chains.specs.Chain.{keyIn}
 use Rattle.chains.specs.Walk.{Walk, walk-all, walk-more, walk-less, file-only, find-hit, find-end}
 use Rattle.chains.proofs.find_file.Statement.{statement}
@@ -41,7 +42,7 @@ wide-requires c κs = search needs
 
 -- what the laws of the walk ask for
 only : (a : tie.Start Inv-loop μ-loop) (g : ℕ) → test a g ≡ true → keyIn (rows a) g ≡ asked a
-only a = file-only eightInch (rows a) (a .args .user) (a .args .s .now) (a .args .q) (a .args .ext) (a .pre .2)
+only a = file-only eightInch (rows a) (a .args .user) (a .args .s .now) (a .args .q) (a .args .ext) (a .pre .2) run-own
 
 loop-holds : tie.Need-loop-holds Inv-loop μ-loop
 loop-holds c =

@@ -7,6 +7,7 @@ use borrow.Author.Needs.{needs}
 use Rattle.format.specs.Diskette.{eightInch}
 use Rattle.format.specs.Entries.{Rows, entryAt, used}
 use Rattle.format.specs.Consistent.{sameFile}
+use Rattle.facts.specs.Naming.{run-own}
 use Rattle.keys.specs.Key.{keyOf, key-below}
 use Rattle.chains.specs.Walk.{Walk, walk-used, walk-before, walk-more, walk-less, sameAs, same-only, alone-hit, alone-end}
 use Rattle.chains.proofs.is_alone.Statement.{statement}
@@ -36,7 +37,7 @@ loop-holds : tie.Need-loop-holds Inv-loop μ-loop
 loop-holds c =
     let a = c .before .before .before .before .before in let d = rows a in let e = a .args .e in
     let u : used (d e) ≡ true = rw (a .pre .3) at (a .pre .4) in
-    rw (c .wide .ensures .0) (walk-before eightInch d (sameAs eightInch d e) (keyOf (d e)) e (key-below (d e)) (same-only eightInch d e) (e + 1) (a .args .chain .now) (a .pre .5) (omega arith) u refl)
+    rw (c .wide .ensures .0) (walk-before eightInch d (sameAs eightInch d e) (keyOf (d e)) e (key-below (d e)) (same-only eightInch d e run-own) (e + 1) (a .args .chain .now) (a .pre .5) (omega arith) u refl)
 
 sub-row : tie.Need-sub-row Inv-loop μ-loop
 sub-row c = omega arith
@@ -47,7 +48,7 @@ row-requires c κs = search needs
 same-file-requires : tie.Need-same-file-requires Inv-loop μ-loop
 same-file-requires c κs =
     let a = c .before .before .before .before .before .before .before .before in let b = c .before .before in let d = rows a in let e = a .args .e in
-    (omega arith, omega arith, a .pre .4, rw (c .row .ensures .0) (walk-used eightInch d (sameAs eightInch d e) (keyOf (d e)) e (key-below (d e)) (same-only eightInch d e) (b .loop .f) (b .loop .inv) (omega arith)))
+    (omega arith, omega arith, a .pre .4, rw (c .row .ensures .0) (walk-used eightInch d (sameAs eightInch d e) (keyOf (d e)) e (key-below (d e)) (same-only eightInch d e run-own) (b .loop .f) (b .loop .inv) (omega arith)))
 
 returns : tie.Need-returns Inv-loop μ-loop
 returns c =
@@ -72,13 +73,13 @@ wide-requires-2 c κs = search needs
 loop-less : tie.Need-loop-less Inv-loop μ-loop
 loop-less c =
     let a = c .before .before .before .before .before .before .before .before .before .before .before .before in let b = c .before .before .before .before .before .before in let d = rows a in let e = a .args .e in
-    omega (arith, walk-less eightInch d (sameAs eightInch d e) (keyOf (d e)) e (key-below (d e)) (same-only eightInch d e) (e + 1) (a .args .chain .now) (a .pre .5) (omega arith) (b .loop .f) (b .loop .inv) (omega arith))
+    omega (arith, walk-less eightInch d (sameAs eightInch d e) (keyOf (d e)) e (key-below (d e)) (same-only eightInch d e run-own) (e + 1) (a .args .chain .now) (a .pre .5) (omega arith) (b .loop .f) (b .loop .inv) (omega arith))
 
 loop-again : tie.Need-loop-again Inv-loop μ-loop
 loop-again c =
     let a = c .before .before .before .before .before .before .before .before .before .before .before .before in let b = c .before .before .before .before .before .before in let d = rows a in let e = a .args .e in
     let h : sameFile eightInch (d e) (d (b .loop .f - 1)) ≡ false = rw (c .before .before .before .same-file .ensures, c .before .before .before .before .row .ensures .0, a .pre .3) at (c .before .before .if1 .left) in
-    rw (c .wide2 .ensures .0) (walk-more eightInch d (sameAs eightInch d e) (keyOf (d e)) e (key-below (d e)) (same-only eightInch d e) (e + 1) (a .args .chain .now) (a .pre .5) (omega arith) (b .loop .f) (b .loop .inv) (omega arith) h)
+    rw (c .wide2 .ensures .0) (walk-more eightInch d (sameAs eightInch d e) (keyOf (d e)) e (key-below (d e)) (same-only eightInch d e run-own) (e + 1) (a .args .chain .now) (a .pre .5) (omega arith) (b .loop .f) (b .loop .inv) (omega arith) h)
 
 returns-2 : tie.Need-returns-2 Inv-loop μ-loop
 returns-2 c =

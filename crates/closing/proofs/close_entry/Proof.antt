@@ -1,9 +1,30 @@
--- `closing::close_entry` meets its contract: the row is taken before the image is changed.
-use borrow.Author.Needs.{needs}
+-- `closing::close_entry` meets its contract: where the close would change nothing, nothing is done; else the row is taken before the image is
+-- changed.
+use mathlib.Core.Path.{_≡_, sym, _∙_}
+use mathlib.Core.Bool.{true}
 use Rattle.format.specs.Diskette.{eightInch}
-use Rattle.closing.specs.Laws.{closed-image, closed-map}
+use Rattle.format.specs.Entries.{entryAt}
+use Rattle.disk.specs.Eight.{eight-sound}
+use Rattle.closing.specs.Laws.{closeKeeps, kept-map, kept-image, closed-image, closed-map}
+use borrow.Author.Needs.{needs}
 use Rattle.closing.proofs.close_entry.Statement.{statement}
 use Rattle.closing.proofs.close_entry.Tie as tie
+
+row-requires : tie.Need-row-requires
+row-requires c κs = search needs
+
+close-keeps-requires : tie.Need-close-keeps-requires
+close-keeps-requires c κs = search needs
+
+same-length : tie.Need-same-length
+same-length c = search needs
+
+returns : tie.Need-returns
+returns c =
+    let s = c .before .before .before .before .before .before .before in
+    let h : closeKeeps (entryAt eightInch (s .args .image .now) (s .args .e)) (s .args .fcb .now) ≡ true =
+    sym (rw (c .before .before .row .ensures .0) at (c .before .close-keeps .ensures)) ∙ c .if1 .taken in
+    (kept-image eight-sound (s .args .image .now) (s .pre .0) (s .args .e) (s .pre .2) (s .args .fcb .now) h, sym (kept-map eightInch _ _ h (s .args .map .now)))
 
 copy-row-requires : tie.Need-copy-row-requires
 copy-row-requires c κs = search needs
@@ -26,28 +47,35 @@ closed-row-requires c κs = search needs
 store-row-requires : tie.Need-store-row-requires
 store-row-requires c κs = search needs
 
-same-length : tie.Need-same-length
-same-length c = search needs
-
 same-length-2 : tie.Need-same-length-2
 same-length-2 c = search needs
 
-returns : tie.Need-returns
-returns c =
-    let a = c .before .before .before .before .before .before .before .before .before .before .before .before .before .before .before .before .before .args in
-    let row = c .before .before .before .before .before .before .before .before .before .before .before .before .copy-row in
-    let es = c .before .before .before .before .before .before .before .before .before .slots in
-    let fs = c .before .before .before .before .before .before .before .before .slots2 in (
-      closed-image eightInch (a .image .now) (a .fcb .now) (row .result) (c .before .before .before .closed-row .result) (c .before .before .store-row .last .0) (a .e)
-          (row .ensures) (c .before .before .before .closed-row .ensures) (c .before .before .store-row .ensures),
-      closed-map eightInch (a .image .now) (a .fcb .now) (row .result) (es .result) (fs .result) (a .map .now) (c .before .before .before .before .before .before .before .record-blocks .last .0) (a .e)
-          (row .ensures) (es .ensures) (fs .ensures) (c .before .before .before .before .before .before .before .record-blocks .ensures),
+same-length-3 : tie.Need-same-length-3
+same-length-3 c = search needs
+
+returns-2 : tie.Need-returns-2
+returns-2 c =
+    let stored = c .before .before in
+    let closed = stored .before in
+    let noted = closed .before .before .before .before in
+    let fs = noted .before in
+    let es = fs .before in
+    let row = es .before .before .before in
+    let a = row .before .before .before .before .before .before .before .before .before .args in (
+      closed-image eightInch (a .image .now) (a .fcb .now) (row .copy-row .result) (closed .closed-row .result) (stored .store-row .last .0) (a .e)
+          (row .copy-row .ensures) (closed .closed-row .ensures) (stored .store-row .ensures),
+      closed-map eightInch (a .image .now) (a .fcb .now) (row .copy-row .result) (es .slots .result) (fs .slots2 .result) (a .map .now)
+          (noted .record-blocks .last .0) (a .e) (row .copy-row .ensures) (es .slots .ensures) (fs .slots2 .ensures) (noted .record-blocks .ensures),
     )
 
 pub close-entry-spec : {M : Type 1} → statement M
 close-entry-spec =
     tie.close
     (tie.spec
+    row-requires
+    close-keeps-requires
+    same-length
+    returns
     copy-row-requires
     slice-aggregate-slots
     slots-requires
@@ -55,6 +83,6 @@ close-entry-spec =
     record-blocks-requires
     closed-row-requires
     store-row-requires
-    same-length
     same-length-2
-    returns)
+    same-length-3
+    returns-2)

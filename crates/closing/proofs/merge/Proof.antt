@@ -5,14 +5,14 @@ use native.Mathlib.Omega.{arith}
 use lib.ListN.{length, length-set}
 use borrow.Author.Needs.{needs}
 use Rattle.lists.specs.Tab.{Filled, filled-none, filled-more, filled-all}
-use Rattle.format.specs.Diskette.{slotCount}
-use Rattle.model.specs.Closing.{mergedSlot, mergedSlots}
+use Rattle.format.specs.Diskette.{eightInch, slotCount}
+use Rattle.model.specs.Closing.{mergedByte, mergedSlots}
 use Rattle.closing.specs.Laws.{same-merged}
 use Rattle.closing.proofs.merge.Statement.{statement}
 use Rattle.closing.proofs.merge.Tie as tie
 
 abbrev Inv-loop : tie.InvT-loop
-Inv-loop es fs r₀ j₀ r j = Filled (mergedSlot es fs) r₀ j r × (j ≤ slotCount) × (length r ≡ slotCount)
+Inv-loop es fs r₀ j₀ r j = Filled (mergedByte eightInch es fs) r₀ j r × (j ≤ slotCount) × (length r ≡ slotCount)
 
 abbrev μ-loop : tie.MeasureT-loop
 μ-loop es fs r₀ j₀ r j = slotCount - j
@@ -21,13 +21,13 @@ slots-same-requires : tie.Need-slots-same-requires Inv-loop μ-loop
 slots-same-requires c κs = search needs
 
 returns : tie.Need-returns Inv-loop μ-loop
-returns c = let a = c .before .before .args in same-merged (a .es) (a .fs) (sym (c .before .slots-same .ensures) ∙ c .if1 .taken) (omega arith)
+returns c = let a = c .before .before .args in same-merged eightInch (a .es) (a .fs) (omega arith) (omega arith) (sym (c .before .slots-same .ensures) ∙ c .if1 .taken) (omega arith)
 
 loop-holds : tie.Need-loop-holds Inv-loop μ-loop
 loop-holds c = (filled-none _ _, omega arith, refl)
 
-merged-slot-requires : tie.Need-merged-slot-requires Inv-loop μ-loop
-merged-slot-requires c κs = search needs
+merged-byte-requires : tie.Need-merged-byte-requires Inv-loop μ-loop
+merged-byte-requires c κs = search needs
 
 array-write-r : tie.Need-array-write-r Inv-loop μ-loop
 array-write-r c = omega arith
@@ -41,7 +41,7 @@ loop-less c = omega arith
 loop-again : tie.Need-loop-again Inv-loop μ-loop
 loop-again c =
     let l = c .before .before .loop in
-    (filled-more _ _ (l .j) (l .r) (c .merged-slot .result) (omega arith) (c .merged-slot .ensures) (l .inv .0), omega arith, simp length-set (l .inv .2))
+    (filled-more _ _ (l .j) (l .r) (c .merged-byte .result) (omega arith) (c .merged-byte .ensures) (l .inv .0), omega arith, simp length-set (l .inv .2))
 
 returns-2 : tie.Need-returns-2 Inv-loop μ-loop
 unfolding mergedSlots
@@ -56,7 +56,7 @@ merge-spec =
     slots-same-requires
     returns
     loop-holds
-    merged-slot-requires
+    merged-byte-requires
     array-write-r
     add-j
     loop-less

@@ -1,4 +1,5 @@
 -- `closing::record_block` meets its contract: a number past the last block changes no note.
+use Rattle.format.specs.Entries.{slotIn}
 use mathlib.Core.Path.{sym, ap, _∙_}
 use Prim.Native.Nat.{ℕ}
 use native.Mathlib.Omega.{arith}
@@ -15,7 +16,7 @@ takes-slot-requires : tie.Need-takes-slot-requires
 takes-slot-requires c κs = search needs
 
 returns : tie.Need-returns
-unfolding closedNote
+unfolding closedNote slotIn
 returns c = let t = sym (c .before .takes-slot .ensures) ∙ not-true _ (c .if1 .taken) in rw t
 
 array-read-wide : tie.Need-array-read-wide
@@ -31,14 +32,14 @@ same-length : tie.Need-same-length
 same-length c = search needs
 
 returns-2 : tie.Need-returns-2
-unfolding closedNote
+unfolding closedNote slotIn
 returns-2 c =
     let a = c .before .before .before .before .before .before .before .before .before .args in
     let t = sym (c .before .before .before .before .before .before .before .takes-slot .ensures) ∙ not-false _ (c .before .before .before .before .before .before .if1 .left) in
     rw t (c .before .before .set-note .ensures ∙ ap (λ (b : ℕ). withNote (a .map .now) b recordedNote) (c .before .before .before .before .before .wide .ensures .0))
 
 returns-3 : tie.Need-returns-3
-unfolding closedNote
+unfolding closedNote slotIn
 returns-3 c =
     let a = c .before .before .before .before .before .args in
     let t = sym (c .before .before .before .takes-slot .ensures) ∙ not-false _ (c .before .before .if1 .left) in

@@ -5,14 +5,14 @@ use native.Mathlib.Omega.{arith}
 use lib.ListN.{length}
 use borrow.Author.Needs.{needs}
 use Rattle.lists.specs.Fold.{foldBelow, fold-none, fold-next, fold-done}
-use Rattle.format.specs.Diskette.{Bytes, slotCount}
+use Rattle.format.specs.Diskette.{Bytes, slotCount, eightInch}
 use Rattle.model.specs.Closing.{closedNote}
 use Rattle.closing.specs.Laws.{same-recorded}
 use Rattle.closing.proofs.record_blocks.Statement.{statement}
 use Rattle.closing.proofs.record_blocks.Tie as tie
 
 abbrev Inv-loop : tie.InvT-loop
-Inv-loop map₀ es fs j₀ map j = (map ≡ foldBelow (closedNote es fs) map₀ j) × (j ≤ slotCount) × (length map ≡ length map₀)
+Inv-loop map₀ es fs j₀ map j = (map ≡ foldBelow (closedNote eightInch es fs) map₀ j) × (j ≤ slotCount) × (length map ≡ length map₀)
 
 abbrev μ-loop : tie.MeasureT-loop
 μ-loop map₀ es fs j₀ map j = slotCount - j
@@ -21,7 +21,7 @@ slots-same-requires : tie.Need-slots-same-requires Inv-loop μ-loop
 slots-same-requires c κs = search needs
 
 returns : tie.Need-returns Inv-loop μ-loop
-returns c = let a = c .before .before .before .args in same-recorded (a .es) (a .fs) (sym (c .before .slots-same .ensures) ∙ c .if1 .taken) (a .map .now)
+returns c = let a = c .before .before .before .args in same-recorded eightInch (a .es) (a .fs) (omega arith) (omega arith) (sym (c .before .slots-same .ensures) ∙ c .if1 .taken) (a .map .now)
 
 loop-holds : tie.Need-loop-holds Inv-loop μ-loop
 loop-holds c = (sym (fold-none _ _), omega arith, refl)
@@ -39,7 +39,7 @@ loop-again : tie.Need-loop-again Inv-loop μ-loop
 loop-again c =
     let l = c .before .before .before .before .before .loop in
     let a = c .before .before .before .before .before .before .before .before .before .args in
-    let f = closedNote (a .es) (a .fs) in
+    let f = closedNote eightInch (a .es) (a .fs) in
     (c .before .before .record-block .ensures ∙ ap (λ (m : Bytes). f m (l .j)) (l .inv .0) ∙ sym (fold-next f (a .map .now) (l .j)), omega arith, c .before .before .record-block .kept .0 ∙ l .inv .2)
 
 same-length : tie.Need-same-length Inv-loop μ-loop
@@ -49,7 +49,7 @@ returns-2 : tie.Need-returns-2 Inv-loop μ-loop
 returns-2 c =
     let l = c .before .loop in
     let a = c .before .before .before .before .before .args in
-    fold-done (closedNote (a .es) (a .fs)) (a .map .now) (l .map) (l .j) slotCount (omega arith) (omega arith) (l .inv .0)
+    fold-done (closedNote eightInch (a .es) (a .fs)) (a .map .now) (l .map) (l .j) slotCount (omega arith) (omega arith) (l .inv .0)
 
 pub record-blocks-spec : {M : Type 1} → statement M
 record-blocks-spec =

@@ -1,4 +1,5 @@
 -- `closing::takes_slot` meets its contract.
+use Rattle.format.specs.Entries.{slotIn}
 use mathlib.Core.Path.{sym}
 use borrow.Author.Tests.{eq-eqb, ne-eqb}
 use borrow.Author.Needs.{needs}
@@ -11,14 +12,14 @@ array-read-if1 : tie.Need-array-read-if1
 array-read-if1 c = search needs
 
 returns : tie.Need-returns
-unfolding takesSlot
+unfolding takesSlot slotIn
 returns c = sym (and-fails-left _ _ (ne-eqb _ _ (c .if1 .taken)))
 
 array-read-result : tie.Need-array-read-result
 array-read-result c = search needs
 
 returns-2 : tie.Need-returns-2
-unfolding takesSlot
+unfolding takesSlot slotIn
 returns-2 c = sym (and-then _ _ (eq-eqb _ _ (c .if1 .left)))
 
 pub takes-slot-spec : {M : Type 1} → statement M

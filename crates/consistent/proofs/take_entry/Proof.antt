@@ -2,6 +2,7 @@
 use Rattle.heads.specs.Head.{rowRight}
 use Rattle.consistent.specs.Pass.{empty-fits, row-fails, slots-fail, alone-decides, passed-empty, passed-used, row-used}
 use Rattle.facts.specs.Marks.{markCount}
+use Rattle.facts.specs.Slots.{slot-byte}
 use Rattle.format.specs.Entries.{Rows, slotOf, entryAt, empty}
 use Rattle.format.specs.Diskette.{eightInch, slotCount}
 use Rattle.lists.specs.Cases.{clash}
@@ -47,11 +48,10 @@ start c = c .before .before .before .before .before .before .before .before
 right : (c : tie.Else2) → rowRight (rows (start c) (start c .args .e)) ≡ true
 right c = rw (start c .pre .3) at (sym (c .before .row-right .ensures) ∙ not-false _ (c .if2 .left))
 
-bytes : (c : tie.Else2) (j : ℕ) → j < slotCount → slotOf (rows (start c) (start c .args .e)) j < markCount
-unfolding slotOf
+bytes : (c : tie.Else2) (j : ℕ) → j < slotCount → slotOf eightInch (rows (start c) (start c .args .e)) j < markCount
 bytes c j h =
     let b : getD (start c .args .r .now) (16 + j) 0 < 256 = omega (arith, c .before .before .before .shared-slice-known3 .given (16 + j)) in
-    rw (start c .pre .3) at b
+    rw (slot-byte (rows (start c) (start c .args .e)) j h) (rw (start c .pre .3) at b)
 
 take-slots-requires : tie.Need-take-slots-requires
 take-slots-requires c κs = search needs
@@ -63,7 +63,7 @@ returns-3 : tie.Need-returns-3
 returns-3 c =
     let f = c .before .before .before .before .before in let a = start f in
     let wrong = sym (c .before .before .before .take-slots .ensures .0) ∙ not-true _ (c .if3 .taken) in
-    (sym (slots-fail eightInch (rows a) (a .args .e) (a .args .marks .now) (bytes f) (right f) (a .pre .4 .blocks) (rw (a .pre .3) at wrong)), λ t. clash (sym t))
+    (sym (slots-fail eightInch (rows a) (a .args .e) slot-byte (a .args .marks .now) (bytes f) (right f) (a .pre .4 .blocks) (rw (a .pre .3) at wrong)), λ t. clash (sym t))
 
 take-key-requires : tie.Need-take-key-requires
 take-key-requires c κs =
@@ -82,8 +82,8 @@ returns-4 c =
     let t = c .before .before .take-key in
     let m = c .before .before .before .before .before .before .before .take-slots in
     let free : m .result ≡ true = not-false _ (c .before .before .before .before .if3 .left) in (
-      t .ensures .0 ∙ sym (alone-decides eightInch (rows a) (a .args .e) (a .args .marks .now) (bytes f) (right f) (a .pre .4 .blocks) (rw (a .pre .3) at (sym (m .ensures .0) ∙ free))),
-      λ q. passed-used eightInch (rows a) (a .args .e) (a .args .marks .now) (a .args .chain .now) (m .last .0) _ (right f) (bytes f) (a .pre .4) (rw (a .pre .3) at (m .ensures .1)) (t .ensures .1),
+      t .ensures .0 ∙ sym (alone-decides eightInch (rows a) (a .args .e) slot-byte (a .args .marks .now) (bytes f) (right f) (a .pre .4 .blocks) (rw (a .pre .3) at (sym (m .ensures .0) ∙ free))),
+      λ q. passed-used eightInch (rows a) slot-byte (a .args .e) (a .args .marks .now) (a .args .chain .now) (m .last .0) _ (right f) (bytes f) (a .pre .4) (rw (a .pre .3) at (m .ensures .1)) (t .ensures .1),
     )
 
 pub take-entry-spec : {M : Type 1} → statement M

@@ -11,6 +11,7 @@ use Rattle.format.specs.Fcb.{fcbRight, current}
 use Rattle.format.specs.declared.Found.the-variants.{At, Nothing}
 use Rattle.facts.specs.Find.{file-says}
 use Rattle.facts.specs.Current.{current-wrong, current-missing}
+use Rattle.facts.specs.Slots.{short-slotsOf}
 use Rattle.slots.specs.Slots.{same-slots-fit}
 use Rattle.current.specs.Current.{current-by}
 use Rattle.current.proofs.current_entry.Statement.{statement}
@@ -75,7 +76,7 @@ returns-3 c =
     let r = c .before .before .row in let d = entryAt eightInch (a .image .now) in let e = k .before .e .given .0 .0 in
     let same = sym (c .before .slots-own .ensures) ∙ c .if2 .taken in
     current-by eightInch d (a .map .now) (a .user) (a .fcb .now) e _ _ true (known k .0) (known k .1)
-    (ap slotsOf (r .ensures .0)) refl (sym (same-slots-fit (a .map .now) _ _ e same))
+    (ap slotsOf (r .ensures .0)) refl (sym (same-slots-fit eightInch _ _ (short-slotsOf _) (short-slotsOf _) same (a .map .now) e))
 
 slots-requires : tie.Need-slots-requires
 slots-requires c κs = search needs

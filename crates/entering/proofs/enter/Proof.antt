@@ -1,7 +1,8 @@
--- `entering::enter` meets its contract.
-use mathlib.Core.Path.{ap, _∙_}
+-- `entering::enter` meets its contract: of its own extent a row is as it is.
+use mathlib.Core.Path.{refl, ap, sym, _∙_}
 use borrow.Author.Needs.{needs}
-use Rattle.model.specs.Entering.{copied, entered}
+use Rattle.model.specs.Entering.{copied, interfaceCleared, entered}
+use Rattle.fields.specs.Entering.{asExtent-own}
 use Rattle.entering.proofs.enter.Statement.{statement}
 use Rattle.entering.proofs.enter.Tie as tie
 
@@ -16,7 +17,10 @@ same-length c = search needs
 
 returns : tie.Need-returns
 unfolding entered
-returns c = c .before .before .copy-fields .ensures ∙ ap (copied (c .before .before .before .before .before .before .args .fcb .now)) (c .before .before .before .clear-interface .ensures)
+returns c =
+    let a = c .before .before .before .before .before .before .args in
+    c .before .before .copy-fields .ensures
+    ∙ ap (copied (a .fcb .now)) (c .before .before .before .clear-interface .ensures ∙ ap interfaceCleared (sym (asExtent-own _ _ refl)))
 
 pub enter-spec : {M : Type 1} → statement M
 enter-spec = tie.close (tie.spec clear-interface-requires copy-fields-requires same-length returns)

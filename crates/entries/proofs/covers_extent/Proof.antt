@@ -1,4 +1,4 @@
--- The test on the extent is the definition.
+-- The test on the runs is the definition.
 use Rattle.format.specs.Entries.{covers}
 use borrow.Author.Needs.{needs}
 use Rattle.entries.proofs.covers_extent.Statement.{statement}
@@ -7,9 +7,15 @@ use Rattle.entries.proofs.covers_extent.Tie as tie
 extent-requires : tie.Need-extent-requires
 extent-requires c κs = search needs
 
+run-of-requires : tie.Need-run-of-requires
+run-of-requires c κs = search needs
+
+run-of-requires-2 : tie.Need-run-of-requires-2
+run-of-requires-2 c κs = search needs
+
 returns : tie.Need-returns
 unfolding covers
-returns c = cc
+returns c = rw (c .run-of2 .ensures, c .before .run-of .ensures, c .before .before .extent .ensures .0)
 
 pub covers-extent-spec : {M : Type 1} → statement M
-covers-extent-spec = tie.close (tie.spec extent-requires returns)
+covers-extent-spec = tie.close (tie.spec extent-requires run-of-requires run-of-requires-2 returns)

@@ -5,8 +5,7 @@ use native.Mathlib.Omega.{arith}
 use borrow.Author.Needs.{needs}
 use borrow.Author.Tests.{not-true, not-false}
 use Rattle.format.specs.Diskette.{eightInch}
-use Rattle.format.specs.Entries.{entryAt}
-use Rattle.model.specs.Calls.{sizeOf}
+use Rattle.format.specs.Entries.{entryAt, endOf}
 use Rattle.fields.specs.Size.{larger-miss, larger-hit}
 use Rattle.files.proofs.larger_size.Statement.{statement}
 use Rattle.files.proofs.larger_size.Tie as tie
@@ -19,24 +18,24 @@ is-named-requires c κs = search needs
 
 returns : tie.Need-returns
 returns c = let z : c .before .is-named .result ≡ false = not-true _ (c .if1 .taken) in
-    sym (larger-miss eightInch _ _ _ _ (rw (c .before .is-named .ensures, c .before .before .row .ensures .0) at z))
+    sym (larger-miss _ _ _ _ (rw (c .before .is-named .ensures, c .before .before .row .ensures .0) at z))
 
-size-of-requires : tie.Need-size-of-requires
-size-of-requires c κs = search needs
+end-of-requires : tie.Need-end-of-requires
+end-of-requires c κs = search needs
 
 returns-2 : tie.Need-returns-2
 returns-2 c = let s = c .before .before .before .before .before .before .before in
     let z : c .before .before .before .is-named .result ≡ true = not-false _ (c .before .before .if1 .left) in
-    let q : sizeOf eightInch (entryAt eightInch (s .args .image .now) (s .args .e)) ≡ c .before .size-of .result = sym (rw (c .before .before .before .before .row .ensures .0) at (c .before .size-of .ensures)) in
-    sym (larger-hit eightInch _ _ _ _ (rw (c .before .before .before .is-named .ensures, c .before .before .before .before .row .ensures .0) at z) ∙ omega arith)
+    let q : endOf (entryAt eightInch (s .args .image .now) (s .args .e)) ≡ c .before .end-of .result = sym (rw (c .before .before .before .before .row .ensures .0) at (c .before .end-of .ensures)) in
+    sym (larger-hit _ _ _ _ (rw (c .before .before .before .is-named .ensures, c .before .before .before .before .row .ensures .0) at z) ∙ omega arith)
 
 returns-3 : tie.Need-returns-3
 returns-3 c = let s = c .before .before .before .before .before .before .before in
     let z : c .before .before .before .is-named .result ≡ true = not-false _ (c .before .before .if1 .left) in
-    let q : sizeOf eightInch (entryAt eightInch (s .args .image .now) (s .args .e)) ≡ c .before .size-of .result = sym (rw (c .before .before .before .before .row .ensures .0) at (c .before .size-of .ensures)) in
-    sym (larger-hit eightInch _ _ _ _ (rw (c .before .before .before .is-named .ensures, c .before .before .before .before .row .ensures .0) at z) ∙ omega arith)
+    let q : endOf (entryAt eightInch (s .args .image .now) (s .args .e)) ≡ c .before .end-of .result = sym (rw (c .before .before .before .before .row .ensures .0) at (c .before .end-of .ensures)) in
+    sym (larger-hit _ _ _ _ (rw (c .before .before .before .is-named .ensures, c .before .before .before .before .row .ensures .0) at z) ∙ omega arith)
 
 pub larger-size-spec : {M : Type 1} → statement M
 larger-size-spec =
     tie.close
-    (tie.spec row-requires is-named-requires returns size-of-requires returns-2 returns-3)
+    (tie.spec row-requires is-named-requires returns end-of-requires returns-2 returns-3)

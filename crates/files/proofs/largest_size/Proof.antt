@@ -13,7 +13,7 @@ use Rattle.files.proofs.largest_size.Tie as tie
 
 abbrev Inv-loop : tie.InvT-loop
 Inv-loop image user fcb size₀ e₀ size e =
-    (size ≡ foldBelow (largerSize eightInch (entryAt eightInch image) (named false user fcb 1)) 0 e) × (e ≤ eightInch .entries)
+    (size ≡ foldBelow (largerSize (entryAt eightInch image) (named false user fcb 1)) 0 e) × (e ≤ eightInch .entries)
 
 abbrev μ-loop : tie.MeasureT-loop
 μ-loop image user fcb size₀ e₀ size e = eightInch .entries - e

@@ -1,5 +1,5 @@
 -- Each answer is that of the row that decides; where none holds, the FCB takes the entry found.
-use mathlib.Core.Path.{_≡_, sym, ap, _∙_}
+use mathlib.Core.Path.{_≡_, sym, _∙_}
 use mathlib.Core.List.{[]}
 use Prim.Native.Nat.{_<_}
 use borrow.Author.Needs.{needs}
@@ -8,8 +8,8 @@ use Rattle.format.specs.Diskette.{Bytes, eightInch}
 use Rattle.format.specs.declared.Found.the-variants.{At}
 use Rattle.model.specs.Lent.{lend}
 use Rattle.model.specs.Table.{askedEntry}
-use Rattle.model.specs.Entering.{entered}
-use Rattle.files.specs.Asked.{asked-below}
+use Rattle.facts.specs.Naming.{run-own}
+use Rattle.files.specs.Asked.{asked-below, asked-own}
 use Rattle.files.specs.Steps.{open-wrong, open-missed, open-done}
 use Rattle.files.proofs.open_file.Statement.{statement}
 use Rattle.files.proofs.open_file.Tie as tie
@@ -77,7 +77,8 @@ returns-3 c = λ map buffer.
     let k = c .before .before .before .before .before .before in
     let u = k .before .before .before .before .before in
     open-done eightInch _ _ _ _ _ (sym (u .before .asks-right .ensures) ∙ not-false _ (u .if1 .left)) (asked k map buffer) (c .done .ensures)
-    (c .before .before .before .enter .ensures ∙ ap (entered _) (c .before .before .before .before .copy-row .ensures))
+    (let row = c .before .before .before .before .copy-row .ensures in
+    c .before .before .before .enter .ensures ∙ rw (row, ← asked-own eightInch run-own _ _ _ (asked k map buffer)))
 
 pub open-file-spec : {M : Type 1} → statement M
 open-file-spec =

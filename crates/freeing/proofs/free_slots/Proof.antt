@@ -3,6 +3,7 @@ use mathlib.Core.Path.{_≡_}
 use Prim.Native.Nat.{_-_, _≤_}
 use native.Mathlib.Omega.{arith}
 use borrow.Author.Needs.{needs}
+use Rattle.format.specs.Entries.{slotIn}
 use Rattle.format.specs.Diskette.{eightInch, slotCount}
 use Rattle.freeing.specs.Freeing.{inSlots}
 use Rattle.freeing.specs.Laws.{Freed, slots-none, slots-more, slots-done}
@@ -10,13 +11,13 @@ use Rattle.freeing.proofs.free_slots.Statement.{statement}
 use Rattle.freeing.proofs.free_slots.Tie as tie
 
 abbrev Inv-loop : tie.InvT-loop
-Inv-loop map₀ slots j₀ map j = Freed (inSlots slots j) map₀ map × (j ≤ slotCount)
+Inv-loop map₀ slots j₀ map j = Freed (inSlots eightInch slots j) map₀ map × (j ≤ slotCount)
 
 abbrev μ-loop : tie.MeasureT-loop
 μ-loop map₀ slots j₀ map j = slotCount - j
 
 loop-holds : tie.Need-loop-holds Inv-loop μ-loop
-loop-holds c = (slots-none _ _, omega arith)
+loop-holds c = (slots-none eightInch _ _, omega arith)
 
 array-read-free-slot : tie.Need-array-read-free-slot Inv-loop μ-loop
 array-read-free-slot c = omega arith
@@ -31,9 +32,10 @@ loop-less : tie.Need-loop-less Inv-loop μ-loop
 loop-less c = omega arith
 
 loop-again : tie.Need-loop-again Inv-loop μ-loop
+unfolding slotIn
 loop-again c =
     let l = c .before .before .before .before .before in
-    (rw (c .before .before .free-slot .ensures) (slots-more _ _ (l .loop .map) (l .loop .j) (l .loop .inv .0)), omega arith)
+    (rw (c .before .before .free-slot .ensures) (slots-more eightInch _ _ (l .loop .map) (l .loop .j) (l .loop .inv .0)), omega arith)
 
 same-length : tie.Need-same-length Inv-loop μ-loop
 same-length c = search needs

@@ -31,7 +31,11 @@ same-length-3 : tie.Need-same-length-3
 same-length-3 c = search needs
 
 returns-2 : tie.Need-returns-2
-returns-2 c = λ buffer. rw (c .before .before .before .before .before .before .before .before .before .before .before .plan .given .1) (c .before .before .before .before .before .before .move-to .ensures buffer)
+returns-2 c =
+    let m = c .before .before .before .before .before .before .before .before .before .before .before in
+    let s = m .before .before .before .before .before in
+    let own = rw (m .plan .given .1) at (s .pre .4) in
+    λ buffer. rw (m .plan .given .1) (rw own at (c .before .before .before .before .before .before .move-to .ensures buffer))
 
 same-length-4 : tie.Need-same-length-4
 same-length-4 c = search needs

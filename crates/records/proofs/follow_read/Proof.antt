@@ -3,7 +3,7 @@ use mathlib.Core.Path.{ap, _∙_}
 use Prim.Native.Nat.{_<_}
 use Rattle.format.specs.Diskette.{eightInch}
 use Rattle.model.specs.Target.{haveRead}
-use Rattle.records.specs.Carry.{blockOf, block-within}
+use Rattle.records.specs.Carry.{blockOf, block-on-disk}
 use borrow.Author.Needs.{needs}
 use Rattle.records.proofs.follow_read.Statement.{statement}
 use Rattle.records.proofs.follow_read.Tie as tie
@@ -17,7 +17,7 @@ block-of-requires c κs = search needs
 read-at-requires : tie.Need-read-at-requires
 read-at-requires c κs =
     let s = c .before .before .before .before .before .before .before .before .before .before .before .before .before .before .before .before .before .before in
-    let h : c .block-of .result < eightInch .blocks = rw (c .block-of .ensures) (block-within eightInch (s .args .plan) (s .pre .5)) in search needs
+    let h : c .block-of .result < eightInch .blocks = rw (c .block-of .ensures) (block-on-disk eightInch (s .args .plan) (s .pre .5)) in search needs
 
 same-length : tie.Need-same-length
 same-length c = search needs

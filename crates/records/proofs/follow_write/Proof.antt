@@ -1,10 +1,13 @@
 -- Writing goes on from the buffers that the arrival left.
-use mathlib.Core.Path.{ap, _∙_}
+use mathlib.Core.Path.{_≡_, ap, sym, _∙_}
+use mathlib.Core.List.{[]}
 use Prim.Native.Nat.{_<_}
 use Rattle.format.specs.Diskette.{eightInch}
 use Rattle.model.specs.Target.{haveWritten}
-use Rattle.format.specs.Entries.{slotFor}
-use Rattle.records.specs.Carry.{entryOf, blockOf, entry-within, block-within}
+use Rattle.format.specs.Entries.{entryAt, extentOf, slotFor}
+use Rattle.disk.specs.Eight.{eight-sound}
+use Rattle.model.specs.Lent.{Lent, lend}
+use Rattle.records.specs.Carry.{entryOf, blockOf, entry-on-disk, block-on-disk, arrived-own}
 use borrow.Author.Needs.{needs}
 use Rattle.records.proofs.follow_write.Statement.{statement}
 use Rattle.records.proofs.follow_write.Tie as tie
@@ -24,8 +27,15 @@ block-of-requires c κs = search needs
 write-at-requires : tie.Need-write-at-requires
 write-at-requires c κs =
     let s = c .before .before .before .before .before .before .before .before .before .before .before .before .before .before .before .before .before .before .before .before in
-    let h : c .block-of .result < eightInch .blocks = rw (c .block-of .ensures) (block-within eightInch (s .args .plan) (s .pre .7)) in
-    let k : c .before .entry-of .result < eightInch .entries = rw (c .before .entry-of .ensures) (entry-within eightInch (s .args .plan) (s .pre .7)) in search needs
+    let h : c .block-of .result < eightInch .blocks = rw (c .block-of .ensures) (block-on-disk eightInch (s .args .plan) (s .pre .7)) in
+    let k : c .before .entry-of .result < eightInch .entries = rw (c .before .entry-of .ensures) (entry-on-disk eightInch (s .args .plan) (s .pre .7)) in
+    let came = c .before .before .before .before .before .before .before .before .before .before .before .before .arrive in
+    let q = came .ensures [] in
+    let o : extentOf (came .last .1 .1 .0) ≡ extentOf (entryAt eightInch (came .last .0) (c .before .entry-of .result)) =
+    ap (λ (l : Lent). extentOf (l .fcb)) q
+    ∙ arrived-own eight-sound (s .args .target .extent) (lend (s .args .image .now) (s .args .map .now) (s .args .fcb .now) []) (s .args .plan) (s .pre .0) (s .pre .2) (s .pre .7) (s .pre .8)
+    ∙ sym (ap (λ (l : Lent). extentOf (entryAt eightInch (l .image) (entryOf (s .args .plan)))) q) ∙ rw (c .before .entry-of .ensures) in
+    search needs
 
 same-length : tie.Need-same-length
 same-length c = search needs

@@ -16,7 +16,7 @@ wide-requires c κs = search needs
 returns : tie.Need-returns
 returns c =
     let a = c .before .before .before .before .before .args in
-    read-short eightInch (entryAt eightInch (a .image .now)) (a .fcb .now) (a .e) (a .t) (a .extent) (a .j) (a .r) (c .before .wide .result)
+    read-short eightInch (entryAt eightInch (a .image .now)) (a .fcb .now) (a .e) (a .t) (a .j) (a .r) (c .before .wide .result)
     (c .before .wide .ensures .0 ∙ c .before .before .arrived-count .ensures) (c .if1 .taken)
 
 arrived-slot-requires : tie.Need-arrived-slot-requires
@@ -25,7 +25,7 @@ arrived-slot-requires c κs = search needs
 returns-2 : tie.Need-returns-2
 returns-2 c =
     let a = c .before .before .before .before .before .before .before .args in
-    read-empty eightInch (entryAt eightInch (a .image .now)) (a .fcb .now) (a .e) (a .t) (a .extent) (a .j) (a .r) (c .before .arrived-slot .result)
+    read-empty eightInch (entryAt eightInch (a .image .now)) (a .fcb .now) (a .e) (a .t) (a .j) (a .r) (c .before .arrived-slot .result)
     (c .before .arrived-slot .ensures) (c .if2 .taken)
 
 wide-requires-2 : tie.Need-wide-requires-2
@@ -37,7 +37,7 @@ go-to-requires c κs = search needs
 returns-3 : tie.Need-returns-3
 returns-3 c =
     let a = c .before .before .before .before .before .before .before .before .before .args in
-    read-there eightInch (entryAt eightInch (a .image .now)) (a .fcb .now) (a .e) (a .t) (a .extent) (a .j) (a .r) (c .before .before .before .before .before .wide .result) (c .before .wide2 .result)
+    read-there eightInch (entryAt eightInch (a .image .now)) (a .fcb .now) (a .e) (a .t) (a .j) (a .r) (c .before .before .before .before .before .wide .result) (c .before .wide2 .result)
     (c .go-to .result) (c .before .before .before .before .before .wide .ensures .0 ∙ c .before .before .before .before .before .before .arrived-count .ensures) (c .before .before .before .before .if1 .left) (c .before .wide2 .ensures .0 ∙ c .before .before .before .arrived-slot .ensures)
     (λ z. c .before .before .if2 .left (sym (c .before .wide2 .ensures .0) ∙ z)) (c .go-to .ensures)
 

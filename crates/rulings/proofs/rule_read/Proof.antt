@@ -9,6 +9,7 @@ use Rattle.format.specs.Fcb.{current}
 use Rattle.model.specs.Lent.{lend}
 use Rattle.model.specs.Target.{targetExtent, targetSlot, presentEntry, targetEntry}
 use Rattle.facts.specs.Find.{file-says}
+use Rattle.facts.specs.Naming.{run-own}
 use Rattle.facts.specs.Current.{current-says}
 use Rattle.rulings.specs.declared.Ruling.the-variants.{Refuse}
 use Rattle.targets.specs.Target.{overLast}
@@ -96,7 +97,7 @@ returns-4 c =
     λ buffer. let s = c .before .before .before .before .before .before .before .before .before .before .before .before .before .before .before .before in let a = s .args in let t = c .before .before .before .t .given in
     c .read-to .ensures
     ∙ rw (c .before .slot-for .ensures .0, s .pre .2 .extent, s .pre .2 .at)
-    (sym (read-found eightInch (a .number) (a .user) (lend (a .image .now) (a .map .now) (a .fcb .now) buffer) (in-range (c .before .before .before .before .before .before .before .before .before)) (c .before .before .before .before .before .before .before .e .given .0 .0) (entry (c .before .before .before .before .before .before)) (t .0 .0) (sym (target (c .before .before .before .before .before)) ∙ t .1)))
+    (sym (read-found eightInch (a .number) (a .user) (lend (a .image .now) (a .map .now) (a .fcb .now) buffer) (in-range (c .before .before .before .before .before .before .before .before .before)) (c .before .before .before .before .before .before .before .e .given .0 .0) (entry (c .before .before .before .before .before .before)) run-own (t .0 .0) (sym (target (c .before .before .before .before .before)) ∙ t .1)))
 
 pub rule-read-spec : {M : Type 1} → statement M
 rule-read-spec =

@@ -9,6 +9,7 @@ use Rattle.format.specs.Fcb.{current}
 use Rattle.model.specs.Lent.{lend}
 use Rattle.model.specs.Target.{targetExtent, targetSlot, presentEntry, targetEntry}
 use Rattle.facts.specs.Find.{file-says}
+use Rattle.facts.specs.Naming.{run-own}
 use Rattle.facts.specs.Current.{current-says}
 use Rattle.current.specs.Current.{current-low}
 use borrow.Author.Tests.{le-leb, lt-leb}
@@ -115,7 +116,7 @@ returns-5 c =
     c .write-to .ensures
     ∙ rw (c .before .missing .ensures, c .before .before .slot-for .ensures .0, target (c .before .before .before .before .before .before), s .pre .3 .extent, s .pre .3 .at)
     (sym (write-found eightInch (a .number) (a .user) (lend (a .image .now) (a .map .now) (a .fcb .now) buffer) (in-range (c .before .before .before .before .before .before .before .before .before .before)) (c .before .before .before .before .before .before .before .before .e .given .0 .0) (entry (c .before .before .before .before .before .before .before)) (sym (guard (c .before .before .before .before .before)) ∙ c .before .before .before .before .if2 .left)
-    (rw (← s .pre .3 .extent) (lt-leb _ _ (c .before .before .before .if3 .left)))))
+    (rw (← s .pre .3 .extent) (lt-leb _ _ (c .before .before .before .if3 .left))) run-own))
 
 pub rule-write-spec : {M : Type 1} → statement M
 rule-write-spec =

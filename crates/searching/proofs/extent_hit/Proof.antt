@@ -3,29 +3,26 @@ use mathlib.Core.Path.{sym, _∙_}
 use borrow.Author.Needs.{needs}
 use borrow.Author.Tests.{eq-eqb, ne-eqb}
 use Rattle.lists.specs.Tests.{or-left, or-then, and-fails-left, and-then}
-use Rattle.model.specs.Search.{extentHit}
+use Rattle.searching.specs.Searches.{extent-by-bytes}
 use Rattle.searching.proofs.extent_hit.Statement.{statement}
 use Rattle.searching.proofs.extent_hit.Tie as tie
 
 returns : tie.Need-returns
-unfolding extentHit
-returns c = sym (or-left _ _ (eq-eqb _ _ (c .if1 .taken)))
+returns c = sym (extent-by-bytes _ _ ∙ or-left _ _ (eq-eqb _ _ (c .if1 .taken)))
 
 shared-slice-read-if2 : tie.Need-shared-slice-read-if2
 shared-slice-read-if2 c = search needs
 
 returns-2 : tie.Need-returns-2
-unfolding extentHit
 returns-2 c =
-    sym (or-then _ _ (ne-eqb _ _ (c .before .before .if1 .left)) ∙ and-fails-left _ _ (ne-eqb _ _ (c .if2 .taken)))
+    sym (extent-by-bytes _ _ ∙ or-then _ _ (ne-eqb _ _ (c .before .before .if1 .left)) ∙ and-fails-left _ _ (ne-eqb _ _ (c .if2 .taken)))
 
 shared-slice-read-result : tie.Need-shared-slice-read-result
 shared-slice-read-result c = search needs
 
 returns-3 : tie.Need-returns-3
-unfolding extentHit
 returns-3 c =
-    sym (or-then _ _ (ne-eqb _ _ (c .before .before .before .if1 .left)) ∙ and-then _ _ (eq-eqb _ _ (c .before .if2 .left)))
+    sym (extent-by-bytes _ _ ∙ or-then _ _ (ne-eqb _ _ (c .before .before .before .if1 .left)) ∙ and-then _ _ (eq-eqb _ _ (c .before .if2 .left)))
 
 pub extent-hit-spec : {M : Type 1} → statement M
 extent-hit-spec =

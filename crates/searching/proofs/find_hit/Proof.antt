@@ -15,15 +15,15 @@ use Rattle.searching.proofs.find_hit.Tie as tie
 
 abbrev Inv-loop : tie.InvT-loop
 Inv-loop image user pattern from e₀ e =
-    firstIn (hitTest (entryAt eightInch image) user pattern) e (eightInch .entries)
-    ≡ firstIn (hitTest (entryAt eightInch image) user pattern) from (eightInch .entries)
+    firstIn (hitTest eightInch (entryAt eightInch image) user pattern) e (eightInch .entries)
+    ≡ firstIn (hitTest eightInch (entryAt eightInch image) user pattern) from (eightInch .entries)
 
 abbrev μ-loop : tie.MeasureT-loop
 μ-loop image user pattern from e₀ e = eightInch .entries - e
 
 -- the test at each entry
 abbrev test : tie.Start Inv-loop μ-loop → ℕ → Bool
-test c = let a = c .args in hitTest (entryAt eightInch (a .image .now)) (a .user) (a .pattern .now)
+test c = let a = c .args in hitTest eightInch (entryAt eightInch (a .image .now)) (a .user) (a .pattern .now)
 
 loop-holds : tie.Need-loop-holds Inv-loop μ-loop
 loop-holds c = refl

@@ -4,6 +4,7 @@ use mathlib.Core.Bool.{true, false}
 use borrow.Author.Needs.{needs}
 use borrow.Author.Tests.{ne-eqb, not-true, not-false}
 use Rattle.lists.specs.Tests.{and-fails-left, and-fails-right}
+use Rattle.format.specs.Diskette.{eightInch}
 use Rattle.format.specs.Entries.{named}
 use Rattle.model.specs.Search.{hit}
 use Rattle.searching.specs.Searches.{hit-by-name}
@@ -37,7 +38,7 @@ returns-3 c =
     let b = c .before .before in
     let a = b .before .before .before .before .before .before .args in
     let t : b .extent-hit .result ≡ true = not-false _ (c .before .if2 .left) in
-    rw (hit-by-name (a .user) (a .pattern .now) (a .row .now) (b .before .before .if1 .left) (sym (b .extent-hit .ensures) ∙ t)) (c .name-like .ensures)
+    rw (hit-by-name eightInch (a .user) (a .pattern .now) (a .row .now) (b .before .before .if1 .left) (sym (b .extent-hit .ensures) ∙ t)) (c .name-like .ensures)
 
 pub hit-spec : {M : Type 1} → statement M
 hit-spec =

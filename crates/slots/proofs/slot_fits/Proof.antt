@@ -1,4 +1,5 @@
 -- `slots::slot_fits` meets its contract: the tests stand in the definition's order, and the last one compares the note.
+use Rattle.format.specs.Entries.{slotIn}
 use mathlib.Core.Path.{sym, _∙_}
 use borrow.Author.Needs.{needs}
 use borrow.Author.Tests.{eq-eqb, ne-eqb}
@@ -15,14 +16,14 @@ array-read-if1-2 : tie.Need-array-read-if1-2
 array-read-if1-2 c = search needs
 
 returns : tie.Need-returns
-unfolding slotFits
+unfolding slotFits slotIn
 returns c = sym (or-left _ _ (eq-eqb _ _ (c .if1 .taken)))
 
 array-read-if2 : tie.Need-array-read-if2
 array-read-if2 c = search needs
 
 returns-2 : tie.Need-returns-2
-unfolding slotFits
+unfolding slotFits slotIn
 returns-2 c = sym (or-then _ _ (ne-eqb _ _ (c .before .if1 .left)) ∙ and-fails-left _ _ (ne-eqb _ _ (c .if2 .taken)))
 
 array-read-wide : tie.Need-array-read-wide

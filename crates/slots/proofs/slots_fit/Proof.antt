@@ -6,13 +6,13 @@ use native.Mathlib.Omega.{arith}
 use borrow.Author.Needs.{needs}
 use borrow.Author.Tests.{not-true, not-false}
 use Rattle.lists.specs.Below.{allBelow, all-none, all-more, all-fails, all-done}
-use Rattle.format.specs.Diskette.{slotCount}
+use Rattle.format.specs.Diskette.{slotCount, eightInch}
 use Rattle.format.specs.Fcb.{slotFits, slotsFit}
 use Rattle.slots.proofs.slots_fit.Statement.{statement}
 use Rattle.slots.proofs.slots_fit.Tie as tie
 
 abbrev Inv-loop : tie.InvT-loop
-Inv-loop map e es fs j₀ j = (allBelow (slotFits map e es fs) j ≡ true) × (j ≤ slotCount)
+Inv-loop map e es fs j₀ j = (allBelow (slotFits eightInch map e es fs) j ≡ true) × (j ≤ slotCount)
 
 abbrev μ-loop : tie.MeasureT-loop
 μ-loop map e es fs j₀ j = slotCount - j

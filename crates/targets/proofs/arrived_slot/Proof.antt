@@ -1,6 +1,6 @@
 -- The test is the definition's.
 use borrow.Author.Tests.{eq-eqb, ne-eqb}
-use Rattle.format.specs.Entries.{slotOf}
+use Rattle.facts.specs.Slots.{slot-byte}
 use Rattle.targets.specs.Target.{arrivedSlot}
 use borrow.Author.Needs.{needs}
 use Rattle.targets.proofs.arrived_slot.Statement.{statement}
@@ -13,8 +13,10 @@ shared-slice-read-result : tie.Need-shared-slice-read-result
 shared-slice-read-result c = search needs
 
 returns : tie.Need-returns
-unfolding arrivedSlot slotOf
-returns c = rw (eq-eqb _ _ (c .before .if1 .taken))
+unfolding arrivedSlot
+returns c =
+    let s = c .before .before .before .before in
+    rw (eq-eqb _ _ (c .before .if1 .taken), slot-byte (s .args .fcb .now) (s .args .j) (s .pre .3))
 
 row-requires : tie.Need-row-requires
 row-requires c κs = search needs
@@ -26,8 +28,10 @@ shared-slice-read-result-2 : tie.Need-shared-slice-read-result-2
 shared-slice-read-result-2 c = search needs
 
 returns-2 : tie.Need-returns-2
-unfolding arrivedSlot slotOf
-returns-2 c = rw (ne-eqb _ _ (c .before .before .if1 .left), c .before .row .ensures .0)
+unfolding arrivedSlot
+returns-2 c =
+    let s = c .before .before .before .before .before in
+    rw (ne-eqb _ _ (c .before .before .if1 .left), c .before .row .ensures .0, slot-byte _ (s .args .j) (s .pre .3))
 
 pub arrived-slot-spec : {M : Type 1} → statement M
 arrived-slot-spec =

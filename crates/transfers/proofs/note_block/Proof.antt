@@ -1,7 +1,7 @@
 -- A slot that holds a block changes no note.
 use borrow.Author.Tests.{eq-eqb, ne-eqb}
 use Rattle.model.specs.Target.{writtenMap}
-use Rattle.format.specs.Entries.{slotOf}
+use Rattle.facts.specs.Slots.{slot-byte}
 use borrow.Author.Needs.{needs}
 use Rattle.transfers.proofs.note_block.Statement.{statement}
 use Rattle.transfers.proofs.note_block.Tie as tie
@@ -13,8 +13,10 @@ shared-slice-read-if1 : tie.Need-shared-slice-read-if1
 shared-slice-read-if1 c = search needs
 
 returns : tie.Need-returns
-unfolding writtenMap slotOf
-returns c = rw (ne-eqb _ _ (c .if1 .taken))
+unfolding writtenMap
+returns c =
+    let s = c .before .before .before .before in
+    rw (slot-byte (s .args .fcb .now) (s .args .j) (s .pre .3), ne-eqb _ _ (c .if1 .taken))
 
 pending-note-requires : tie.Need-pending-note-requires
 pending-note-requires c κs = search needs
@@ -26,8 +28,10 @@ same-length : tie.Need-same-length
 same-length c = search needs
 
 returns-2 : tie.Need-returns-2
-unfolding writtenMap slotOf
-returns-2 c = rw (eq-eqb _ _ (c .before .before .before .before .before .if1 .left), c .before .before .set-note .ensures, c .before .before .before .pending-note .ensures)
+unfolding writtenMap
+returns-2 c =
+    let s = c .before .before .before .before .before .before .before .before .before in
+    rw (slot-byte (s .args .fcb .now) (s .args .j) (s .pre .3), eq-eqb _ _ (c .before .before .before .before .before .if1 .left), c .before .before .set-note .ensures, c .before .before .before .pending-note .ensures)
 
 pub note-block-spec : {M : Type 1} → statement M
 note-block-spec =

@@ -1,17 +1,9 @@
--- The three bytes that the definition sets, the count computed before the slot changes.
+-- The three bytes that the definition sets.
+use Rattle.format.specs.Entries.{withSlot}
 use Rattle.model.specs.Target.{writtenFcb, writtenCount}
 use borrow.Author.Needs.{needs}
 use Rattle.transfers.proofs.set_written.Statement.{statement}
 use Rattle.transfers.proofs.set_written.Tie as tie
-
-slice-aggregate-count-in : tie.Need-slice-aggregate-count-in
-slice-aggregate-count-in c = search needs
-
-extent-requires : tie.Need-extent-requires
-extent-requires c κs = search needs
-
-count-in-requires : tie.Need-count-in-requires
-count-in-requires c κs = search needs
 
 count-of-requires : tie.Need-count-of-requires
 count-of-requires c κs = search needs
@@ -50,16 +42,13 @@ same-length : tie.Need-same-length
 same-length c = search needs
 
 returns : tie.Need-returns
-unfolding writtenFcb writtenCount
-returns c = rw (c .larger2 .ensures, c .before .larger .ensures, c .before .before .count-of .ensures, c .before .before .before .before .count-in .ensures, c .before .before .before .before .before .extent .ensures .0)
+unfolding writtenFcb writtenCount withSlot
+returns c = rw (c .larger2 .ensures, c .before .larger .ensures, c .before .before .count-of .ensures)
 
 pub set-written-spec : {M : Type 1} → statement M
 set-written-spec =
     tie.close
     (tie.spec
-    slice-aggregate-count-in
-    extent-requires
-    count-in-requires
     count-of-requires
     larger-requires
     add-larger

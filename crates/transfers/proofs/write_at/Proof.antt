@@ -1,11 +1,15 @@
--- The row is taken before the record is written; each callee's result is a part of the definition.
+-- The entry's count is taken before the record is written; each callee's result is a part of the definition.
+use Rattle.facts.specs.Counts.{count-there}
 use Rattle.model.specs.Target.{haveWritten}
 use borrow.Author.Needs.{needs}
 use Rattle.transfers.proofs.write_at.Statement.{statement}
 use Rattle.transfers.proofs.write_at.Tie as tie
 
-copy-row-requires : tie.Need-copy-row-requires
-copy-row-requires c κs = search needs
+row-requires : tie.Need-row-requires
+row-requires c κs = search needs
+
+count-of-requires : tie.Need-count-of-requires
+count-of-requires c κs = search needs
 
 place-in-requires : tie.Need-place-in-requires
 place-in-requires c κs = search needs
@@ -30,13 +34,27 @@ same-length-3 c = search needs
 
 returns : tie.Need-returns
 unfolding haveWritten
-returns c = rw (c .before .before .before .before .before .before .before .before .before .before .before .write-record .ensures, c .before .before .before .before .before .before .before .before .before .before .before .before .place-in .ensures .0, c .before .before .before .before .before .before .note-block .ensures, c .before .before .set-written .ensures, c .before .before .before .before .before .before .before .before .before .before .before .before .before .before .copy-row .ensures)
+returns c =
+    let noted = c .before .before .before .before .before .before in
+    let put = noted .before .before .before .before .before in
+    let told = put .before .before .before in
+    let s = told .before .before .before .before .before .before .before in
+    rw (
+      put .write-record .ensures,
+      put .before .place-in .ensures .0,
+      noted .note-block .ensures,
+      c .before .before .set-written .ensures,
+      told .count-of .ensures,
+      told .before .row .ensures .0,
+      count-there _ _ (s .pre .9),
+    )
 
 pub write-at-spec : {M : Type 1} → statement M
 write-at-spec =
     tie.close
     (tie.spec
-    copy-row-requires
+    row-requires
+    count-of-requires
     place-in-requires
     write-record-requires
     note-block-requires

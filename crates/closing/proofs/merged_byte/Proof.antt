@@ -1,9 +1,10 @@
--- `closing::merged_slot` meets its contract.
+-- `closing::merged_byte` meets its contract.
 use mathlib.Core.Path.{sym, _∙_}
 use borrow.Author.Needs.{needs}
-use Rattle.model.specs.Closing.{mergedSlot}
-use Rattle.closing.proofs.merged_slot.Statement.{statement}
-use Rattle.closing.proofs.merged_slot.Tie as tie
+use Rattle.format.specs.Entries.{slotAt}
+use Rattle.model.specs.Closing.{mergedByte}
+use Rattle.closing.proofs.merged_byte.Statement.{statement}
+use Rattle.closing.proofs.merged_byte.Tie as tie
 
 takes-slot-requires : tie.Need-takes-slot-requires
 takes-slot-requires c κs = search needs
@@ -12,17 +13,17 @@ array-read-result : tie.Need-array-read-result
 array-read-result c = search needs
 
 returns : tie.Need-returns
-unfolding mergedSlot
+unfolding mergedByte slotAt
 returns c = let t = sym (c .before .takes-slot .ensures) ∙ c .if1 .taken in rw t
 
 array-read-result-2 : tie.Need-array-read-result-2
 array-read-result-2 c = search needs
 
 returns-2 : tie.Need-returns-2
-unfolding mergedSlot
+unfolding mergedByte slotAt
 returns-2 c = let t = sym (c .before .takes-slot .ensures) ∙ c .if1 .left in rw t
 
-pub merged-slot-spec : {M : Type 1} → statement M
-merged-slot-spec =
+pub merged-byte-spec : {M : Type 1} → statement M
+merged-byte-spec =
     tie.close
     (tie.spec takes-slot-requires array-read-result returns array-read-result-2 returns-2)
