@@ -7,7 +7,7 @@ use lib.Dec.{leb, eqb}
 use borrow.Author.Tests.{le-leb, lt-leb, ne-eqb}
 use Rattle.lists.specs.Tests.{_and_, _or_, and-both, and-fails-left, and-fails-right, or-left, or-right, or-then, or-first, agree, agree-same}
 use Rattle.lists.specs.Below.{allBelow, all-at}
-use Rattle.model.specs.Table.{oneOf, usesFcb, isCall}
+use Rattle.model.specs.Kinds.{usesFcb}
 
 -- n is in a to b
 pub between : ℕ → ℕ → ℕ → Bool
@@ -26,7 +26,7 @@ fcb-ranges : ℕ → Bool
 fcb-ranges n = between 15 17 n or between 19 23 n or between 33 36 n
 
 uses-ranges : (n : ℕ) → n < 256 → usesFcb n ≡ fcb-ranges n
-unfolding usesFcb oneOf fcb-ranges between agree allBelow _and_ _or_
+unfolding usesFcb fcb-ranges between agree allBelow _and_ _or_
 uses-ranges n h = agree-same (usesFcb n) (fcb-ranges n) (all-at (λ (k : ℕ). agree (usesFcb k) (fcb-ranges k)) 256 refl n h)
 
 module _ (n : ℕ) (byte : n < 256) where
@@ -46,13 +46,3 @@ module _ (n : ℕ) (byte : n < 256) where
   unfolding fcb-ranges
   uses-none a b c =
       uses-ranges n byte ∙ or-then _ _ (not-between 15 17 n a) ∙ or-then _ _ (not-between 19 23 n b) ∙ not-between 33 36 n c
-
--- ---- numbers of calls
-pub call-fcb : (n : ℕ) → usesFcb n ≡ true → isCall n ≡ true
-unfolding isCall
-call-fcb n u = or-left _ _ u
-
--- of the numbers that don't use the FCB the last decides
-pub call-last : (n : ℕ) → usesFcb n ≡ false → (n ≡ 13 → ⊥) → (n ≡ 18 → ⊥) → (n ≡ 32 → ⊥) → (n ≡ 46 → ⊥) → isCall n ≡ eqb n 98
-unfolding isCall oneOf _or_
-call-last n u a b c d = rw (u, ne-eqb n 13 a, ne-eqb n 18 b, ne-eqb n 32 c, ne-eqb n 46 d) (or-first (eqb n 98) false refl)

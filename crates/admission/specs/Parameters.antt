@@ -9,9 +9,11 @@ use Rattle.lists.specs.Tests.{_or_, and-left, and-right, and-then, or-then, or-
 use Rattle.format.specs.Diskette.{Geometry, Long, recordBytes}
 use Rattle.format.specs.Fcb.{fcbBytes}
 use Rattle.facts.specs.Long.{long-says, long-is}
+use Rattle.model.specs.declared.Asked.{Asked}
 use Rattle.model.specs.declared.Session.{Session}
 use Rattle.model.specs.Lent.{Lent}
-use Rattle.model.specs.Table.{usesFcb, lengthsRight, parametersRight}
+use Rattle.model.specs.Kinds.{usesFcb}
+use Rattle.model.specs.Table.{lengthsRight, parametersRight}
 
 module _ (G : Geometry) (l : Lent) where
   pub image-length : lengthsRight G l ≡ true → Long G (l .image)
@@ -33,20 +35,20 @@ module _ (G : Geometry) (l : Lent) where
   buffer-decides i m f =
       and-then _ _ (long-is G (l .image) i) ∙ and-then _ _ (eq-eqb _ _ m) ∙ and-then _ _ (eq-eqb _ _ f)
 
-  module _ (n : ℕ) (s : Session) where
-    pub lengths-are : parametersRight G l n s ≡ true → lengthsRight G l ≡ true
+  module _ (asked : Asked) (s : Session) where
+    pub lengths-are : parametersRight G l asked s ≡ true → lengthsRight G l ≡ true
     unfolding parametersRight
     lengths-are t = and-left _ _ t
 
     -- byte 0 of the FCB decides where everything else is right and the FCB is used
     drive-left : lengthsRight G l ≡ true → s .user ≤ 15 → s .place ≤ G .entries
-        → parametersRight G l n s ≡ (not (usesFcb n) or leb (getD (l .fcb) 0 0) 1)
+        → parametersRight G l asked s ≡ (not (usesFcb (asked .number)) or leb (getD (l .fcb) 0 0) 1)
     unfolding parametersRight
     drive-left a b c = and-then _ _ a ∙ and-then _ _ (le-leb _ _ b) ∙ and-then _ _ (le-leb _ _ c)
 
-    pub drive-decides : lengthsRight G l ≡ true → s .user ≤ 15 → s .place ≤ G .entries → usesFcb n ≡ true
-        → parametersRight G l n s ≡ leb (getD (l .fcb) 0 0) 1
+    pub drive-decides : lengthsRight G l ≡ true → s .user ≤ 15 → s .place ≤ G .entries → usesFcb (asked .number) ≡ true
+        → parametersRight G l asked s ≡ leb (getD (l .fcb) 0 0) 1
     drive-decides a b c u = drive-left a b c ∙ or-then _ _ (ap not u)
 
-    pub drive-unused : lengthsRight G l ≡ true → s .user ≤ 15 → s .place ≤ G .entries → usesFcb n ≡ false → parametersRight G l n s ≡ true
+    pub drive-unused : lengthsRight G l ≡ true → s .user ≤ 15 → s .place ≤ G .entries → usesFcb (asked .number) ≡ false → parametersRight G l asked s ≡ true
     drive-unused a b c u = drive-left a b c ∙ or-left _ _ (ap not u)

@@ -2,7 +2,9 @@
 ghost use mathlib.Core.Path.{_≡_};
 ghost use Rattle.format.specs.Diskette.{eightInch};
 ghost use Rattle.model.specs.Lent.{lend};
-ghost use Rattle.model.specs.Table.{usesFcb, isCall, lengthsRight, parametersRight};
+ghost use Rattle.model.specs.Kinds.{usesFcb};
+ghost use Rattle.model.specs.Table.{lengthsRight, parametersRight};
+use model::Asked;
 use model::Session;
 
 // Whether a call uses the FCB.
@@ -13,28 +15,6 @@ fn uses_fcb(number: u8) -> bool
         15 | 16 | 17 | 19 | 20 | 21 | 22 | 23 | 33 | 34 | 35 | 36 => true,
         _ => false,
     }
-}
-
-// Whether there is a call of this number.
-pub fn is_call(number: u8) -> bool
-    ensures { λ r. ⌜ r ≡ isCall number ⌝ }
-{
-    if uses_fcb(number) {
-        return true;
-    }
-    if number == 13 {
-        return true;
-    }
-    if number == 18 {
-        return true;
-    }
-    if number == 32 {
-        return true;
-    }
-    if number == 46 {
-        return true;
-    }
-    number == 98
 }
 
 // Whether each of the four buffers has its length.
@@ -55,14 +35,14 @@ fn lengths_right(image: &[u8], map: &[u16], fcb: &[u8], buffer: &[u8]) -> bool
 
 // Whether lengths, the session's user and place, and byte 0 of an FCB that is used are in range.
 pub fn parameters_right(
-    number: u8,
+    asked: Asked,
     image: &[u8],
     map: &[u16],
     fcb: &[u8],
     buffer: &[u8],
     session: Session,
 ) -> bool
-    ensures { λ r. ⌜ r ≡ parametersRight eightInch (lend (now (image .entry)) (now (map .entry)) (now (fcb .entry)) (now (buffer .entry))) number session ⌝ }
+    ensures { λ r. ⌜ r ≡ parametersRight eightInch (lend (now (image .entry)) (now (map .entry)) (now (fcb .entry)) (now (buffer .entry))) asked session ⌝ }
 {
     if !lengths_right(image, map, fcb, buffer) {
         return false;
@@ -74,7 +54,7 @@ pub fn parameters_right(
     if format::ENTRIES < place {
         return false;
     }
-    if uses_fcb(number) {
+    if uses_fcb(asked.number) {
         return fcb[0] <= 1;
     }
     true

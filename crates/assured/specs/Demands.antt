@@ -16,9 +16,11 @@ use Rattle.model.specs.Lent.{Lent, lend, Outcome, outcome}
 use Rattle.model.specs.Naming.{names}
 use Rattle.model.specs.Entering.{threeBytes}
 use Rattle.model.specs.Target.{targetExtent, targetRecord}
-use Rattle.model.specs.Table.{oneOf, writeCalls}
+use Rattle.model.specs.Kinds.{kindOf}
+use Rattle.model.specs.declared.Kind.the-variants.{Write}
 use Rattle.model.specs.Step.{refused, effect, step}
-use Rattle.table.specs.Total.{ask, RefusedBy, CarriedOut, eight-total}
+use Rattle.table.specs.Own.{ask}
+use Rattle.table.specs.Total.{RefusedBy, CarriedOut, eight-total}
 use Rattle.effects.specs.Where.{Frame}
 use Rattle.effects.specs.Book.{Book, nothingHeld, acceptedAnswer}
 use Rattle.demands.specs.Runs.{Request, Disk, outcomeOf, left, accepts, after, run, bookRun}
@@ -56,7 +58,7 @@ readAfter d w qs empty =
 -- ---- demand 1: an outcome is a refusal with the code of the first row of the table that holds, or the call was carried out
 pub data Told (asked : Asked) (l : Lent) (s : Session) (o : Outcome) : Type 0 where
   told-refused : (c : Code) → RefusedBy eightInch asked l s c → o ≡ refused c s l → Told asked l s o
-  told-carried : CarriedOut eightInch asked l s → o ≡ effect eightInch (asked .number) (asked .argument) l s → Told asked l s o
+  told-carried : CarriedOut eightInch asked l s → o ≡ effect eightInch asked l s → Told asked l s o
 
 pub told : (asked : Asked) (l : Lent) (s : Session) (o : Outcome) → o ≡ step eightInch asked l s → Told asked l s o
 told asked l s o m =
@@ -113,7 +115,7 @@ pub data ReadsBack (d : Disk) (w : Request) (qs : List Request) (empty : Bytes) 
       → outcome (r .answer) image map fcb back ≡ readAfter d w qs empty
       → (LeftAlone d w qs → Gives (outcome (r .answer) image map fcb back) (w .buffer)) → ReadsBack d w qs empty r image map fcb written back
 
-module _ (d : Disk) (w : Request) (writes : oneOf (w .asked .number) writeCalls ≡ true) (accepted : accepts eightInch d w ≡ true) where
+module _ (d : Disk) (w : Request) (writes : kindOf (w .asked .number) ≡ Write) (accepted : accepts eightInch d w ≡ true) where
   pub extent-low : targetExtent (w .asked .number) (w .fcb) < extents
   extent-low = wrote eight-sound d w writes accepted .extent
 

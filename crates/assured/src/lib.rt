@@ -6,10 +6,11 @@ ghost use lib.ListN.{length};
 ghost use Rattle.format.specs.Diskette.{eightInch, recordBytes, extents, extentRecords};
 ghost use Rattle.format.specs.Fcb.{fcbBytes};
 ghost use Rattle.model.specs.Lent.{lend, outcome};
-ghost use Rattle.model.specs.Table.{oneOf, recordCalls, writeCalls};
+ghost use Rattle.model.specs.Kinds.{kindOf};
+ghost use Rattle.model.specs.declared.Kind.the-variants.{Write};
 ghost use Rattle.model.specs.Step.{step};
-ghost use Rattle.table.specs.Total.{ask};
-ghost use Rattle.effects.specs.Book.{acceptedAnswer};
+ghost use Rattle.table.specs.Own.{ask};
+ghost use Rattle.effects.specs.Book.{ofRecord, acceptedAnswer};
 ghost use Rattle.demands.specs.Runs.{after, run};
 ghost use Rattle.assured.specs.Script.{callBytes, requestAt, requests, diskOf};
 ghost use Rattle.assured.specs.Demands.{request, targetSet, Told, Framed, LoggedIn, ReadsBack};
@@ -56,7 +57,7 @@ pub fn one_call(
 
 // Whether a call moves a record: 20, 21, 33 and 34.
 fn moves_record(number: u8) -> bool
-    ensures { λ r. ⌜ r ≡ oneOf number recordCalls ⌝ }
+    ensures { λ r. ⌜ r ≡ ofRecord (kindOf number) ⌝ }
 {
     if number == 20 {
         return true;
@@ -197,7 +198,7 @@ pub fn write_and_read(
     back: &mut [u8],
     session: Session,
 ) -> ReadBack
-    requires { ⌜ (oneOf (asked .number) writeCalls ≡ true) × (callBytes * n ≤ length (now script))
+    requires { ⌜ (kindOf (asked .number) ≡ Write) × (callBytes * n ≤ length (now script))
         × (length (now fcb) ≡ fcbBytes) × (length (now back) ≡ recordBytes) ⌝ }
     ensures { λ r. ⌜ ReadsBack (diskOf (now (image .entry)) (now (map .entry)) session)
         (request asked (now (fcb .entry)) (now (written .entry))) (requests (now (script .entry)) n) (now (back .entry))

@@ -1,7 +1,7 @@
 -- Row 255, 1 as code decides it: the image first, then, except for 13, the map.
 use mathlib.Core.Path.{_≡_, _∙_}
 use mathlib.Core.Bool.{true, false}
-use Prim.Native.Nat.{ℕ}
+use Rattle.model.specs.declared.Asked.{Asked}
 use borrow.Author.Tests.{eq-eqb, ne-eqb}
 use Rattle.lists.specs.Tests.{and-fails-left, and-then, and-both, or-left, or-then}
 use Rattle.format.specs.Diskette.{Geometry}
@@ -10,15 +10,15 @@ use Rattle.format.specs.Notes.{mapRight}
 use Rattle.model.specs.Lent.{Lent, rowsOf}
 use Rattle.model.specs.Table.{diskRight}
 
-module _ (G : Geometry) (l : Lent) (n : ℕ) where
-  pub image-wrong : consistent G (l .image) ≡ false → diskRight G l n ≡ false
+module _ (G : Geometry) (l : Lent) (asked : Asked) where
+  pub image-wrong : consistent G (l .image) ≡ false → diskRight G l asked ≡ false
   unfolding diskRight
   image-wrong h = and-fails-left _ _ h
 
-  pub log-in-right : consistent G (l .image) ≡ true → n ≡ 13 → diskRight G l n ≡ true
+  pub log-in-right : consistent G (l .image) ≡ true → asked .number ≡ 13 → diskRight G l asked ≡ true
   unfolding diskRight
-  log-in-right h q = and-both _ _ h (or-left _ _ (eq-eqb n 13 q))
+  log-in-right h q = and-both _ _ h (or-left _ _ (eq-eqb (asked .number) 13 q))
 
-  pub map-decides : consistent G (l .image) ≡ true → (n ≡ 13 → ⊥) → diskRight G l n ≡ mapRight G (rowsOf G l) (l .map)
+  pub map-decides : consistent G (l .image) ≡ true → (asked .number ≡ 13 → ⊥) → diskRight G l asked ≡ mapRight G (rowsOf G l) (l .map)
   unfolding diskRight
-  map-decides h q = and-then _ _ h ∙ or-then _ _ (ne-eqb n 13 q)
+  map-decides h q = and-then _ _ h ∙ or-then _ _ (ne-eqb (asked .number) 13 q)

@@ -18,13 +18,14 @@ use model::Session;
 
 // Whether the image is consistent and, except for 13, the map right. Where they are, the marks tell which blocks are listed, and the
 // chain has the entries by their keys.
-fn disk_right(number: u8, image: &[u8], map: &[u16], marks: &mut [u8], chain: &mut [u8]) -> bool
+fn disk_right(asked: Asked, image: &[u8], map: &[u16], marks: &mut [u8], chain: &mut [u8]) -> bool
     requires { ⌜ (length (now image) ≡ imageBytes eightInch) × (length (now map) ≡ eightInch .blocks) × (length (now marks) ≡ markCount)
         × (length (now chain) ≡ chainBytes eightInch) ⌝ }
-    ensures { λ r. ⌜ ((fcb buffer : Bytes) → r ≡ diskRight eightInch (lend (now (image .entry)) (now (map .entry)) fcb buffer) number)
+    ensures { λ r. ⌜ ((fcb buffer : Bytes) → r ≡ diskRight eightInch (lend (now (image .entry)) (now (map .entry)) fcb buffer) asked)
         × (r ≡ true → Marked eightInch (entryAt eightInch (now (image .entry))) (now (marks .exit))
         × Indexed eightInch (entryAt eightInch (now (image .entry))) (now (chain .exit))) ⌝ }
 {
+    let number = asked.number;
     if !consistent::is_consistent(image, marks, chain) {
         return false;
     }
@@ -47,15 +48,15 @@ pub fn call(
         ≡ step eightInch asked (lend (now (image .entry)) (now (map .entry)) (now (fcb .entry)) (now (buffer .entry))) session ⌝ }
 {
     let number = asked.number;
-    if !admission::is_call(number) {
+    if !calls::is_call(number) {
         return answers::refuse(Code::NotListed, session);
     }
-    if !admission::parameters_right(number, image, map, fcb, buffer, session) {
+    if !admission::parameters_right(asked, image, map, fcb, buffer, session) {
         return answers::refuse(Code::BadParameter, session);
     }
     let mut marks = [0u8; format::MARKS];
     let mut chain = [0u8; chains::CHAIN_BYTES];
-    if !disk_right(number, image, map, &mut marks, &mut chain) {
+    if !disk_right(asked, image, map, &mut marks, &mut chain) {
         return answers::refuse(Code::BadDisk, session);
     }
     if number == 13 {

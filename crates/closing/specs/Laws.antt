@@ -22,8 +22,10 @@ use Rattle.model.specs.Lent.{lend, outcome, answerOf, ended}
 use Rattle.model.specs.Closing.{mergedSlots, endsLater, laterEnd, closedRow, closedNote, closedMap, closedImage, closedFcb}
 use Rattle.model.specs.Target.{presentEntry}
 use Rattle.model.specs.Calls.{entryNumber, closedAt, closed}
+use Rattle.model.specs.Kinds.{kindOf}
+use Rattle.model.specs.Step.{effect}
 use Rattle.table.specs.First.{_&_, here}
-use Rattle.table.specs.Own.{call16}
+use Rattle.table.specs.Own.{ask}
 use Rattle.rows.specs.Entries.{length-entryAt, entry-own}
 use Rattle.fields.specs.Closing.{takes-none, merged-same, later-stays}
 use Rattle.facts.specs.Counts.{end-none, end-some}
@@ -107,12 +109,12 @@ unfolding closedMap
 closed-map G img fcb row es fs map m e a b c d = rw (d, b, c, a)
 
 -- ---- call 16, by what the look-up of its FCB's entry answers
-module _ (G : Geometry) (img map fcb : Bytes) (s : Session) (found : Found) (is : found ≡ current G (entryAt G img) map (s .user) fcb) where
+module _ (G : Geometry) (argument : ℕ) (img map fcb : Bytes) (s : Session) (found : Found) (is : found ≡ current G (entryAt G img) map (s .user) fcb) where
   -- the FCB is not current
-  pub close-refused : (buffer : Bytes) (r : Answer) → found ≡ Nothing → r ≡ answerOf Failed s → outcome r img map fcb buffer ≡ ownStep G 0 (lend img map fcb buffer) s call16
+  pub close-refused : (buffer : Bytes) (r : Answer) → found ≡ Nothing → r ≡ answerOf Failed s → outcome r img map fcb buffer ≡ ownStep G (ask 16 argument) (lend img map fcb buffer) s
   unfolding presentEntry
   close-refused buffer r q a =
-      refuses-own G 0 (lend img map fcb buffer) s call16 Failed r (here (missed-row _ (sym is ∙ q)) refl) a
+      refuses-own G (ask 16 argument) (lend img map fcb buffer) s Failed r (here (missed-row _ (sym is ∙ q)) refl) a
 
   -- it is, and e is its entry
   pub close-low : (e : ℕ) → found ≡ At e → e < G .entries
@@ -121,8 +123,8 @@ module _ (G : Geometry) (img map fcb : Bytes) (s : Session) (found : Found) (is 
 
   pub close-carried : (buffer : Bytes) (e : ℕ) (r : Answer) (i m f : Bytes) → found ≡ At e → r ≡ answerOf (Accepted (entryNumber e)) (ended s)
       → i ≡ closedImage G img e fcb → m ≡ closedMap G (entryAt G img e) fcb map → f ≡ closedFcb fcb
-      → outcome r i m f buffer ≡ ownStep G 0 (lend img map fcb buffer) s call16
-  unfolding presentEntry closed closedAt
+      → outcome r i m f buffer ≡ ownStep G (ask 16 argument) (lend img map fcb buffer) s
+  unfolding presentEntry closed closedAt effect kindOf
   close-carried buffer e r i m f q a b c d =
       let p : current G (entryAt G img) map (s .user) fcb ≡ At e = sym is ∙ q in
-      carries-own G 0 (lend img map fcb buffer) s call16 (outcome r i m f buffer) (found-row _ p & tt) (rw (p, a, b, c, d))
+      carries-own G (ask 16 argument) (lend img map fcb buffer) s (outcome r i m f buffer) (found-row _ p & tt) (rw (p, a, b, c, d))

@@ -1,6 +1,6 @@
 // Closing an entry: what call 16 and a move share, and call 16 itself.
 ghost use mathlib.Core.Path.{_≡_};
-ghost use Prim.Native.Nat.{_≤_, _<_};
+ghost use Prim.Native.Nat.{ℕ, _≤_, _<_};
 ghost use lib.ListN.{length};
 ghost use Rattle.lists.specs.Fold.{foldBelow};
 ghost use Rattle.format.specs.Diskette.{Bytes, eightInch, imageBytes, entryBytes, slotBytes, slotCount};
@@ -8,7 +8,7 @@ ghost use Rattle.format.specs.Entries.{entryAt};
 ghost use Rattle.format.specs.Fcb.{fcbBytes};
 ghost use Rattle.model.specs.Lent.{lend, outcome};
 ghost use Rattle.model.specs.Closing.{takesSlot, mergedByte, mergedSlots, endsLater, laterEnd, closedRow, closedNote, closedMap, closedImage, closedFcb};
-ghost use Rattle.table.specs.Own.{call16};
+ghost use Rattle.table.specs.Own.{ask};
 ghost use Rattle.table.specs.OwnStep.{ownStep};
 ghost use Rattle.chains.specs.Chain.{Indexed};
 ghost use Rattle.closing.specs.Laws.{closeKeeps};
@@ -163,8 +163,8 @@ pub fn close_file(
 ) -> Answer
     requires { ⌜ (length (now image) ≡ imageBytes eightInch) × (length (now fcb) ≡ fcbBytes) × (session .user ≤ 15)
         × Indexed eightInch (entryAt eightInch (now image)) (now chain) ⌝ }
-    ensures { λ r. ⌜ ((buffer : Bytes) → outcome r (now (image .exit)) (now (map .exit)) (now (fcb .exit)) buffer
-        ≡ ownStep eightInch 0 (lend (now (image .entry)) (now (map .entry)) (now (fcb .entry)) buffer) session call16) ⌝ }
+    ensures { λ r. ⌜ ((argument : ℕ) (buffer : Bytes) → outcome r (now (image .exit)) (now (map .exit)) (now (fcb .exit)) buffer
+        ≡ ownStep eightInch (ask 16 argument) (lend (now (image .entry)) (now (map .entry)) (now (fcb .entry)) buffer) session) ⌝ }
 {
     let Found::At(e) = current::current_entry(image, map, chain, session.user, fcb) else {
         return answers::refuse(Code::Failed, session);

@@ -26,7 +26,8 @@ use Rattle.model.specs.declared.Session.{Session}
 use Rattle.model.specs.Lent.{Lent, rowsOf, Outcome}
 use Rattle.model.specs.Entering.{madeRow}
 use Rattle.model.specs.Target.{targetExtent, presentEntry, stays, targetEntry, readOnlyThere}
-use Rattle.model.specs.Table.{usesFcb, oneOf, askedEntry, verdict}
+use Rattle.model.specs.Kinds.{kindOf, isCall, usesFcb, isRandom}
+use Rattle.model.specs.Table.{askedEntry, verdict}
 use Rattle.model.specs.Calls.{loggedIn, createdAt, created}
 use Rattle.model.specs.Step.{effect}
 use Rattle.fields.specs.Making.{length-madeRow, readOnly-made}
@@ -34,11 +35,10 @@ use Rattle.fields.specs.Entering.{length-copied, first-copied, rest-copied}
 use Rattle.consistency.specs.Naming.{file-used}
 use Rattle.fields.specs.Target.{extent-within}
 use Rattle.fields.specs.Erased.{ErasedDisk, erased-empty, erased-unused, erased-unlisted}
-use Rattle.table.specs.Own.{Call, call21, call22}
-use Rattle.table.specs.Facts.{Fits, Writes, Makes, Own}
-use Rattle.table.specs.Accept.{passes}
+use Rattle.table.specs.Own.{ask}
+use Rattle.table.specs.Facts.{Fits, Writes, Makes}
+use Rattle.table.specs.Accept.{passes, makes-of, makes-right, writes-right}
 use Rattle.table.specs.Present.{stays-within, target-present, numbers-extent}
-use Rattle.table.specs.Carried.{effect-is}
 use Rattle.table.specs.Total.{InRange, CarriedOut, total-accepted}
 use Rattle.invariant.specs.Good.{Good, good-consistent, good-right}
 use Rattle.invariant.specs.Step.{step-accepted}
@@ -60,7 +60,7 @@ module _ {G : Geometry} (S : Sound G) (asked : Asked) (number : asked .number �
   at = cur-current G (l .image) (l .map) (s .user) (l .fcb) e (g .inv .dir) (fits .user-low) cur
 
   same-extent : targetExtent 21 (l .fcb) ≡ extentOf (l .fcb)
-  unfolding _or_
+  unfolding isRandom
   same-extent = extent-within 21 (l .fcb) refl (λ q. omega arith)
 
   there : stays 21 (l .fcb) ≡ true
@@ -85,15 +85,13 @@ module _ {G : Geometry} (S : Sound G) (asked : Asked) (number : asked .number �
   }
 
   pub write-accepted : CarriedOut G asked l s
+  unfolding isCall kindOf
   write-accepted =
       total-accepted G asked l s
-      (ap (λ (n : ℕ). verdict G n (asked .argument) l s) number ∙ passes G 21 (asked .argument) l s call21
-      record { fits = fits; drive = λ u. drive; image-right = good-consistent G (l .image) (l .map) g; map-right = λ q. good-right G (l .image) (l .map) g } writes)
+      (ap (λ (n : ℕ). verdict G (ask n (asked .argument)) l s) number ∙ passes G (ask 21 (asked .argument)) l s refl
+      record { fits = fits; drive = λ u. drive; image-right = good-consistent G (l .image) (l .map) g; map-right = λ q. good-right G (l .image) (l .map) g } (writes-right G (asked .argument) l s writes))
 
 -- ---- a make, and a write through the FCB that it handed back
-makes-of : (G : Geometry) (argument : ℕ) (l : Lent) (s : Session) (c : Call 22) → Own G l s argument c → Makes G l s
-makes-of G argument l s call22 o = o
-
 module _ {G : Geometry} (S : Sound G) (d : Disk) (q : Request) (number : q .asked .number ≡ 22) (accepted : accepts G d q ≡ true) (cr : crOf (q .fcb) < 128) where
   abbrev l : Lent
   l = lentTo d q
@@ -103,21 +101,20 @@ module _ {G : Geometry} (S : Sound G) (d : Disk) (q : Request) (number : q .aske
   carried = accepted-carried G (q .asked) (lentTo d q) (d .session) accepted
 
   drive : getD (q .fcb) 0 0 ≤ 1
-  unfolding usesFcb oneOf _or_
+  unfolding usesFcb
   drive = carried .facts .ready .drive (ap usesFcb number)
 
   makes : Makes G l (d .session)
-  makes =
-      subst (λ (n : ℕ). (c : Call n) → Own G l (d .session) (q .asked .argument) c → Makes G l (d .session)) (sym number)
-      (makes-of G (q .asked .argument) l (d .session)) (carried .facts .call) (carried .facts .own)
+  unfolding kindOf
+  makes = makes-of G (q .asked) l (d .session) (carried .facts .none) (ap kindOf number)
 
   t : ℕ
   t = makes .entry .place
 
   made-is : outcomeOf G d q ≡ createdAt G (d .session) l t
-  unfolding outcomeOf t created
+  unfolding outcomeOf t created effect kindOf
   made-is =
-      carried .is ∙ ap (λ (n : ℕ). effect G n (q .asked .argument) l (d .session)) number ∙ effect-is G (q .asked .argument) l (d .session) call22
+      carried .is ∙ ap (λ (n : ℕ). effect G (ask n (q .asked .argument)) l (d .session)) number
       ∙ ap (λ (r : Found). createdAt G (d .session) l (numberOf (G .entries) r)) (makes .entry .is)
 
   fits : Fits G l (d .session)
@@ -192,25 +189,25 @@ module _ {G : Geometry} (S : Sound G) (some : 0 < G .entries) where
 
   made-on : (d : Disk) → ErasedDisk G (d .image) → Good G (d .image) (d .map) → InRange G (d .session) → (q : Request) → Asks q 22
       → getD (q .fcb) 0 0 ≤ 1 → nameRight false (q .fcb) 1 ≡ true → exOf (q .fcb) ≤ 31 → accepts G d q ≡ true
-  unfolding outcomeOf askedEntry
+  unfolding outcomeOf askedEntry isCall kindOf
   made-on d erased good range q a drive name ex =
       carried-says G (q .asked) (lentTo d q) (d .session)
       (total-accepted G (q .asked) (lentTo d q) (d .session)
-      (ap (λ (n : ℕ). verdict G n (q .asked .argument) (lentTo d q) (d .session)) (a .number)
-      ∙ passes G 22 (q .asked .argument) (lentTo d q) (d .session) call22
+      (ap (λ (n : ℕ). verdict G (ask n (q .asked .argument)) (lentTo d q) (d .session)) (a .number)
+      ∙ passes G (ask 22 (q .asked .argument)) (lentTo d q) (d .session) refl
       record {
         fits = record { image-long = good .image-long; map-long = good .map-long; fcb-long = a .fcb; buffer-long = a .buffer; user-low = range .user; place-low = range .place };
         drive = λ u. drive;
         image-right = good-consistent G (d .image) (d .map) good;
         map-right = λ z. good-right G (d .image) (d .map) good;
       }
-      record {
+      (makes-right G (q .asked .argument) (lentTo d q) (d .session) record {
         name = name;
         ex = ex;
         new = no-file-is G (entryAt G (d .image)) (d .session .user) (q .fcb) 1 (exOf (q .fcb)) (λ e h. none e h);
         entry = found-cases (findEmpty G (entryAt G (d .image))) (λ k e. record { place = k; is = e })
             (λ e. absurd (not-both (empty (entryAt G (d .image) 0)) (erased-empty G (d .image) erased 0 some) (none-empty-says G (entryAt G (d .image)) e 0 some)));
-      }))
+      })))
     where
       none : (e : ℕ) → e < G .entries → isFile G (d .session .user) (q .fcb) 1 (exOf (q .fcb)) (entryAt G (d .image) e) ≡ false
       none e h =

@@ -14,7 +14,8 @@ use Rattle.disk.specs.Eight.{eight-sound}
 use Rattle.model.specs.declared.Asked.{Asked}
 use Rattle.model.specs.Naming.{names}
 use Rattle.model.specs.Target.{presentEntry}
-use Rattle.model.specs.Table.{oneOf, writeCalls}
+use Rattle.model.specs.Kinds.{oneOf, kindOf}
+use Rattle.model.specs.declared.Kind.the-variants.{Write}
 use Rattle.fields.specs.Erased.{ErasedDisk}
 use Rattle.table.specs.Total.{InRange}
 use Rattle.effects.specs.Where.{Frame}
@@ -28,7 +29,7 @@ use Rattle.demands.specs.StillCurrent.{currentCalls, still-current}
 use Rattle.demands.specs.Begins.{Asks, erased-begins}
 
 -- demand 2
-pub eight-read-back : (d : Disk) (w : Request) → oneOf (w .asked .number) writeCalls ≡ true → accepts eightInch d w ≡ true
+pub eight-read-back : (d : Disk) (w : Request) → kindOf (w .asked .number) ≡ Write → accepts eightInch d w ≡ true
     → (qs : List Request) → AllLeaveAlone eightInch (outcomeOf eightInch d w .lent .fcb) (after eightInch d w) qs
     → (asked : Asked) → asked .number ≡ 33 → (buffer : Bytes) → length buffer ≡ recordBytes
     → Gives (outcomeOf eightInch (run eightInch (after eightInch d w) qs) (record { asked = asked; fcb = readFcb eightInch d w; buffer = buffer })) (w .buffer)

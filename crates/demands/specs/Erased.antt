@@ -1,5 +1,5 @@
 -- The demands speak of something: an erased disk is accepted by the log-in, with any map, FCB, buffer and session that fit.
-use mathlib.Core.Path.{_≡_, ap, _∙_}
+use mathlib.Core.Path.{_≡_, ap, _∙_, refl}
 use mathlib.Core.Bool.{true}
 use Prim.Native.Nat.{ℕ}
 use lib.ListN.{length}
@@ -7,7 +7,8 @@ use Rattle.format.specs.Diskette.{Geometry, recordBytes}
 use Rattle.format.specs.Fcb.{fcbBytes}
 use Rattle.model.specs.Table.{verdict}
 use Rattle.fields.specs.Erased.{ErasedDisk, erased-consistent}
-use Rattle.table.specs.Own.{call13}
+use Rattle.table.specs.Own.{ask}
+use Rattle.model.specs.Kinds.{kindOf, isCall}
 use Rattle.table.specs.Facts.{Fits}
 use Rattle.table.specs.Reflect.{login-ready}
 use Rattle.table.specs.Accept.{passes}
@@ -17,13 +18,13 @@ use Rattle.demands.specs.Runs.{Request, Disk, lentTo, outcomeOf, accepts
 
 pub erased-accepted : (G : Geometry) (d : Disk) (q : Request) → ErasedDisk G (d .image) → length (d .map) ≡ G .blocks → InRange G (d .session)
     → q .asked .number ≡ 13 → length (q .fcb) ≡ fcbBytes → length (q .buffer) ≡ recordBytes → accepts G d q ≡ true
-unfolding outcomeOf
+unfolding outcomeOf isCall kindOf
 erased-accepted G d q erased map range n fcb buffer =
     carried-says G (q .asked) (lentTo d q) (d .session)
     (total-accepted G (q .asked) (lentTo d q) (d .session)
-    (ap (λ (k : ℕ). verdict G k (q .asked .argument) (lentTo d q) (d .session)) n
-    ∙ passes G 13 (q .asked .argument) (lentTo d q) (d .session) call13
-    (login-ready G (lentTo d q) (d .session) fits (erased-consistent G (d .image) erased)) tt))
+    (ap (λ (k : ℕ). verdict G (ask k (q .asked .argument)) (lentTo d q) (d .session)) n
+    ∙ passes G (ask 13 (q .asked .argument)) (lentTo d q) (d .session) refl
+    (login-ready G (q .asked .argument) (lentTo d q) (d .session) fits (erased-consistent G (d .image) erased)) tt))
   where
     fits : Fits G (lentTo d q) (d .session)
     fits = record {

@@ -17,9 +17,9 @@ use Rattle.fields.specs.Target.{place-below}
 use Rattle.model.specs.Lent.{Lent, Outcome}
 use Rattle.model.specs.Calls.{loggedIn}
 use Rattle.model.specs.Naming.{names}
-use Rattle.model.specs.Step.{effect}
-use Rattle.table.specs.Own.{call13}
-use Rattle.table.specs.Carried.{effect-is}
+use Rattle.model.specs.Step.{settled, effect}
+use Rattle.table.specs.Own.{ask}
+use Rattle.model.specs.Kinds.{kindOf}
 use Rattle.table.specs.Total.{InRange, step-range}
 use Rattle.invariant.specs.Good.{Good, good-consistent, good-right}
 use Rattle.invariant.specs.Step.{step-accepted, step-good, good-never-one}
@@ -38,10 +38,10 @@ pub record Booked (G : Geometry) (d : Disk) (u : Book) : Type 0 where
 
 -- what an accepted log-in does
 pub logged-in : (G : Geometry) (d : Disk) (q : Request) → q .asked .number ≡ 13 → accepts G d q ≡ true → outcomeOf G d q ≡ loggedIn G (d .session) (lentTo d q)
-unfolding outcomeOf
+unfolding outcomeOf effect kindOf settled
 logged-in G d q n a =
     accepted-carried G (q .asked) (lentTo d q) (d .session) a .is
-    ∙ ap (λ (k : ℕ). effect G k (q .asked .argument) (lentTo d q) (d .session)) n ∙ effect-is G (q .asked .argument) (lentTo d q) (d .session) call13
+    ∙ ap (λ (k : ℕ). effect G (ask k (q .asked .argument)) (lentTo d q) (d .session)) n
 
 module _ {G : Geometry} (S : Sound G) where
   pub booked-after : (d : Disk) (q : Request) (u : Book) → Booked G d u → Booked G (after G d q) (bookAfter G d q u)

@@ -7,7 +7,7 @@ use Prim.Native.Nat.{ℕ, _+_, _%_, _≤_, _<_}
 use native.Mathlib.Omega.{arith}
 use lib.ListN.{length, getD, set}
 use lib.Seq.{getD-set-same, getD-set-other}
-use Rattle.lists.specs.Cases.{split, eq-or-ne}
+use Rattle.lists.specs.Cases.{split}
 use Rattle.lists.specs.Tests.{_or_}
 use Rattle.format.specs.Diskette.{Bytes, Geometry, Sound, recordBytes, extents}
 use Rattle.format.specs.Entries.{userOf, extentOf, named}
@@ -18,15 +18,18 @@ use Rattle.model.specs.declared.Session.{Session}
 use Rattle.model.specs.Lent.{Lent, Outcome}
 use Rattle.model.specs.Naming.{names}
 use Rattle.model.specs.Target.{targetExtent, targetRecord}
-use Rattle.model.specs.Table.{oneOf, writeCalls, usesFcb}
+use Rattle.model.specs.Kinds.{kindOf, usesFcb, wild}
+use Rattle.model.specs.declared.Kind.{Kind}
+use Rattle.model.specs.declared.Kind.the-variants.{User, Settle, Write}
 use Rattle.model.specs.Calls.{written}
-use Rattle.model.specs.Step.{step}
+use Rattle.model.specs.Step.{effect, step}
 use Rattle.fields.specs.Agree.{SameName, named-cong}
 use Rattle.facts.specs.Naming.{named-user, named-like}
-use Rattle.table.specs.Own.{Call, call13, call15, call16, call17, call18, call19, call20, call21, call22, call23, call32, call33, call34, call35, call36, call46, call98, told-apart, at-call}
+use Rattle.table.specs.Own.{at-kind, is-or-not, kinds-apart}
+use Rattle.table.specs.Accept.{writes-by}
 use Rattle.table.specs.First.{_&_}
-use Rattle.table.specs.Facts.{Writes, Own, Ready}
-use Rattle.table.specs.Carried.{Leaves, carriedBy, effect-is}
+use Rattle.table.specs.Facts.{Ready}
+use Rattle.table.specs.Carried.{Leaves, over, on, sets}
 use Rattle.table.specs.Total.{InRange, total, step-range}
 use Rattle.invariant.specs.Good.{Good}
 use Rattle.invariant.specs.Step.{step-good}
@@ -47,8 +50,8 @@ fileRow user f = set f 0 user
 -- the call q, on disk d, leaves the file of f alone: it does not name it, is no accepted 13 or 98, and no 32 that changes the user
 pub record LeavesAlone (G : Geometry) (f : Bytes) (d : Disk) (q : Request) : Type 0 where
   pub elsewhere : names (q .asked .number) (d .session .user) (q .fcb) (fileRow (d .session .user) f) ≡ false
-  pub unsettled : accepts G d q ≡ true → oneOf (q .asked .number) (13 ∷ 98 ∷ []) ≡ false
-  pub same-user : q .asked .number ≡ 32 → after G d q .session .user ≡ d .session .user
+  pub unsettled : accepts G d q ≡ true → kindOf (q .asked .number) ≡ Settle → ⊥
+  pub same-user : kindOf (q .asked .number) ≡ User → after G d q .session .user ≡ d .session .user
 
 -- so do all the calls, one after the other
 abbrev pub AllLeaveAlone : Geometry → Bytes → Disk → List Request → Type 0
@@ -59,7 +62,7 @@ AllLeaveAlone G f d (q ∷ qs) = LeavesAlone G f d q × AllLeaveAlone G f (after
 names-cong : (n user : ℕ) (fcb r t : Bytes) → userOf r ≡ userOf t → SameName r 1 t 1 → names n user fcb r ≡ names n user fcb t
 unfolding names
 names-cong n user fcb r t e m =
-    rw (named-cong (oneOf n (17 ∷ 19 ∷ [])) user fcb 1 r t e m, named-cong false user fcb 17 r t e m)
+    rw (named-cong (wild n) user fcb 1 r t e m, named-cong false user fcb 17 r t e m)
 
 names-apart : (n user : ℕ) (fcb f : Bytes) → length f ≡ fcbBytes → names n user fcb (fileRow user f) ≡ false
     → (r : Bytes) → named false user f 1 r ≡ true → names n user fcb r ≡ false
@@ -70,31 +73,18 @@ names-apart n user fcb f hf q r h =
     ∙ q
 
 -- ---- only 32 sets the user
-leaves-user : (G : Geometry) (argument : ℕ) (l : Lent) (s : Session) {n : ℕ} (c : Call n) (t : Session) → (n ≡ 32 → ⊥) → Leaves G argument l s c t → t .user ≡ s .user
-leaves-user G argument l s call13 t z e = ap (λ (x : Session). x .user) e
-leaves-user G argument l s call15 t z e = ap (λ (x : Session). x .user) e
-leaves-user G argument l s call16 t z e = ap (λ (x : Session). x .user) e
-leaves-user G argument l s call17 t z e = ap (λ (x : Session). x .user) (e .on)
-leaves-user G argument l s call18 t z e = ap (λ (x : Session). x .user) (e .on)
-leaves-user G argument l s call19 t z e = ap (λ (x : Session). x .user) e
-leaves-user G argument l s call20 t z e = ap (λ (x : Session). x .user) e
-leaves-user G argument l s call21 t z e = ap (λ (x : Session). x .user) e
-leaves-user G argument l s call22 t z e = ap (λ (x : Session). x .user) e
-leaves-user G argument l s call23 t z e = ap (λ (x : Session). x .user) e
-leaves-user G argument l s call32 t z e = absurd (z refl)
-leaves-user G argument l s call33 t z e = ap (λ (x : Session). x .user) e
-leaves-user G argument l s call34 t z e = ap (λ (x : Session). x .user) e
-leaves-user G argument l s call35 t z e = ap (λ (x : Session). x .user) e
-leaves-user G argument l s call36 t z e = ap (λ (x : Session). x .user) e
-leaves-user G argument l s call46 t z e = ap (λ (x : Session). x .user) e
-leaves-user G argument l s call98 t z e = ap (λ (x : Session). x .user) e
+leaves-user : (G : Geometry) (asked : Asked) (l : Lent) (s : Session) (t : Session) → (kindOf (asked .number) ≡ User → ⊥)
+    → Leaves G asked l s (kindOf (asked .number)) t → t .user ≡ s .user
+leaves-user G asked l s t z (over p q e) = ap (λ (x : Session). x .user) e
+leaves-user G asked l s t z (on k g) = ap (λ (x : Session). x .user) (g .on)
+leaves-user G asked l s t z (sets k e) = absurd (z k)
 
-pub user-stays : (G : Geometry) (d : Disk) (q : Request) → (q .asked .number ≡ 32 → ⊥) → after G d q .session .user ≡ d .session .user
+pub user-stays : (G : Geometry) (d : Disk) (q : Request) → (kindOf (q .asked .number) ≡ User → ⊥) → after G d q .session .user ≡ d .session .user
 unfolding after outcomeOf
 user-stays G d q z =
     split (total G (q .asked) (lentTo d q) (d .session))
     (λ w. split (w .1 .session) (λ e. ap (λ (x : Session). x .user) e) (λ e. ap (λ (x : Session). x .user) (e .1)))
-    (λ c. leaves-user G (q .asked .argument) (lentTo d q) (d .session) (c .facts .call) (step G (q .asked) (lentTo d q) (d .session) .answer .session) z (c .done .leaves))
+    (λ c. leaves-user G (q .asked) (lentTo d q) (d .session) (step G (q .asked) (lentTo d q) (d .session) .answer .session) z (c .done .leaves))
 
 -- ---- a record that holds, over calls that leave its file alone
 pub record Kept (G : Geometry) (d : Disk) (user : ℕ) (f : Bytes) (e rec : ℕ) (v : Bytes) : Type 0 where
@@ -116,7 +106,7 @@ module _ {G : Geometry} (S : Sound G) (user : ℕ) (f : Bytes) (hf : length f �
       record {
         good = step-good S (q .asked) (lentTo d q) (d .session) (k .good);
         range = step-range G (q .asked) (lentTo d q) (d .session) (k .range);
-        same = split (eq-or-ne (q .asked .number) 32) (λ z. o .same-user z) (λ z. user-stays G d q z) ∙ k .same;
+        same = split (is-or-not (kindOf (q .asked .number)) User) (λ z. o .same-user z) (λ z. user-stays G d q z) ∙ k .same;
         holds = holds-kept S (viewOf G (d .image) (d .map)) t N user low f
             (subst (λ (x : ℕ). Effect G (viewOf G (d .image) (d .map)) t (names (q .asked .number) x (q .fcb))) (k .same) (ok .effect))
             (subst (λ (x : ℕ). Keeps G (viewOf G (d .image) (d .map)) t (names (q .asked .number) x (q .fcb))) (k .same) (ok .keeps (o .unsettled)))
@@ -153,43 +143,32 @@ pub record Wrote (G : Geometry) (d : Disk) (w : Request) : Type 0 where
   pub extent : targetExtent (w .asked .number) (w .fcb) < extents
   pub range : InRange G (d .session)
 
-module _ {G : Geometry} (S : Sound G) (argument : ℕ) (l : Lent) (s : Session) where
-  record WriteFacts (n : ℕ) (o : Outcome) : Type 0 where
-    ok : WriteOk G n (s .user) l (o .lent)
-    extent : targetExtent n (l .fcb) < extents
-    uses : usesFcb n ≡ true
+write-uses : (n : ℕ) → kindOf n ≡ Write → (usesFcb n ≡ true) × (n ≡ 13 → ⊥)
+unfolding usesFcb
+write-uses n = at-kind (λ (m : ℕ). (usesFcb m ≡ true) × (m ≡ 13 → ⊥)) Write n refl ((refl, λ z. omega arith) & (refl, λ z. omega arith) & tt)
 
-  facts-of : (n : ℕ) → (n ≡ 13 → ⊥) → usesFcb n ≡ true → Ready G n l s → Writes G l s n → WriteFacts n (written G s l n)
-  facts-of n z u r o = record { ok = written-ok S n l s (ready-good r z) (r .fits) o; extent = o .extent; uses = u }
-
-  write-facts : (n : ℕ) → oneOf n writeCalls ≡ true → (c : Call n) → Ready G n l s → Own G l s argument c → WriteFacts n (carriedBy G argument l s c)
-  unfolding usesFcb oneOf _or_
-  write-facts n w =
-      at-call (λ (m : ℕ) (c : Call m). Ready G m l s → Own G l s argument c → WriteFacts m (carriedBy G argument l s c)) n writeCalls w
-      ((call21, facts-of 21 (λ q. omega arith) refl) & (call34, facts-of 34 (λ q. omega arith) refl) & tt)
-
-module _ {G : Geometry} (S : Sound G) (d : Disk) (w : Request) (writes : oneOf (w .asked .number) writeCalls ≡ true)
+module _ {G : Geometry} (S : Sound G) (d : Disk) (w : Request) (writes : kindOf (w .asked .number) ≡ Write)
     (accepted : accepts G d w ≡ true) where
   pub wrote : Wrote G d w
-  unfolding outcomeOf
+  unfolding outcomeOf effect
   wrote =
       let c = accepted-carried G (w .asked) (lentTo d w) (d .session) accepted in
-      let k = write-facts S (w .asked .argument) (lentTo d w) (d .session) (w .asked .number) writes (c .facts .call) (c .facts .ready) (c .facts .own) in
+      let u = write-uses (w .asked .number) writes in
+      let o = writes-by G (w .asked) (lentTo d w) (d .session) (c .facts .none) writes in
       record {
-        ok = subst (λ (o : Outcome). WriteOk G (w .asked .number) (d .session .user) (lentTo d w) (o .lent))
-            (sym (c .is ∙ effect-is G (w .asked .argument) (lentTo d w) (d .session) (c .facts .call))) (k .ok);
-        drive = c .facts .ready .drive (k .uses);
-        extent = k .extent;
+        ok = rw (c .is, writes) (written-ok S (w .asked .number) (lentTo d w) (d .session) (ready-good (c .facts .ready) (u .1)) (c .facts .ready .fits) o);
+        drive = c .facts .ready .drive (u .0);
+        extent = o .extent;
         range = record { user = c .facts .ready .fits .user-low; place = c .facts .ready .fits .place-low };
       }
 
   -- the record that it wrote holds
   wrote-kept : Kept G (after G d w) (d .session .user) (outcomeOf G d w .lent .fcb) (wrote .ok .entry) (targetRecord (w .asked .number) (w .fcb)) (w .buffer)
-  unfolding after outcomeOf oneOf _or_
+  unfolding after outcomeOf
   wrote-kept = record {
     good = wrote .ok .change .good;
     range = step-range G (w .asked) (lentTo d w) (d .session) (wrote .range);
-    same = user-stays G d w (told-apart _ 32 writeCalls writes refl);
+    same = user-stays G d w (λ z. kinds-apart Write User refl (sym writes ∙ z));
     holds = wrote .ok .holds;
   }
 
@@ -199,7 +178,7 @@ unfoldable pub readFcb : Geometry → Disk → Request → Bytes
 readFcb G d w = atRecord (outcomeOf G d w .lent .fcb) (recordNumber (targetExtent (w .asked .number) (w .fcb)) (targetRecord (w .asked .number) (w .fcb)))
 
 -- with any buffer of 128 bytes, and any argument
-pub read-back : {G : Geometry} (S : Sound G) (d : Disk) (w : Request) → oneOf (w .asked .number) writeCalls ≡ true → accepts G d w ≡ true
+pub read-back : {G : Geometry} (S : Sound G) (d : Disk) (w : Request) → kindOf (w .asked .number) ≡ Write → accepts G d w ≡ true
     → (qs : List Request) → AllLeaveAlone G (outcomeOf G d w .lent .fcb) (after G d w) qs
     → (asked : Asked) → asked .number ≡ 33 → (buffer : Bytes) → length buffer ≡ recordBytes
     → Gives (outcomeOf G (run G (after G d w) qs) (record { asked = asked; fcb = readFcb G d w; buffer = buffer })) (w .buffer)

@@ -27,12 +27,14 @@ use Rattle.current.specs.Current.{fcb-says}
 use Rattle.fields.specs.Agree.{Agree, SameName, name-cong, slot-cong, extent-cong, count-cong}
 use Rattle.fields.specs.Numbers.{below-three, length-three, random-three}
 use Rattle.fields.specs.Target.{extent-random, record-random, stays-extent}
-use Rattle.table.specs.Own.{call33}
+use Rattle.table.specs.Own.{ask}
+use Rattle.model.specs.Kinds.{kindOf, isCall, isRandom}
 use Rattle.table.specs.Facts.{Fits, Reads, Ready}
-use Rattle.table.specs.Accept.{passes}
+use Rattle.table.specs.Accept.{reads-right}
 use Rattle.table.specs.Present.{stays-within, target-present, stay-block}
 use Rattle.table.specs.Plans.{There, Planned, stay, move, make, planned-read}
-use Rattle.table.specs.Carried.{effect-is, read-answered}
+use Rattle.table.specs.Carried.{read-answered}
+use Rattle.table.specs.Total.{step-carried}
 use Rattle.invariant.specs.Good.{Good, good-consistent, good-right}
 use Rattle.effects.specs.View.{View, viewOf}
 use Rattle.effects.specs.Cur.{Cur, cur-current, Holds, recSlot}
@@ -102,11 +104,11 @@ module _ {G : Geometry} (S : Sound G) (asked : Asked) (number : asked .number �
   random = ap randomOf is ∙ random-atRecord f (recordNumber (extentOf f) rec) hf (let a = h .inside in omega arith)
 
   target-extent : targetExtent 33 (l .fcb) ≡ extentOf f
-  unfolding _or_
+  unfolding isRandom
   target-extent = extent-random 33 (l .fcb) refl ∙ (let q = random in let a = h .inside in omega arith)
 
   target-record : targetRecord 33 (l .fcb) ≡ rec
-  unfolding _or_
+  unfolding isRandom
   target-record = record-random 33 (l .fcb) refl ∙ (let q = random in let a = h .inside in omega arith)
 
   stays-there : stays 33 (l .fcb) ≡ true
@@ -141,7 +143,7 @@ module _ {G : Geometry} (S : Sound G) (asked : Asked) (number : asked .number �
     there = there;
   }
 
-  ready : Ready G 33 l s
+  ready : Ready G (ask 33 (asked .argument)) l s
   ready = record {
     fits = fits;
     drive = λ u. drive;
@@ -159,16 +161,15 @@ module _ {G : Geometry} (S : Sound G) (asked : Asked) (number : asked .number �
   got p (make k t b q go none room w) = not-both (stays 33 (l .fcb)) stays-there go
 
   step-is : step G asked l s ≡ read G s l 33
-  unfolding step
+  unfolding step effect isCall kindOf
   step-is =
-      let q : verdict G (asked .number) (asked .argument) l s ≡ Passed =
-      ap (λ (n : ℕ). verdict G n (asked .argument) l s) number ∙ passes G 33 (asked .argument) l s call33 ready reads in
-      rw q (ap (λ (n : ℕ). effect G n (asked .argument) l s) number ∙ effect-is G (asked .argument) l s call33)
+      ap (λ (n : ℕ). step G (ask n (asked .argument)) l s) number
+      ∙ step-carried G (ask 33 (asked .argument)) l s refl ready (reads-right G (asked .argument) l s reads)
 
   pub reads-back : Gives (step G asked l s) v
   unfolding read
   reads-back =
-      let a = read-answered G (asked .argument) l s 33 in
+      let a = read-answered G asked l s 33 in
       record {
         is-a = ap (λ (o : Outcome). o .answer .a) step-is ∙ a .is-a;
         is-h = ap (λ (o : Outcome). o .answer .h) step-is ∙ a .is-h;

@@ -3,7 +3,6 @@
 use mathlib.Core.Path.{_≡_, refl, ap, sym, _∙_, subst}
 use mathlib.Core.Logic.{inl}
 use mathlib.Core.Bool.{true, false}
-use mathlib.Core.List.{[], _∷_}
 use Prim.Native.Nat.{ℕ}
 use lib.Dec.{eqb}
 use lib.ListN.{length}
@@ -24,16 +23,18 @@ use Rattle.model.specs.Lent.{Lent, rowsOf, Outcome}
 use Rattle.model.specs.Naming.{names}
 use Rattle.model.specs.Entering.{madeRow}
 use Rattle.model.specs.Target.{targetRecord, targetSlot}
-use Rattle.model.specs.Table.{oneOf, writeCalls, usesFcb}
-use Rattle.model.specs.Calls.{loggedIn, freed, userSet, openedAt, opened, closedAt, closed, foundAt, searched, deletes, deleted, createdAt, created, renamed, sized, positioned, space, read, written}
-use Rattle.model.specs.Step.{effect, step}
+use Rattle.model.specs.Kinds.{kindOf, usesFcb, wild, same}
+use Rattle.model.specs.declared.Kind.{Kind}
+use Rattle.model.specs.declared.Kind.the-variants.{Unlisted, Quiet, Search, User, Settle, Close, Delete, Create, Rename, Read, Write}
+use Rattle.model.specs.Calls.{loggedIn, freed, userSet, closedAt, closed, foundAt, searched, deletes, deleted, createdAt, created, renamed, read, written}
+use Rattle.model.specs.Step.{settled, does, effect, step}
 use Rattle.fields.specs.Making.{length-madeRow, user-made, name-made}
 use Rattle.facts.specs.Naming.{named-intro}
-use Rattle.table.specs.Own.{Call, call13, call15, call16, call17, call18, call19, call20, call21, call22, call23, call32, call33, call34, call35, call36, call46, call98, told-apart, at-call}
+use Rattle.table.specs.Own.{at-kind, same-is, not-unlisted}
 use Rattle.consistency.specs.Naming.{named-used}
 use Rattle.table.specs.First.{_&_}
-use Rattle.table.specs.Facts.{Fits, Closes, Makes, Renames, Own, Ready}
-use Rattle.table.specs.Carried.{carriedBy, effect-is}
+use Rattle.table.specs.Facts.{Fits, Closes, Makes, Renames, Ready, AcceptedCall}
+use Rattle.table.specs.Accept.{closes-of, makes-of, renames-of, reads-of, writes-by}
 use Rattle.table.specs.Total.{CarriedOut, total}
 use Rattle.invariant.specs.Good.{Good, good-of}
 use Rattle.invariant.specs.Calls.{GoodOutcome, carried-good}
@@ -53,13 +54,13 @@ use Rattle.demands.specs.Accepted.{refused-says, carried-says}
 -- has for it, which was free before or belonged to an entry of the file; for any other call none
 pub record MayWrite (G : Geometry) (n : ℕ) (l : Lent) (s : Session) (o : Outcome) (d : ℕ) : Type 0 where
   pub accepts : acceptedAnswer n (o .answer) ≡ true
-  pub writes : oneOf n writeCalls ≡ true
+  pub writes : kindOf n ≡ Write
   pub one : OneRecord G (l .image) (l .map) (names n (s .user) (l .fcb)) (slotOf G (o .lent .fcb) (targetSlot G n (l .fcb))) (targetRecord n (l .fcb)) d
 
 pub record StepOk (G : Geometry) (n : ℕ) (l : Lent) (s : Session) (o : Outcome) : Type 0 where
   pub effect : Effect G (viewOf G (l .image) (l .map)) (viewOf G (o .lent .image) (o .lent .map)) (names n (s .user) (l .fcb))
   -- all but accepted 13 and 98 keep what is pending for other files
-  pub keeps : (acceptedAnswer n (o .answer) ≡ true → oneOf n (13 ∷ 98 ∷ []) ≡ false)
+  pub keeps : (acceptedAnswer n (o .answer) ≡ true → kindOf n ≡ Settle → ⊥)
       → Keeps G (viewOf G (l .image) (l .map)) (viewOf G (o .lent .image) (o .lent .map)) (names n (s .user) (l .fcb))
   pub frame : Frame G (l .image) (o .lent .image) (names n (s .user) (l .fcb)) (MayWrite G n l s o)
   pub book : (u : Book) → Tracks G u (noteAt (l .map)) → Tracks G (bookStep G n l s o u) (noteAt (o .lent .map))
@@ -96,28 +97,33 @@ carries-ok G n l s o a c = record {
 }
 
 -- 13 and 98: the map alone changes, and nothing is held any more
-settles-ok : (G : Geometry) (n : ℕ) (l : Lent) (s : Session) (o : Outcome) → acceptedAnswer n (o .answer) ≡ true → oneOf n (13 ∷ 98 ∷ []) ≡ true
+settles-ok : (G : Geometry) (n : ℕ) (l : Lent) (s : Session) (o : Outcome) → acceptedAnswer n (o .answer) ≡ true → kindOf n ≡ Settle
     → o .lent .image ≡ l .image → Tracks G nothingHeld (noteAt (o .lent .map)) → StepOk G n l s o
 unfolding bookBy
 settles-ok G n l s o a w q tr = record {
   effect = record { row = λ e f. rw q; new = λ e h z. inl (rw q); dat = λ b k e h m f. rw q };
-  keeps = λ z. not-both (oneOf n (13 ∷ 98 ∷ [])) w (z a);
+  keeps = λ z. absurd (z a w);
   frame = λ i. inl (rw q);
   book = λ u t b h. ap (λ (v : Book). v b) (accepted-book G n l s o u a) ∙ rw w (tr b h);
 }
 
 -- ---- naming
-names-by : (n user : ℕ) (fcb r : Bytes) → length fcb ≡ fcbBytes → usesFcb n ≡ true → named (oneOf n (17 ∷ 19 ∷ [])) user fcb 1 r ≡ true
+names-by : (n user : ℕ) (fcb r : Bytes) → length fcb ≡ fcbBytes → usesFcb n ≡ true → named (wild n) user fcb 1 r ≡ true
     → names n user fcb r ≡ true
 unfolding names
 names-by n user fcb r hf u h = and-both _ _ (eq-eqb _ _ hf) (and-both _ _ u (or-left _ _ h))
 
-names-plain : (n user : ℕ) (fcb : Bytes) → length fcb ≡ fcbBytes → usesFcb n ≡ true → oneOf n (17 ∷ 19 ∷ []) ≡ false
+names-plain : (n user : ℕ) (fcb : Bytes) → length fcb ≡ fcbBytes → usesFcb n ≡ true → wild n ≡ false
     → (r : Bytes) → byName user fcb r ≡ true → names n user fcb r ≡ true
 names-plain n user fcb hf u o r h = names-by n user fcb r hf u (rw o h)
 
+-- a call that goes by the name in the FCB
+record Named (n : ℕ) : Type 0 where
+  uses : usesFcb n ≡ true
+  plain : wild n ≡ false
+
 -- ---- call by call
-module _ {G : Geometry} (S : Sound G) (argument : ℕ) (l : Lent) (s : Session) (f : Fits G l s) (g : Good G (l .image) (l .map)) where
+module _ {G : Geometry} (S : Sound G) (l : Lent) (s : Session) (f : Fits G l s) (g : Good G (l .image) (l .map)) where
   -- a call that changes neither image nor map nor book
   quiet : (n : ℕ) (o : Outcome) → o .lent .image ≡ l .image → o .lent .map ≡ l .map → ((u : Book) → bookBy G n (s .user) l (o .lent) u ≡ u) → Carries G n l s o
   quiet n o p q b =
@@ -128,60 +134,66 @@ module _ {G : Geometry} (S : Sound G) (argument : ℕ) (l : Lent) (s : Session) 
       (no-change G (names n (s .user) (l .fcb)) (MayWrite G n l s o) (l .image) (l .map) g)))
 
   -- a change by the name of the FCB that writes no record
-  by-name : (n : ℕ) (o : Outcome) (B : Book → Book) → usesFcb n ≡ true → oneOf n (17 ∷ 19 ∷ []) ≡ false → ((u : Book) → bookBy G n (s .user) l (o .lent) u ≡ B u)
+  by-name : (n : ℕ) (o : Outcome) (B : Book → Book) → usesFcb n ≡ true → wild n ≡ false → ((u : Book) → bookBy G n (s .user) l (o .lent) u ≡ B u)
       → Change G (byName (s .user) (l .fcb)) WritesNone B (l .image) (l .map) (o .lent .image) (o .lent .map) → Carries G n l s o
   by-name n o B u w b c =
       as-change G (byName (s .user) (l .fcb)) (names n (s .user) (l .fcb)) WritesNone (MayWrite G n l s o) B (bookBy G n (s .user) l (o .lent))
       (l .image) (l .map) (o .lent .image) (o .lent .map) (names-plain n (s .user) (l .fcb) (f .fcb-long) u w) (λ d z. absurd z) (λ v x h. ap (λ (y : Book). y x) (b v)) c
 
   -- 16
-  closed-carries : Closes G l s → Carries G 16 l s (closed G s l)
-  unfolding closed closedAt closedBook usesFcb oneOf bookBy _or_
-  closed-carries c =
+  closed-carries : (n : ℕ) → kindOf n ≡ Close → Closes G l s → Carries G n l s (closed G s l)
+  unfolding closed closedAt closedBook bookBy usesFcb wild
+  closed-carries n q c =
       let e : ℕ = c .entry .place in
+      let m = at-kind Named Close n refl (record { uses = refl; plain = refl } & tt) q in
       rw (c .entry .is)
-      (by-name 16 (closedAt G s l e) (settledBy G (rowsOf G l e) (l .fcb)) refl refl (λ u. rw (present-before S 16 l s g f e (c .entry .is) WritesNone))
-      (closed-change S (l .image) (l .map) g (s .user) (f .user-low) (l .fcb) e (present-cur S 16 l s g f e (c .entry .is) WritesNone) WritesNone))
+      (by-name n (closedAt G s l e) (settledBy G (rowsOf G l e) (l .fcb)) (m .uses) (m .plain) (λ u. rw (q, present-before S n l s g f e (c .entry .is) WritesNone))
+      (closed-change S (l .image) (l .map) g (s .user) (f .user-low) (l .fcb) e (present-cur S n l s g f e (c .entry .is) WritesNone) WritesNone))
 
   -- 20 and 33
-  read-carries : (n : ℕ) → usesFcb n ≡ true → oneOf n (17 ∷ 19 ∷ []) ≡ false → ((u : Book) → bookBy G n (s .user) l (read G s l n .lent) u ≡ movedBook G n (s .user) l u)
-      → ReadOk G n (s .user) l (read G s l n .lent) → Carries G n l s (read G s l n)
-  read-carries n u w b r = by-name n (read G s l n) (movedBook G n (s .user) l) u w b (r .change)
+  read-carries : (n : ℕ) → kindOf n ≡ Read → ReadOk G n (s .user) l (read G s l n .lent) → Carries G n l s (read G s l n)
+  unfolding bookBy usesFcb wild
+  read-carries n q r =
+      let m = at-kind Named Read n refl (record { uses = refl; plain = refl } & record { uses = refl; plain = refl } & tt) q in
+      by-name n (read G s l n) (movedBook G n (s .user) l) (m .uses) (m .plain) (λ u. rw q) (r .change)
 
   -- 21 and 34
-  written-carries : (n : ℕ) → usesFcb n ≡ true → oneOf n (17 ∷ 19 ∷ []) ≡ false → oneOf n writeCalls ≡ true
-      → ((u : Book) → bookBy G n (s .user) l (written G s l n .lent) u ≡ writtenBook G n (s .user) l (written G s l n .lent) u)
-      → acceptedAnswer n (written G s l n .answer) ≡ true → WriteOk G n (s .user) l (written G s l n .lent) → Carries G n l s (written G s l n)
-  written-carries n u w o b a r =
-      let more = names-plain n (s .user) (l .fcb) (f .fcb-long) u w in
+  written-carries : (n : ℕ) → kindOf n ≡ Write → acceptedAnswer n (written G s l n .answer) ≡ true → WriteOk G n (s .user) l (written G s l n .lent)
+      → Carries G n l s (written G s l n)
+  unfolding bookBy usesFcb wild
+  written-carries n q a r =
+      let m = at-kind Named Write n refl (record { uses = refl; plain = refl } & record { uses = refl; plain = refl } & tt) q in
+      let more = names-plain n (s .user) (l .fcb) (f .fcb-long) (m .uses) (m .plain) in
       as-change G (byName (s .user) (l .fcb)) (names n (s .user) (l .fcb)) (OneOf G n (s .user) l (written G s l n .lent)) (MayWrite G n l s (written G s l n))
       (writtenBook G n (s .user) l (written G s l n .lent)) (bookBy G n (s .user) l (written G s l n .lent)) (l .image) (l .map)
       (written G s l n .lent .image) (written G s l n .lent .map) more
       (λ d x. record {
         accepts = a;
-        writes = o;
+        writes = q;
         one = one-more G (l .image) (l .map) (byName (s .user) (l .fcb)) (names n (s .user) (l .fcb)) more
             (slotOf G (written G s l n .lent .fcb) (targetSlot G n (l .fcb))) (targetRecord n (l .fcb)) d x;
       })
-      (λ v x h. ap (λ (y : Book). y x) (b v)) (r .change)
+      (λ v x h. rw q) (r .change)
 
   -- 19
-  deleted-carries : Carries G 19 l s (deleted G s l)
-  unfolding deleted deletes deletedBook usesFcb oneOf bookBy _or_
-  deleted-carries =
-      as-change G (deletes G s l) (names 19 (s .user) (l .fcb)) WritesNone (MayWrite G 19 l s (deleted G s l)) (deletedBook G 19 (s .user) l)
-      (bookBy G 19 (s .user) l (deleted G s l .lent)) (l .image) (l .map) (deleted G s l .lent .image) (deleted G s l .lent .map)
-      (λ r h. names-by 19 (s .user) (l .fcb) r (f .fcb-long) refl h) (λ d z. absurd z) (λ u x h. refl)
+  deleted-carries : (n : ℕ) → kindOf n ≡ Delete → Carries G n l s (deleted G s l)
+  unfolding deleted deletes deletedBook bookBy usesFcb wild
+  deleted-carries n q =
+      let m = at-kind (λ (n : ℕ). (usesFcb n ≡ true) × (wild n ≡ true)) Delete n refl ((refl, refl) & tt) q in
+      as-change G (deletes G s l) (names n (s .user) (l .fcb)) WritesNone (MayWrite G n l s (deleted G s l)) (deletedBook G n (s .user) l)
+      (bookBy G n (s .user) l (deleted G s l .lent)) (l .image) (l .map) (deleted G s l .lent .image) (deleted G s l .lent .map)
+      (λ r h. names-by n (s .user) (l .fcb) r (f .fcb-long) (m .0) (rw (m .1) h)) (λ d z. absurd z) (λ u x h. rw q)
       (erased-change S (deletes G s l) (l .image) (l .map) g (λ e h n. named-used true (s .user) (l .fcb) 1 (rowsOf G l e) n (f .user-low)) WritesNone)
 
   -- 22
-  created-carries : Makes G l s → GoodOutcome G (created G s l) → Carries G 22 l s (created G s l)
-  unfolding created createdAt usesFcb oneOf bookBy _or_
-  created-carries m good =
+  created-carries : (n : ℕ) → kindOf n ≡ Create → Makes G l s → GoodOutcome G (created G s l) → Carries G n l s (created G s l)
+  unfolding created createdAt bookBy usesFcb wild
+  created-carries n q m good =
       let t : ℕ = m .entry .place in
       let row : Bytes = madeRow (s .user) (l .fcb) in
       let found = empty-says G (rowsOf G l) t (m .entry .is) in
-      by-name 22 (created G s l) asItWas refl refl (λ u. refl)
+      let k = at-kind Named Create n refl (record { uses = refl; plain = refl } & tt) q in
+      by-name n (created G s l) asItWas (k .uses) (k .plain) (λ u. rw q)
       (subst (λ (o : Outcome). Change G (byName (s .user) (l .fcb)) WritesNone asItWas (l .image) (l .map) (o .lent .image) (o .lent .map)) (sym (at t (m .entry .is)))
       (made-change S (byName (s .user) (l .fcb)) (l .image) (l .map) g t (found .below) (found .holds) row (length-madeRow (s .user) (l .fcb))
       (named-intro false (s .user) (l .fcb) 1 row (user-made (s .user) (l .fcb)) (like-intro (l .fcb) 1 row 1 (λ i h. sym (name-made (s .user) (l .fcb) i h))))
@@ -191,36 +203,31 @@ module _ {G : Geometry} (S : Sound G) (argument : ℕ) (l : Lent) (s : Session) 
       at t q = rw q
 
   -- 23
-  renamed-carries : Renames G l s → Carries G 23 l s (renamed G s l)
-  unfolding renamed usesFcb oneOf bookBy _or_
-  renamed-carries r =
-      by-name 23 (renamed G s l) asItWas refl refl (λ u. refl) (renamed-change S (l .image) (l .map) g (s .user) (f .user-low) (l .fcb) (r .new-name) (r .new) WritesNone)
+  renamed-carries : (n : ℕ) → kindOf n ≡ Rename → Renames G l s → Carries G n l s (renamed G s l)
+  unfolding renamed bookBy usesFcb wild
+  renamed-carries n q r =
+      let m = at-kind Named Rename n refl (record { uses = refl; plain = refl } & tt) q in
+      by-name n (renamed G s l) asItWas (m .uses) (m .plain) (λ u. rw q) (renamed-change S (l .image) (l .map) g (s .user) (f .user-low) (l .fcb) (r .new-name) (r .new) WritesNone)
 
-  user-lent : userSet G s l argument .lent ≡ l
+  user-lent : (argument : ℕ) → userSet G s l argument .lent ≡ l
   unfolding userSet
-  user-lent = split (bool-cases (eqb argument 255)) (λ t. rw t) (λ t. rw t)
+  user-lent argument = split (bool-cases (eqb argument 255)) (λ t. rw t) (λ t. rw t)
 
-  -- every call but 13 and 98
-  carried : {n : ℕ} (c : Call n) → oneOf n (13 ∷ 98 ∷ []) ≡ false → Own G l s argument c → acceptedAnswer n (carriedBy G argument l s c .answer) ≡ true
-      → Carries G n l s (carriedBy G argument l s c)
-  unfolding opened openedAt searched foundAt sized positioned space usesFcb oneOf bookBy _or_
-  carried call13 z o a = clash z
-  carried call15 z o a = quiet 15 (opened G s l) refl refl (λ u. refl)
-  carried call16 z o a = closed-carries o
-  carried call17 z o a = quiet 17 (carriedBy G argument l s call17) refl refl (λ u. refl)
-  carried call18 z o a = quiet 18 (carriedBy G argument l s call18) refl refl (λ u. refl)
-  carried call19 z o a = deleted-carries
-  carried call20 z o a = read-carries 20 refl refl (λ u. refl) (reads-ok S 20 l s g f o)
-  carried call21 z o a = written-carries 21 refl refl refl (λ u. refl) a (written-ok S 21 l s g f o)
-  carried call22 z o a = created-carries o (carried-good S l s f g argument call22 o)
-  carried call23 z o a = renamed-carries o
-  carried call32 z o a = quiet 32 (userSet G s l argument) (rw user-lent) (rw user-lent) (λ u. refl)
-  carried call33 z o a = read-carries 33 refl refl (λ u. refl) (reads-ok S 33 l s g f o)
-  carried call34 z o a = written-carries 34 refl refl refl (λ u. refl) a (written-ok S 34 l s g f o)
-  carried call35 z o a = quiet 35 (sized G s l) refl refl (λ u. refl)
-  carried call36 z o a = quiet 36 (positioned G s l) refl refl (λ u. refl)
-  carried call46 z o a = quiet 46 (space G s l) refl refl (λ u. refl)
-  carried call98 z o a = clash z
+  -- every kind but the settling calls
+  carried : (asked : Asked) → AcceptedCall G asked l s → (k : Kind) → kindOf (asked .number) ≡ k → same k Settle ≡ false
+      → acceptedAnswer (asked .number) (does G asked l s k .answer) ≡ true → Carries G (asked .number) l s (does G asked l s k)
+  unfolding searched foundAt bookBy
+  carried asked c Unlisted q z a = not-unlisted (asked .number) (c .listed) q
+  carried asked c Quiet q z a = quiet (asked .number) (does G asked l s Quiet) refl refl (λ u. rw q)
+  carried asked c Search q z a = quiet (asked .number) (does G asked l s Search) refl refl (λ u. rw q)
+  carried asked c User q z a = quiet (asked .number) (does G asked l s User) (rw (user-lent (asked .argument))) (rw (user-lent (asked .argument))) (λ u. rw q)
+  carried asked c Settle q z a = clash z
+  carried asked c Close q z a = closed-carries (asked .number) q (closes-of G asked l s (c .none) q)
+  carried asked c Delete q z a = deleted-carries (asked .number) q
+  carried asked c Create q z a = let m = makes-of G asked l s (c .none) q in created-carries (asked .number) q m (carried-good S l s f g asked c Create q)
+  carried asked c Rename q z a = renamed-carries (asked .number) q (renames-of G asked l s (c .none) q)
+  carried asked c Read q z a = read-carries (asked .number) q (reads-ok S (asked .number) l s g f (reads-of G asked l s (c .none) (c .ready .image-right) (f .user-low) q))
+  carried asked c Write q z a = written-carries (asked .number) q a (written-ok S (asked .number) l s g f (writes-by G asked l s (c .none) q))
 
 -- 13 leaves the fresh map, 98 one without pending notes: nothing is held
 pub logged-in-tracks : (G : Geometry) (l : Lent) (s : Session) → Tracks G nothingHeld (noteAt (loggedIn G s l .lent .map))
@@ -231,41 +238,37 @@ freed-settles : (G : Geometry) (l : Lent) (s : Session) → Tracks G nothingHeld
 unfolding freed
 freed-settles G l s = freed-tracks G (noteAt (l .map)) (noteAt (freedMap G (l .map))) (freed-at G (l .map))
 
-module _ (G : Geometry) (argument : ℕ) (l : Lent) (s : Session) where
-  abbrev Settled : (n : ℕ) → Call n → Type 0
-  Settled n c = acceptedAnswer n (carriedBy G argument l s c .answer) ≡ true → StepOk G n l s (carriedBy G argument l s c)
-
-  settled : (n : ℕ) → oneOf n (13 ∷ 98 ∷ []) ≡ true → (c : Call n) → Settled n c
-  unfolding loggedIn freed oneOf _or_
-  settled n z =
-      at-call Settled n (13 ∷ 98 ∷ []) z
-      ((call13, λ a. settles-ok G 13 l s (loggedIn G s l) a refl refl (logged-in-tracks G l s))
-      & (call98, λ a. settles-ok G 98 l s (freed G s l) a refl refl (freed-settles G l s)) & tt)
+settles : (G : Geometry) (asked : Asked) (l : Lent) (s : Session) → kindOf (asked .number) ≡ Settle
+    → acceptedAnswer (asked .number) (settled G asked l s .answer) ≡ true → StepOk G (asked .number) l s (settled G asked l s)
+unfolding settled loggedIn freed
+settles G asked l s q a =
+    settles-ok G (asked .number) l s (settled G asked l s) a q
+    (split (bool-cases (eqb (asked .number) 13)) (λ t. rw t) (λ t. rw t))
+    (split (bool-cases (eqb (asked .number) 13)) (λ t. rw t (logged-in-tracks G l s)) (λ t. rw t (freed-settles G l s)))
 
 -- ---- every call
-not-login : (n : ℕ) → oneOf n (13 ∷ 98 ∷ []) ≡ false → n ≡ 13 → ⊥
-unfolding oneOf _or_
-not-login n h q = told-apart 13 n (13 ∷ 98 ∷ []) refl h (sym q)
+not-login : (n : ℕ) (k : Kind) → kindOf n ≡ k → same k Settle ≡ false → n ≡ 13 → ⊥
+unfolding kindOf
+not-login n k q z e = not-both (same k Settle) (ap (λ (j : Kind). same j Settle) (sym q ∙ ap kindOf e)) z
 
 -- image and map of a call that was carried out were good before, unless it is 13
-pub ready-good : {G : Geometry} {n : ℕ} {l : Lent} {s : Session} → Ready G n l s → (n ≡ 13 → ⊥) → Good G (l .image) (l .map)
-ready-good {G} {n} {l} {s} r q = good-of G (l .image) (l .map) (r .fits .image-long) (r .fits .map-long) (r .image-right) (r .map-right q)
+pub ready-good : {G : Geometry} {asked : Asked} {l : Lent} {s : Session} → Ready G asked l s → (asked .number ≡ 13 → ⊥) → Good G (l .image) (l .map)
+ready-good {G} {asked} {l} {s} r q = good-of G (l .image) (l .map) (r .fits .image-long) (r .fits .map-long) (r .image-right) (r .map-right q)
 
 module _ {G : Geometry} (S : Sound G) (asked : Asked) (l : Lent) (s : Session) where
   pub carried-ok : CarriedOut G asked l s → StepOk G (asked .number) l s (step G asked l s)
+  unfolding effect
   carried-ok c =
-      subst (StepOk G (asked .number) l s) (sym is)
-      (go (c .facts .call) (c .facts .ready) (c .facts .own) (ap (λ (o : Outcome). acceptedAnswer (asked .number) (o .answer)) (sym is) ∙ carried-says G asked l s c))
+      subst (StepOk G (asked .number) l s) (sym (c .is))
+      (go (kindOf (asked .number)) refl (ap (λ (o : Outcome). acceptedAnswer (asked .number) (o .answer)) (sym (c .is)) ∙ carried-says G asked l s c))
     where
-      is : step G asked l s ≡ carriedBy G (asked .argument) l s (c .facts .call)
-      is = c .is ∙ effect-is G (asked .argument) l s (c .facts .call)
-
-      go : {n : ℕ} (k : Call n) → Ready G n l s → Own G l s (asked .argument) k → acceptedAnswer n (carriedBy G (asked .argument) l s k .answer) ≡ true
-          → StepOk G n l s (carriedBy G (asked .argument) l s k)
-      go {n} k r o a =
-          split (bool-cases (oneOf n (13 ∷ 98 ∷ []))) (λ z. settled G (asked .argument) l s n z k a)
-          (λ z. carries-ok G n l s (carriedBy G (asked .argument) l s k) a
-          (carried S (asked .argument) l s (r .fits) (ready-good r (not-login n z)) k z o a))
+      go : (k : Kind) → kindOf (asked .number) ≡ k → acceptedAnswer (asked .number) (does G asked l s k .answer) ≡ true
+          → StepOk G (asked .number) l s (does G asked l s k)
+      go k q a =
+          split (bool-cases (same k Settle)) (λ z. let e = same-is k Settle z in
+          subst (λ (j : Kind). acceptedAnswer (asked .number) (does G asked l s j .answer) ≡ true → StepOk G (asked .number) l s (does G asked l s j)) (sym e) (settles G asked l s (q ∙ e)) a)
+          (λ z. carries-ok G (asked .number) l s (does G asked l s k) a
+          (carried S l s (c .facts .ready .fits) (ready-good (c .facts .ready) (not-login (asked .number) k q z)) asked (c .facts) k q z a))
 
   pub step-ok : StepOk G (asked .number) l s (step G asked l s)
   step-ok =

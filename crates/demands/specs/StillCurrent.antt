@@ -1,7 +1,7 @@
 -- For those who build above the calls: the FCB handed back by an accepted 16, 20, 21, 33 or 34 is current under the session handed back,
 -- and so is that of an accepted 15 or 22 whose cr is at most 128.
 use mathlib.Core.Path.{_≡_, refl, sym, _∙_, subst}
-use mathlib.Core.Bool.{true}
+use mathlib.Core.Bool.{true, false}
 use mathlib.Core.List.{List, [], _∷_}
 use Prim.Native.Nat.{ℕ, _≤_}
 use native.Mathlib.Omega.{arith}
@@ -17,16 +17,20 @@ use Rattle.model.specs.declared.Session.{Session}
 use Rattle.model.specs.Lent.{Lent, rowsOf, Outcome}
 use Rattle.model.specs.Entering.{madeRow}
 use Rattle.model.specs.Target.{presentEntry}
-use Rattle.model.specs.Table.{oneOf, askedEntry}
-use Rattle.model.specs.Calls.{openedAt, opened, closedAt, closed, createdAt, created, read, written}
+use Rattle.model.specs.Kinds.{oneOf, kindOf, same}
+use Rattle.model.specs.declared.Kind.{Kind}
+use Rattle.model.specs.declared.Kind.the-variants.{Quiet, User, Close, Create, Read, Write}
+use Rattle.model.specs.Table.{askedEntry}
+use Rattle.model.specs.Calls.{quietly, openedAt, opened, closedAt, closed, createdAt, created, read, written}
 use Rattle.fields.specs.Fine.{fine-made}
 use Rattle.fields.specs.Making.{length-madeRow, user-made}
 use Rattle.facts.specs.Naming.{file-user, file-run}
 use Rattle.consistency.specs.Naming.{file-used}
 use Rattle.table.specs.First.{_&_}
-use Rattle.table.specs.Own.{Call, call15, call16, call20, call21, call22, call33, call34, told-apart, at-call}
-use Rattle.table.specs.Facts.{Fits, Opens, Closes, Makes, Reads, Writes, Own}
-use Rattle.table.specs.Carried.{carriedBy, effect-is}
+use Rattle.table.specs.Own.{ask, at-one, told-apart, kinds-apart}
+use Rattle.table.specs.Accept.{opens-of, closes-of, makes-of, reads-of, writes-by}
+use Rattle.table.specs.Facts.{Fits, Opens, Closes, Makes, Reads, Writes, AcceptedCall}
+use Rattle.model.specs.Step.{told, effect}
 use Rattle.invariant.specs.Good.{Good}
 use Rattle.invariant.specs.Step.{step-accepted}
 use Rattle.effects.specs.View.{viewOf}
@@ -51,7 +55,7 @@ pub record CurrentIn (G : Geometry) (user : ℕ) (l : Lent) : Type 0 where
 
 module _ {G : Geometry} (S : Sound G) (argument : ℕ) (l : Lent) (s : Session) (f : Fits G l s) (g : Good G (l .image) (l .map)) where
   -- 15
-  opened-current : crOf (l .fcb) ≤ 128 → Opens G l s → CurrentIn G (s .user) (opened G s l .lent)
+  opened-current : crOf (l .fcb) ≤ 128 → Opens G l s → CurrentIn G (s .user) (quietly (opened G s l) s l .lent)
   unfolding opened openedAt askedEntry
   opened-current cr o =
       let e : ℕ = o .entry .place in
@@ -101,35 +105,40 @@ module _ {G : Geometry} (S : Sound G) (argument : ℕ) (l : Lent) (s : Session) 
   written-current n o = let k = written-ok S n l s g f o in record { entry = k .entry; cur = k .holds .cur }
 
   -- by the number of the call
-  abbrev LeavesCurrent : (n : ℕ) → Call n → Type 0
-  LeavesCurrent n c =
-      (oneOf n (15 ∷ 22 ∷ []) ≡ true → crOf (l .fcb) ≤ 128) → Own G l s argument c → CurrentIn G (s .user) (carriedBy G argument l s c .lent)
+  abbrev LeavesCurrent : ℕ → Type 0
+  LeavesCurrent n =
+      (oneOf n (15 ∷ 22 ∷ []) ≡ true → crOf (l .fcb) ≤ 128) → AcceptedCall G (ask n argument) l s → CurrentIn G (s .user) (effect G (ask n argument) l s .lent)
 
-  current-in : (n : ℕ) → oneOf n currentCalls ≡ true → (c : Call n) → LeavesCurrent n c
-  unfolding oneOf _or_
+  current-in : (n : ℕ) → oneOf n currentCalls ≡ true → LeavesCurrent n
+  unfolding effect kindOf told
   current-in n z =
-      at-call LeavesCurrent n currentCalls z
-      ((call15, λ cr o. opened-current (cr refl) o) & (call16, λ cr o. closed-current o) & (call20, λ cr o. read-current 20 o)
-      & (call21, λ cr o. written-current 21 o) & (call22, λ cr o. created-current (cr refl) o) & (call33, λ cr o. read-current 33 o)
-      & (call34, λ cr o. written-current 34 o) & tt)
+      at-one LeavesCurrent n currentCalls z
+      ((λ cr o. opened-current (cr refl) (opens-of G argument l s (o .none))) & (λ cr o. closed-current (closes-of G (ask 16 argument) l s (o .none) refl))
+      & (λ cr o. read-current 20 (reads-of G (ask 20 argument) l s (o .none) (o .ready .image-right) (f .user-low) refl))
+      & (λ cr o. written-current 21 (writes-by G (ask 21 argument) l s (o .none) refl)) & (λ cr o. created-current (cr refl) (makes-of G (ask 22 argument) l s (o .none) refl))
+      & (λ cr o. read-current 33 (reads-of G (ask 33 argument) l s (o .none) (o .ready .image-right) (f .user-low) refl))
+      & (λ cr o. written-current 34 (writes-by G (ask 34 argument) l s (o .none) refl)) & tt)
+
+no-user : (k : Kind) → same k User ≡ false → k ≡ User → ⊥
+no-user k f q = kinds-apart k User f q
 
 -- ---- any disk and call
 module _ {G : Geometry} (S : Sound G) (d : Disk) (q : Request) (accepted : accepts G d q ≡ true)
     (call : oneOf (q .asked .number) currentCalls ≡ true)
     (cr : oneOf (q .asked .number) (15 ∷ 22 ∷ []) ≡ true → crOf (q .fcb) ≤ 128) where
   pub still-current : FoundAt (presentEntry G (after G d q .session .user) (outcomeOf G d q .lent))
-  unfolding after outcomeOf presentEntry oneOf _or_
+  unfolding after outcomeOf presentEntry kindOf
   still-current =
       let c = accepted-carried G (q .asked) (lentTo d q) (d .session) accepted in
       let good = step-accepted S (q .asked) (lentTo d q) (d .session) c in
       let k : CurrentIn G (d .session .user) (outcomeOf G d q .lent) =
-      subst (λ (o : Outcome). CurrentIn G (d .session .user) (o .lent)) (sym (c .is ∙ effect-is G (q .asked .argument) (lentTo d q) (d .session) (c .facts .call)))
+      subst (λ (o : Outcome). CurrentIn G (d .session .user) (o .lent)) (sym (c .is))
       (current-in S (q .asked .argument) (lentTo d q) (d .session) (c .facts .ready .fits)
-      (ready-good (c .facts .ready) (told-apart _ 13 currentCalls call refl)) (q .asked .number) call (c .facts .call) cr (c .facts .own)) in
+      (ready-good (c .facts .ready) (told-apart _ 13 currentCalls call refl)) (q .asked .number) call cr (c .facts)) in
       let o = outcomeOf G d q .lent in
       record {
         place = k .entry;
         is = subst (λ (x : ℕ). current G (entryAt G (o .image)) (o .map) x (o .fcb) ≡ At (k .entry))
-            (sym (user-stays G d q (told-apart _ 32 currentCalls call refl)))
+            (sym (user-stays G d q (at-one (λ (n : ℕ). kindOf n ≡ User → ⊥) (q .asked .number) currentCalls call (no-user Quiet refl & no-user Close refl & no-user Read refl & no-user Write refl & no-user Create refl & no-user Read refl & no-user Write refl & tt))))
             (cur-current G (o .image) (o .map) (d .session .user) (o .fcb) (k .entry) (good .inv .dir) (c .facts .ready .fits .user-low) (k .cur));
       }

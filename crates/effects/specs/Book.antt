@@ -3,7 +3,6 @@
 --   the entry had 0; a delete all that is held for the entries it matched; freeing and log-in everything; any other call nothing.
 --   A refused call changes nothing.
 use mathlib.Core.Bool.{Bool, true, not, cond}
-use mathlib.Core.List.{[], _∷_}
 use Prim.Native.Nat.{ℕ}
 use lib.Dec.{eqb}
 use Rattle.lists.specs.Tests.{_and_}
@@ -17,7 +16,9 @@ use Rattle.model.specs.declared.Answer.{Answer}
 use Rattle.model.specs.Lent.{Lent, rowsOf, Outcome}
 use Rattle.model.specs.Closing.{takesSlot}
 use Rattle.model.specs.Target.{targetSlot, stays, blockThere}
-use Rattle.model.specs.Table.{oneOf, recordCalls, readCalls, writeCalls}
+use Rattle.model.specs.Kinds.{kindOf, same}
+use Rattle.model.specs.declared.Kind.{Kind}
+use Rattle.model.specs.declared.Kind.the-variants.{Settle, Close, Delete, Read, Write}
 
 -- the place that each block is held for, written as its note would be (`pendingFor`); 0 where it is not held
 abbrev pub Book : Type 0
@@ -43,8 +44,11 @@ unfoldable pub enteredFor : ℕ → ℕ → ℕ → Book → Book
 enteredFor b e j u c = cond (eqb c b) (pendingFor e j) (u c)
 
 -- ---- the answer of an accepted call: H is 0, and A is 0 for the record calls, not 255 for the others
+abbrev pub ofRecord : Kind → Bool
+ofRecord k = cond (same k Read) true (same k Write)
+
 unfoldable pub acceptedAnswer : ℕ → Answer → Bool
-acceptedAnswer n a = eqb (a .h) 0 and cond (oneOf n recordCalls) (eqb (a .a) 0) (not (eqb (a .a) 255))
+acceptedAnswer n a = eqb (a .h) 0 and cond (ofRecord (kindOf n)) (eqb (a .a) 0) (not (eqb (a .a) 255))
 
 -- ---- call by call: call n of the user was given l
 module _ (G : Geometry) (n user : ℕ) (l : Lent) where
@@ -77,11 +81,11 @@ module _ (G : Geometry) (n user : ℕ) (l : Lent) where
     -- the book after an accepted call
     unfoldable pub bookBy : Book → Book
     bookBy u =
-        cond (oneOf n (13 ∷ 98 ∷ [])) nothingHeld
-        (cond (oneOf n (16 ∷ [])) (closedBook u)
-        (cond (oneOf n (19 ∷ [])) (deletedBook u)
-        (cond (oneOf n readCalls) (movedBook u)
-        (cond (oneOf n writeCalls) (writtenBook u) u))))
+        cond (same (kindOf n) Settle) nothingHeld
+        (cond (same (kindOf n) Close) (closedBook u)
+        (cond (same (kindOf n) Delete) (deletedBook u)
+        (cond (same (kindOf n) Read) (movedBook u)
+        (cond (same (kindOf n) Write) (writtenBook u) u))))
 
 -- the book after any call: a refused one leaves it
 unfoldable pub bookStep : Geometry → ℕ → Lent → Session → Outcome → Book → Book

@@ -1,5 +1,5 @@
 -- Example e: an erased disk. After a log-in all blocks past the directory are free.
-use mathlib.Core.Path.{_≡_, sym, subst}
+use mathlib.Core.Path.{_≡_, refl, sym, subst}
 use mathlib.Core.Bool.{true, false}
 use mathlib.Core.List.{[], _∷_}
 use Prim.Native.Nat.{ℕ, _-_, _*_, _≤_, _<_}
@@ -10,6 +10,7 @@ use Rattle.lists.specs.Cases.{split, lt-or-le, clash}
 use Rattle.lists.specs.Tests.{_or_}
 use Rattle.lists.specs.Splice.{part, splice, part-splice-same}
 use Rattle.lists.specs.Count.{count-from}
+use Rattle.table.specs.Own.{ask}
 use Rattle.format.specs.Diskette.{Bytes, Geometry, Sound, recordBytes, eightInch, Long}
 use Rattle.format.specs.Entries.{Rows, entryAt}
 use Rattle.format.specs.Consistent.{consistent}
@@ -23,13 +24,12 @@ use Rattle.model.specs.declared.Session.{Session}
 use Rattle.model.specs.Codes.{aOf, hOf}
 use Rattle.model.specs.Lent.{lend, Outcome, ended}
 use Rattle.model.specs.Entering.{threeBytes}
-use Rattle.model.specs.Table.{oneOf, usesFcb}
+use Rattle.model.specs.Kinds.{usesFcb, isCall, kindOf}
 use Rattle.model.specs.Calls.{done, loggedIn, space}
-use Rattle.model.specs.Step.{step}
-use Rattle.table.specs.Own.{call13, call46}
+use Rattle.model.specs.Step.{step, effect, settled, told}
 use Rattle.table.specs.Facts.{Fits, Ready}
 use Rattle.table.specs.Reflect.{login-ready}
-use Rattle.table.specs.Total.{ask, step-carried}
+use Rattle.table.specs.Total.{step-carried}
 
 -- ---- the free blocks of a fresh map
 module _ (G : Geometry) (d : Rows) (b : ℕ) (below : b < G .blocks) where
@@ -85,12 +85,12 @@ module _ (G : Geometry) (img : Bytes) (long : Long G img) (right : consistent G 
 
   -- an image that is consistent can be logged in, whatever the map
   pub login-step : (argument : ℕ) → step G (ask 13 argument) (lend img map fcb buffer) s ≡ done 0 s (lend img (freshMap G (entryAt G img)) fcb buffer)
-  unfolding loggedIn
-  login-step argument = step-carried G (ask 13 argument) (lend img map fcb buffer) s call13 (login-ready G (lend img map fcb buffer) s fits right) tt
+  unfolding loggedIn effect settled isCall kindOf
+  login-step argument = step-carried G (ask 13 argument) (lend img map fcb buffer) s refl (login-ready G argument (lend img map fcb buffer) s fits right) tt
 
   -- after it every call finds image and map right
-  pub logged-ready : (n : ℕ) → (usesFcb n ≡ true → getD fcb 0 0 ≤ 1) → Ready G n (lend img (freshMap G (entryAt G img)) fcb buffer) (ended s)
-  logged-ready n drive = record {
+  pub logged-ready : (asked : Asked) → (usesFcb (asked .number) ≡ true → getD fcb 0 0 ≤ 1) → Ready G asked (lend img (freshMap G (entryAt G img)) fcb buffer) (ended s)
+  logged-ready asked drive = record {
     fits = record {
       image-long = long;
       map-long = length-fresh G (entryAt G img);
@@ -107,9 +107,9 @@ module _ (G : Geometry) (img : Bytes) (long : Long G img) (right : consistent G 
   -- and 46 then answers eight times the free notes of the fresh map
   pub space-step : (argument : ℕ) → step G (ask 46 argument) (lend img (freshMap G (entryAt G img)) fcb buffer) (ended s)
       ≡ done 0 s (lend img (freshMap G (entryAt G img)) fcb (splice buffer 0 (threeBytes (G .perBlock * freeCount G (freshMap G (entryAt G img))))))
-  unfolding space usesFcb oneOf _or_
+  unfolding space usesFcb effect told isCall kindOf
   space-step argument =
-      step-carried G (ask 46 argument) (lend img (freshMap G (entryAt G img)) fcb buffer) (ended s) call46 (logged-ready 46 (λ u. clash (sym u))) tt
+      step-carried G (ask 46 argument) (lend img (freshMap G (entryAt G img)) fcb buffer) (ended s) refl (logged-ready (ask 46 argument) (λ u. clash (sym u))) tt
 
 -- a call after another: on what that left, with the session that it left
 abbrev pub next : Geometry → Asked → Outcome → Outcome
@@ -127,7 +127,6 @@ pub record SpaceIs (G : Geometry) (img : Bytes) (bytes : Bytes) (map fcb buffer 
 pub space-is : (G : Geometry) (img : Bytes) → Long G img → consistent G img ≡ true
     → (map fcb buffer : Bytes) (s : Session) → Fitting G map fcb buffer s → (x y : ℕ)
     → SpaceIs G img (threeBytes (G .perBlock * freeCount G (freshMap G (entryAt G img)))) map fcb buffer s x y
-unfolding aOf hOf
 space-is G img long right map fcb buffer s fit x y =
     let one = login-step G img long right map fcb buffer s fit x in
     let two = space-step G img long right map fcb buffer s fit y in

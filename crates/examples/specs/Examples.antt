@@ -6,6 +6,7 @@ use mathlib.Core.List.{[], _∷_}
 use Prim.Native.Nat.{ℕ, _<_}
 use native.Mathlib.Omega.{arith}
 use lib.ListN.{length}
+use Rattle.table.specs.Own.{ask}
 use Rattle.format.specs.Diskette.{Bytes, eightInch, diskRecord, offsetOf, slotCount, slotsOn, Long}
 use Rattle.format.specs.Names.{nameRight}
 use Rattle.format.specs.Entries.{entryAt, userOf, exOf, used, extentOf, named}
@@ -16,7 +17,7 @@ use Rattle.disk.specs.Eight.{eight-sound}
 use Rattle.model.specs.declared.Session.{Session}
 use Rattle.model.specs.Lent.{Lent}
 use Rattle.model.specs.Search.{patternOf, extentHit, hit}
-use Rattle.model.specs.Table.{oneOf, randomCalls}
+use Rattle.model.specs.Kinds.{oneOf}
 use Rattle.model.specs.Entering.{threeBytes}
 use Rattle.table.specs.Facts.{Ready}
 use Rattle.fields.specs.Erased.{ErasedDisk}
@@ -46,14 +47,14 @@ pub record Examples : Type 0 where
   pub e : (img : Bytes) → ErasedDisk eightInch img → (map fcb buffer : Bytes) (s : Session) → Fitting eightInch map fcb buffer s → (x y : ℕ)
       → SpaceIs eightInch img (136 ∷ 7 ∷ 0 ∷ []) map fcb buffer s x y
   -- R = 262,143 is extent 2,047, record 127; 262,144 gives 6
-  pub f-last : (n argument : ℕ) (l : Lent) (s : Session) → oneOf n randomCalls ≡ true → RandomIs (l .fcb) 255 255 3 → Last eightInch n argument l s
-  pub f-over : (n argument : ℕ) (l : Lent) (s : Session) → oneOf n randomCalls ≡ true → Ready eightInch n l s → RandomIs (l .fcb) 0 0 4
+  pub f-last : (n argument : ℕ) (l : Lent) (s : Session) → oneOf n (33 ∷ 34 ∷ []) ≡ true → RandomIs (l .fcb) 255 255 3 → Last eightInch n argument l s
+  pub f-over : (n argument : ℕ) (l : Lent) (s : Session) → oneOf n (33 ∷ 34 ∷ []) ≡ true → Ready eightInch (ask n argument) l s → RandomIs (l .fcb) 0 0 4
       → Six eightInch n argument l s
   -- an entry of extent 2,047 with rc 128: size bytes 00H 00H 04H
-  pub g : (argument : ℕ) (l : Lent) (s : Session) → Ready eightInch 35 l s → nameRight false (l .fcb) 1 ≡ true → HasEntry eightInch l s 2047 128
+  pub g : (argument : ℕ) (l : Lent) (s : Session) → Ready eightInch (ask 35 argument) l s → nameRight false (l .fcb) 1 ≡ true → HasEntry eightInch l s 2047 128
       → Gives eightInch 35 argument l s (0 ∷ 0 ∷ 4 ∷ [])
   -- 36 at extent 1, cr 128: 256
-  pub h : (argument : ℕ) (l : Lent) (s : Session) → Ready eightInch 36 l s → extentOf (l .fcb) ≡ 1 → crOf (l .fcb) ≡ 128
+  pub h : (argument : ℕ) (l : Lent) (s : Session) → Ready eightInch (ask 36 argument) l s → extentOf (l .fcb) ≡ 1 → crOf (l .fcb) ≡ 128
       → Gives eightInch 36 argument l s (threeBytes 256)
   -- eleven 3FH match any name: in the name test, and in the pattern that 17 takes from an FCB, where byte 12 alone decides
   pub i-name : (s : Bytes) (q : ℕ) → AllAny s q → (user : ℕ) (row : Bytes) → userOf row ≡ user → named true user s q row ≡ true

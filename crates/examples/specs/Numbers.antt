@@ -1,5 +1,5 @@
 -- Examples g and h: the numbers that 35 and 36 put into r0 to r2.
-use mathlib.Core.Path.{_≡_, subst}
+use mathlib.Core.Path.{_≡_, refl, subst}
 use mathlib.Core.Bool.{Bool, true, false}
 use mathlib.Core.List.{[], _∷_}
 use Prim.Native.Nat.{ℕ, _+_, _*_, _≤_, _<_}
@@ -10,6 +10,7 @@ use Rattle.lists.specs.Cases.{split, bool-cases, not-both}
 use Rattle.lists.specs.Tests.{and-left}
 use Rattle.lists.specs.Below.{all-at}
 use Rattle.lists.specs.Splice.{part, splice, part-splice-same}
+use Rattle.table.specs.Own.{ask}
 use Rattle.format.specs.Diskette.{Bytes, Geometry, extentRecords}
 use Rattle.format.specs.Names.{nameRight}
 use Rattle.format.specs.Entries.{countOf, userOf, extentOf, endOf, named, findNamed}
@@ -22,12 +23,13 @@ use Rattle.model.specs.Codes.{aOf, hOf}
 use Rattle.model.specs.Lent.{Lent, lend, rowsOf}
 use Rattle.model.specs.Entering.{threeBytes}
 use Rattle.model.specs.Calls.{done, fileSize, sized, positioned}
-use Rattle.model.specs.Step.{step}
+use Rattle.model.specs.Kinds.{isCall, kindOf}
+use Rattle.table.specs.Accept.{positions-none, sizes-right}
+use Rattle.model.specs.Step.{step, effect, told}
 use Rattle.fields.specs.Size.{size-covers, size-high, end-high}
-use Rattle.table.specs.Own.{call35, call36}
 use Rattle.table.specs.Present.{user-numbers}
 use Rattle.table.specs.Facts.{Ready, Sizes, Positions}
-use Rattle.table.specs.Total.{ask, step-carried}
+use Rattle.table.specs.Total.{step-carried}
 
 -- the call answers 0, 0, and r0 to r2 of the FCB that it leaves are these bytes
 pub record Gives (G : Geometry) (n argument : ℕ) (l : Lent) (s : Session) (bytes : Bytes) : Type 0 where
@@ -38,20 +40,19 @@ pub record Gives (G : Geometry) (n argument : ℕ) (l : Lent) (s : Session) (byt
 gives-three : (G : Geometry) (n argument : ℕ) (l : Lent) (s : Session) (value : ℕ) → length (l .fcb) ≡ 36
     → step G (ask n argument) l s ≡ done 0 s (lend (l .image) (l .map) (splice (l .fcb) 33 (threeBytes value)) (l .buffer))
     → Gives G n argument l s (threeBytes value)
-unfolding aOf hOf
 gives-three G n argument l s value long q =
     record { is-a = rw q; is-h = rw q; is-random = rw q (part-splice-same (l .fcb) 33 (threeBytes value) (omega arith)) }
 
 -- ---- 36: 128 × extent + cr
-position-gives : (G : Geometry) (argument : ℕ) (l : Lent) (s : Session) → Ready G 36 l s → Positions G l s
+position-gives : (G : Geometry) (argument : ℕ) (l : Lent) (s : Session) → Ready G (ask 36 argument) l s → Positions G l s
     → Gives G 36 argument l s (threeBytes (extentRecords * extentOf (l .fcb) + crOf (l .fcb)))
-unfolding positioned
+unfolding positioned effect told isCall kindOf
 position-gives G argument l s ready p =
     gives-three G 36 argument l s (extentRecords * extentOf (l .fcb) + crOf (l .fcb)) (ready .fits .fcb-long)
-    (step-carried G (ask 36 argument) l s call36 ready p)
+    (step-carried G (ask 36 argument) l s refl ready (positions-none G argument l s p))
 
 -- extent 1, cr 128
-pub position-256 : (G : Geometry) (argument : ℕ) (l : Lent) (s : Session) → Ready G 36 l s → extentOf (l .fcb) ≡ 1 → crOf (l .fcb) ≡ 128
+pub position-256 : (G : Geometry) (argument : ℕ) (l : Lent) (s : Session) → Ready G (ask 36 argument) l s → extentOf (l .fcb) ≡ 1 → crOf (l .fcb) ≡ 128
     → Gives G 36 argument l s (0 ∷ 1 ∷ 0 ∷ [])
 unfolding extentOf
 position-256 G argument l s ready ext cr =
@@ -60,11 +61,11 @@ position-256 G argument l s ready ext cr =
     (position-gives G argument l s ready record { ex = omega arith; s2 = omega arith; cr = omega arith })
 
 -- ---- 35: the largest of 128 × extent + rc over the name's entries
-pub size-step : (G : Geometry) (argument : ℕ) (l : Lent) (s : Session) → Ready G 35 l s → Sizes G l s
+pub size-step : (G : Geometry) (argument : ℕ) (l : Lent) (s : Session) → Ready G (ask 35 argument) l s → Sizes G l s
     → step G (ask 35 argument) l s
     ≡ done 0 s (lend (l .image) (l .map) (splice (l .fcb) 33 (threeBytes (fileSize G (rowsOf G l) (named false (s .user) (l .fcb) 1)))) (l .buffer))
-unfolding sized
-size-step G argument l s ready p = step-carried G (ask 35 argument) l s call35 ready p
+unfolding sized effect told isCall kindOf
+size-step G argument l s ready p = step-carried G (ask 35 argument) l s refl ready (sizes-right G argument l s p)
 
 -- an entry of the name, with this extent and count
 pub record HasEntry (G : Geometry) (l : Lent) (s : Session) (ext count : ℕ) : Type 0 where
@@ -93,7 +94,7 @@ entry-high G l s right low e below mine =
     end-high (rowsOf G l e) (user-numbers G (rowsOf G l e) (all-at _ (G .entries) (and-left _ _ right) e below) (omega arith))
 
 -- extent 2,047 with rc 128
-pub size-largest : (G : Geometry) (argument : ℕ) (l : Lent) (s : Session) → Ready G 35 l s → nameRight false (l .fcb) 1 ≡ true
+pub size-largest : (G : Geometry) (argument : ℕ) (l : Lent) (s : Session) → Ready G (ask 35 argument) l s → nameRight false (l .fcb) 1 ≡ true
     → HasEntry G l s 2047 128 → Gives G 35 argument l s (0 ∷ 0 ∷ 4 ∷ [])
 size-largest G argument l s ready name h =
     let picks : Bytes → Bool = named false (s .user) (l .fcb) 1 in

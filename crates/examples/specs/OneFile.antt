@@ -30,7 +30,7 @@ use Rattle.model.specs.Step.{step}
 use Rattle.fields.specs.Erased.{ErasedDisk, erased-empty, erased-unused}
 use Rattle.fields.specs.Size.{size-covers, size-high}
 use Rattle.table.specs.Facts.{Ready}
-use Rattle.table.specs.Total.{ask}
+use Rattle.table.specs.Own.{ask}
 use Rattle.examples.specs.Erased.{Fitting, fresh-count, logged-ready}
 use Rattle.examples.specs.Numbers.{size-step, HasEntry, some-entry}
 
@@ -198,8 +198,8 @@ module _ (img : Bytes) (erased : ErasedDisk eightInch img) (r : ℕ) (low : r �
   unfolding rows
   one-sized map buffer s zero-user fit x =
       let l : Lent = lend (oneFile img r) (freshMap eightInch (entryAt eightInch (oneFile img r))) fileFcb buffer in
-      let ready : Ready eightInch 35 l (ended s) =
-      logged-ready eightInch (oneFile img r) one-long one-consistent map fileFcb buffer s fit 35 (λ u. drive-low) in
+      let ready : Ready eightInch (ask 35 x) l (ended s) =
+      logged-ready eightInch (oneFile img r) one-long one-consistent map fileFcb buffer s fit (ask 35 x) (λ u. drive-low) in
       let has : HasEntry eightInch l (ended s) 0 r =
       record { entry = 0; below = omega arith; mine = rw (zero-user, one-row) (file-asked r); extent = rw one-row (file-run r); counted = rw one-row (file-count r) } in
       let size : fileSize eightInch (rowsOf eightInch l) (named false (s .user) fileFcb 1) ≡ r = rw zero-user one-size in

@@ -1,5 +1,6 @@
 -- Example f: the random record of 33 and 34.
 use mathlib.Core.Path.{_≡_, refl, _∙_}
+use mathlib.Core.List.{[], _∷_}
 use mathlib.Core.Bool.{true}
 use Prim.Native.Nat.{ℕ, _+_, _*_}
 use native.Mathlib.Omega.{arith}
@@ -13,15 +14,17 @@ use Rattle.model.specs.declared.Code.the-variants.{BadRecord}
 use Rattle.model.specs.declared.Verdict.the-variants.{Refused}
 use Rattle.model.specs.Codes.{aOf, hOf}
 use Rattle.model.specs.Lent.{Lent}
-use Rattle.model.specs.Target.{isRandom, targetExtent, targetRecord}
-use Rattle.model.specs.Table.{oneOf, randomCalls, verdict}
+use Rattle.model.specs.Kinds.{isCall, isRandom, kindOf, oneOf}
+use Rattle.model.specs.Target.{targetExtent, targetRecord}
+use Rattle.model.specs.Kinds.{oneOf}
+use Rattle.model.specs.Table.{verdict}
 use Rattle.model.specs.Step.{refused, step}
 use Rattle.table.specs.First.{_&_, here}
-use Rattle.table.specs.Own.{call33, call34, at-one}
+use Rattle.table.specs.Own.{ask, at-one}
 use Rattle.table.specs.Facts.{Ready}
 use Rattle.fields.specs.Target.{extent-random, record-random}
 use Rattle.table.specs.Refuse.{random-over}
-use Rattle.table.specs.Total.{ask, step-refused}
+use Rattle.table.specs.Total.{step-refused}
 
 -- the FCB's r0, r1 and r2 are these
 pub record RandomIs (fcb : Bytes) (r0 r1 r2 : ℕ) : Type 0 where
@@ -42,34 +45,34 @@ pub record Six (G : Geometry) (n argument : ℕ) (l : Lent) (s : Session) : Type
 
 six : (G : Geometry) (n argument : ℕ) (l : Lent) (s : Session) → randomOf (l .fcb) ≡ 262144 → step G (ask n argument) l s ≡ refused BadRecord s l
     → Six G n argument l s
-unfolding aOf hOf
 six G n argument l s is q = record { is-number = is; refuses = q; is-a = rw q; is-h = rw q }
 
-pub random-six : (G : Geometry) (n argument : ℕ) (l : Lent) (s : Session) → oneOf n randomCalls ≡ true → Ready G n l s
+pub random-six : (G : Geometry) (n argument : ℕ) (l : Lent) (s : Session) → oneOf n (33 ∷ 34 ∷ []) ≡ true → Ready G (ask n argument) l s
     → RandomIs (l .fcb) 0 0 4 → Six G n argument l s
+unfolding isCall kindOf
 random-six G n argument l s which ready r =
     let over = lt-ltb lastRecord (randomOf (l .fcb)) (omega (arith, random-is (l .fcb) 0 0 4 r)) in
     six G n argument l s (random-is (l .fcb) 0 0 4 r)
-    (at-one (λ (m : ℕ). Ready G m l s → step G (ask m argument) l s ≡ refused BadRecord s l) n randomCalls which
-    ((λ p. step-refused G (ask 33 argument) l s call33 BadRecord p (here over refl))
-    & (λ p. step-refused G (ask 34 argument) l s call34 BadRecord p (here over refl)) & tt) ready)
+    (at-one (λ (m : ℕ). Ready G (ask m argument) l s → step G (ask m argument) l s ≡ refused BadRecord s l) n (33 ∷ 34 ∷ []) which
+    ((λ p. step-refused G (ask 33 argument) l s BadRecord refl p (here over refl))
+    & (λ p. step-refused G (ask 34 argument) l s BadRecord refl p (here over refl)) & tt) ready)
 
 -- 262,143 is the last that is taken: record 127 of extent 2,047
 pub record Last (G : Geometry) (n argument : ℕ) (l : Lent) (s : Session) : Type 0 where
   pub is-number : randomOf (l .fcb) ≡ 262143
   pub extent : targetExtent n (l .fcb) ≡ 2047
   pub is-record : targetRecord n (l .fcb) ≡ 127
-  pub not-six : verdict G n argument l s ≡ Refused BadRecord → ⊥
+  pub not-six : verdict G (ask n argument) l s ≡ Refused BadRecord → ⊥
 
-pub random-last : (G : Geometry) (n argument : ℕ) (l : Lent) (s : Session) → oneOf n randomCalls ≡ true → RandomIs (l .fcb) 255 255 3
+pub random-last : (G : Geometry) (n argument : ℕ) (l : Lent) (s : Session) → oneOf n (33 ∷ 34 ∷ []) ≡ true → RandomIs (l .fcb) 255 255 3
     → Last G n argument l s
-unfolding _or_
+unfolding isRandom
 random-last G n argument l s which r =
     let is : randomOf (l .fcb) ≡ lastRecord = random-is (l .fcb) 255 255 3 r in
-    let random = at-one (λ (m : ℕ). isRandom m ≡ true) n randomCalls which (refl & refl & tt) in
+    let random = at-one (λ (m : ℕ). isRandom m ≡ true) n (33 ∷ 34 ∷ []) which (refl & refl & tt) in
     record {
       is-number = is;
       extent = extent-random n (l .fcb) random ∙ rw is;
       is-record = record-random n (l .fcb) random ∙ rw is;
-      not-six = λ q. omega (arith, random-over G argument l s n q);
+      not-six = λ q. omega (arith, random-over G (ask n argument) l s q);
     }

@@ -8,6 +8,7 @@ use lib.ListN.{getD, replicate, length-replicate}
 use Rattle.lists.specs.Cases.{split, eq-or-ne, clash}
 use Rattle.lists.specs.Tests.{_or_}
 use Rattle.lists.specs.Splice.{splice}
+use Rattle.table.specs.Own.{ask, verdict-unlisted}
 use Rattle.format.specs.Diskette.{Bytes, imageBytes, eightInch, LongBy, Long}
 use Rattle.format.specs.Entries.{extentOf, entryAt}
 use Rattle.format.specs.Fcb.{randomOf}
@@ -21,12 +22,11 @@ use Rattle.model.specs.declared.Code.the-variants.{Accepted, NotListed, BadPara
 use Rattle.model.specs.Codes.{aOf, hOf}
 use Rattle.model.specs.Target.{targetExtent, targetRecord}
 use Rattle.model.specs.Lent.{Lent, lend, Outcome, ends, ended}
-use Rattle.model.specs.Table.{oneOf, usesFcb, isCall}
+use Rattle.model.specs.Kinds.{isCall, kindOf, usesFcb, isRandom}
 use Rattle.model.specs.Calls.{done}
 use Rattle.model.specs.Step.{refused, step}
 use Rattle.fields.specs.Erased.{ErasedDisk, all-erased, erased-consistent}
-use Rattle.table.specs.Own.{verdict-unlisted}
-use Rattle.table.specs.Total.{ask, total-refused}
+use Rattle.table.specs.Total.{total-refused}
 use Rattle.examples.specs.Erased.{Fitting, login-step, space-step, erased-count}
 use Rattle.examples.specs.OneFile.{oneFile, fileFcb, length-fileFcb, one-long, one-consistent, one-count, one-sized}
 
@@ -86,7 +86,6 @@ module _ (img : Bytes) (long : Long eightInch img) (right : consistent eightInch
   logged-is = login-step eightInch img long right notes fileFcb blank start fitting 0
 
   space-answers : onLogged 46 img .answer .a ≡ 0
-  unfolding aOf
   space-answers = let two = space-step eightInch img long right notes fileFcb blank start fitting 0 in rw two
 
   space-byte : (count : ℕ) → freeCount eightInch (freshMap eightInch (entryAt eightInch img)) ≡ count → getD (onLogged 46 img .lent .buffer) 0 0 ≡ 8 * count % 256
@@ -130,7 +129,7 @@ isRefusal NoEntry = true
 isRefusal DiskFull = true
 
 refusal-a : (c : Code) → isRefusal c ≡ true → aOf c ≡ 0 → ⊥
-unfolding isRefusal aOf
+unfolding isRefusal
 refusal-a (Accepted n) h q = clash (sym h)
 refusal-a NotListed h q = omega arith
 refusal-a BadParameter h q = omega arith
@@ -192,8 +191,8 @@ module _ (img : Bytes) (erased : ErasedDisk eightInch img) where
 
   -- call 0 is not listed
   unlisted-answers : (l : Lent) (s : Session) → step eightInch (ask 0 0) l s .answer .a ≡ 255
-  unfolding isCall usesFcb oneOf _or_ aOf
-  unlisted-answers l s = total-refused eightInch (ask 0 0) l s NotListed (verdict-unlisted eightInch 0 l s 0 refl) .is-a
+  unfolding isCall kindOf usesFcb
+  unlisted-answers l s = total-refused eightInch (ask 0 0) l s NotListed (verdict-unlisted eightInch (ask 0 0) l s refl) .is-a
 
   pub fixed-falls : (a : ℕ) (b : Build) → AnswersFixed a b → Falls b
   fixed-falls a b f =
@@ -228,7 +227,7 @@ module _ (img : Bytes) (erased : ErasedDisk eightInch img) where
 
   -- what was written is not what is read: the buffer comes back as it was lent
   pub first-only-forgets : Forgets firstOnly
-  unfolding aOf hOf fileFcb targetExtent targetRecord _or_ extentOf randomOf
+  unfolding fileFcb targetExtent targetRecord isRandom extentOf randomOf
   first-only-forgets = record {
     place = 1;
     lent = lend img notes fileFcb (replicate 128 1);

@@ -15,7 +15,8 @@ use Rattle.format.specs.Notes.{noteAt, pendingFor, withNote}
 use Rattle.format.specs.Fcb.{crOf, randomOf}
 use Rattle.disk.specs.Places.{blockRecords, block-record}
 use Rattle.facts.specs.Slots.{slot-for-below, slot-bytes, length-withSlot, byte-withSlot, slot-withSlot, slot-withSlot-other}
-use Rattle.model.specs.Target.{isRandom, targetExtent, targetRecord, crAfter, stays, targetSlot, placeIn, writtenCount, writtenFcb, writtenMap}
+use Rattle.model.specs.Kinds.{isRandom}
+use Rattle.model.specs.Target.{targetExtent, targetRecord, crAfter, stays, targetSlot, placeIn, writtenCount, writtenFcb, writtenMap}
 use Rattle.fields.specs.Agree.{Agree, SameName, name-cong, slot-cong, extent-cong, random-cong}
 
 -- ---- the target

@@ -1,7 +1,7 @@
 // Calls 15, 22 and 35: a file is opened, made, and its size told.
 ghost use mathlib.Core.Path.{_≡_};
 ghost use mathlib.Core.Bool.{false};
-ghost use Prim.Native.Nat.{_≤_, _<_};
+ghost use Prim.Native.Nat.{ℕ, _≤_, _<_};
 ghost use lib.ListN.{length};
 ghost use Rattle.format.specs.Diskette.{Bytes, eightInch, imageBytes};
 ghost use Rattle.format.specs.Entries.{entryAt, named};
@@ -9,7 +9,7 @@ ghost use Rattle.format.specs.Fcb.{fcbBytes};
 ghost use Rattle.model.specs.Calls.{largerSize, fileSize};
 ghost use Rattle.model.specs.Lent.{lend, outcome};
 ghost use Rattle.model.specs.Table.{askedEntry};
-ghost use Rattle.table.specs.Own.{call15, call22, call35};
+ghost use Rattle.table.specs.Own.{ask};
 ghost use Rattle.table.specs.OwnStep.{ownStep};
 ghost use Rattle.chains.specs.Chain.{Indexed};
 ghost use Rattle.files.specs.Asked.{asksRight};
@@ -44,8 +44,8 @@ fn find_asked(image: &[u8], chain: &[u8], user: u8, fcb: &[u8]) -> Found
 pub fn open_file(image: &[u8], fcb: &mut [u8], session: Session, chain: &[u8]) -> Answer
     requires { ⌜ (length (now image) ≡ imageBytes eightInch) × (length (now fcb) ≡ fcbBytes) × (session .user ≤ 15)
         × Indexed eightInch (entryAt eightInch (now image)) (now chain) ⌝ }
-    ensures { λ r. ⌜ ((map buffer : Bytes) → outcome r (now (image .entry)) map (now (fcb .exit)) buffer
-        ≡ ownStep eightInch 0 (lend (now (image .entry)) map (now (fcb .entry)) buffer) session call15) ⌝ }
+    ensures { λ r. ⌜ ((argument : ℕ) (map buffer : Bytes) → outcome r (now (image .entry)) map (now (fcb .exit)) buffer
+        ≡ ownStep eightInch (ask 15 argument) (lend (now (image .entry)) map (now (fcb .entry)) buffer) session) ⌝ }
 {
     if !asks_right(fcb) {
         return answers::refuse(Code::BadName, session);
@@ -61,8 +61,8 @@ pub fn open_file(image: &[u8], fcb: &mut [u8], session: Session, chain: &[u8]) -
 pub fn make_file(image: &mut [u8], fcb: &mut [u8], session: Session, chain: &[u8]) -> Answer
     requires { ⌜ (length (now image) ≡ imageBytes eightInch) × (length (now fcb) ≡ fcbBytes) × (session .user ≤ 15)
         × Indexed eightInch (entryAt eightInch (now image)) (now chain) ⌝ }
-    ensures { λ r. ⌜ ((map buffer : Bytes) → outcome r (now (image .exit)) map (now (fcb .exit)) buffer
-        ≡ ownStep eightInch 0 (lend (now (image .entry)) map (now (fcb .entry)) buffer) session call22) ⌝ }
+    ensures { λ r. ⌜ ((argument : ℕ) (map buffer : Bytes) → outcome r (now (image .exit)) map (now (fcb .exit)) buffer
+        ≡ ownStep eightInch (ask 22 argument) (lend (now (image .entry)) map (now (fcb .entry)) buffer) session) ⌝ }
 {
     if !asks_right(fcb) {
         return answers::refuse(Code::BadName, session);
@@ -112,8 +112,8 @@ fn largest_size(image: &[u8], user: u8, fcb: &[u8]) -> usize
 // 35: the size of the file that the FCB names, in r0 to r2.
 pub fn file_size(image: &[u8], fcb: &mut [u8], session: Session) -> Answer
     requires { ⌜ (length (now image) ≡ imageBytes eightInch) × (length (now fcb) ≡ fcbBytes) ⌝ }
-    ensures { λ r. ⌜ ((map buffer : Bytes) → outcome r (now (image .entry)) map (now (fcb .exit)) buffer
-        ≡ ownStep eightInch 0 (lend (now (image .entry)) map (now (fcb .entry)) buffer) session call35) ⌝ }
+    ensures { λ r. ⌜ ((argument : ℕ) (map buffer : Bytes) → outcome r (now (image .entry)) map (now (fcb .exit)) buffer
+        ≡ ownStep eightInch (ask 35 argument) (lend (now (image .entry)) map (now (fcb .entry)) buffer) session) ⌝ }
 {
     if !names::name_right(false, fcb, 1) {
         return answers::refuse(Code::BadName, session);

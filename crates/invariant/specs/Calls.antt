@@ -7,19 +7,24 @@ use Rattle.lists.specs.Cases.{split, bool-cases}
 use Rattle.format.specs.Diskette.{Bytes, Geometry, Sound}
 use Rattle.format.specs.Entries.{exOf, runOf}
 use Rattle.format.specs.Consistent.{consistent}
+use Rattle.model.specs.declared.Asked.{Asked}
+use Rattle.model.specs.declared.Kind.{Kind}
+use Rattle.model.specs.declared.Kind.the-variants.{Unlisted, Quiet, Search, User, Settle, Close, Delete, Create, Rename, Read, Write}
 use Rattle.model.specs.declared.Session.{Session}
 use Rattle.model.specs.Lent.{Lent, Outcome, rowsOf}
 use Rattle.model.specs.Entering.{madeRow}
 use Rattle.model.specs.Table.{askedEntry}
-use Rattle.model.specs.Calls.{loggedIn, freed, userSet, openedAt, opened, closedAt, closed, foundAt, searched, deletes, deleted, createdAt, created, renamed, sized, positioned, space}
+use Rattle.model.specs.Calls.{loggedIn, freed, userSet, closedAt, closed, foundAt, searched, deletes, deleted, createdAt, created, renamed}
+use Rattle.model.specs.Kinds.{kindOf}
+use Rattle.model.specs.Step.{settled, does}
 use Rattle.facts.specs.Find.{no-file-says, empty-says}
 use Rattle.fields.specs.Fine.{fine-made}
 use Rattle.fields.specs.Making.{length-madeRow, user-made, name-made, slot-made, extent-made}
 use Rattle.facts.specs.Naming.{named-intro, file-intro}
 use Rattle.facts.specs.Names.{like-intro}
-use Rattle.table.specs.Own.{Call, call13, call15, call16, call17, call18, call19, call20, call21, call22, call23, call32, call33, call34, call35, call36, call46, call98}
-use Rattle.table.specs.Facts.{Fits, Closes, Makes, Renames, Own}
-use Rattle.table.specs.Carried.{carriedBy}
+use Rattle.table.specs.Own.{not-unlisted}
+use Rattle.table.specs.Facts.{Fits, Closes, Makes, Renames, AcceptedCall}
+use Rattle.table.specs.Accept.{closes-of, makes-of, renames-of, reads-of, writes-by}
 use Rattle.invariant.specs.Good.{Good, good-consistent}
 use Rattle.invariant.specs.Updates.{good-fresh, good-freed, good-made, good-erased, good-renamed}
 use Rattle.invariant.specs.RecordCalls.{good-present, good-read, good-write}
@@ -66,22 +71,22 @@ module _ {G : Geometry} (S : Sound G) (l : Lent) (s : Session) (f : Fits G l s) 
     unfolding userSet
     user-good argument = split (bool-cases (eqb argument 255)) (λ t. rw t g) (λ t. rw t g)
 
-    pub carried-good : (argument : ℕ) {n : ℕ} (c : Call n) → Own G l s argument c → GoodOutcome G (carriedBy G argument l s c)
-    unfolding opened openedAt searched foundAt sized positioned space freed
-    carried-good argument call13 o = logged-in-good (good-consistent G (l .image) (l .map) g)
-    carried-good argument call15 o = g
-    carried-good argument call16 o = closed-good o
-    carried-good argument call17 o = g
-    carried-good argument call18 o = g
-    carried-good argument call19 o = deleted-good
-    carried-good argument call20 o = good-read S 20 l s g f o
-    carried-good argument call21 o = good-write S 21 l s g f o
-    carried-good argument call22 o = created-good o
-    carried-good argument call23 o = renamed-good o
-    carried-good argument call32 o = user-good argument
-    carried-good argument call33 o = good-read S 33 l s g f o
-    carried-good argument call34 o = good-write S 34 l s g f o
-    carried-good argument call35 o = g
-    carried-good argument call36 o = g
-    carried-good argument call46 o = g
-    carried-good argument call98 o = good-freed G (l .image) (l .map) g
+    settled-good : (asked : Asked) → GoodOutcome G (settled G asked l s)
+    unfolding settled freed
+    settled-good asked =
+        split (bool-cases (eqb (asked .number) 13))
+        (λ t. rw t (logged-in-good (good-consistent G (l .image) (l .map) g))) (λ t. rw t (good-freed G (l .image) (l .map) g))
+
+    pub carried-good : (asked : Asked) → AcceptedCall G asked l s → (k : Kind) → kindOf (asked .number) ≡ k → GoodOutcome G (does G asked l s k)
+    unfolding searched foundAt
+    carried-good asked c Unlisted q = not-unlisted (asked .number) (c .listed) q
+    carried-good asked c Quiet q = g
+    carried-good asked c Search q = g
+    carried-good asked c User q = user-good (asked .argument)
+    carried-good asked c Settle q = settled-good asked
+    carried-good asked c Close q = closed-good (closes-of G asked l s (c .none) q)
+    carried-good asked c Delete q = deleted-good
+    carried-good asked c Create q = created-good (makes-of G asked l s (c .none) q)
+    carried-good asked c Rename q = renamed-good (renames-of G asked l s (c .none) q)
+    carried-good asked c Read q = good-read S (asked .number) l s g f (reads-of G asked l s (c .none) (c .ready .image-right) (f .user-low) q)
+    carried-good asked c Write q = good-write S (asked .number) l s g f (writes-by G asked l s (c .none) q)

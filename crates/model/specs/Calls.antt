@@ -30,6 +30,18 @@ done a s l = ends (Accepted a) (ended s) l
 abbrev pub entryNumber : ℕ → ℕ
 entryNumber e = e % entriesPerRecord
 
+-- what a quiet call leaves: it touches neither image nor map nor user, and A is the entry mod 4 or, for one that names no entry, 0
+pub record Told : Type 0 where
+  pub entry : ℕ
+  pub fcb : Bytes
+  pub buffer : Bytes
+
+abbrev pub tell : ℕ → Bytes → Bytes → Told
+tell e f b = record { entry = e; fcb = f; buffer = b }
+
+abbrev pub quietly : Told → Session → Lent → Outcome
+quietly t s l = done (entryNumber (t .entry)) s (lend (l .image) (l .map) (t .fcb) (t .buffer))
+
 -- ---- rows that a test picks are changed, one after the other
 unfoldable pub changedRow : Geometry → (Bytes → Bool) → (Bytes → Bytes) → Bytes → ℕ → Bytes
 changedRow G picks change img e = cond (picks (entryAt G img e)) (withEntry G img e (change (entryAt G img e))) img
@@ -62,10 +74,10 @@ module _ (G : Geometry) (s : Session) (l : Lent) where
   userSet argument = cond (eqb argument 255) (done (s .user) s l) (done 0 (withUser s argument) l)
 
   -- 15: FCB bytes 1 to 31 become the entry's
-  unfoldable pub openedAt : ℕ → Outcome
-  openedAt e = done (entryNumber e) s (lend (l .image) (l .map) (entered (l .fcb) (rowsOf G l e) (exOf (l .fcb))) (l .buffer))
+  unfoldable pub openedAt : ℕ → Told
+  openedAt e = tell e (entered (l .fcb) (rowsOf G l e) (exOf (l .fcb))) (l .buffer)
 
-  unfoldable pub opened : Outcome
+  unfoldable pub opened : Told
   opened = openedAt (numberOf (G .entries) (askedEntry G l (s .user)))
 
   -- 16: the entry takes the FCB's blocks and count
@@ -135,16 +147,13 @@ module _ (G : Geometry) (s : Session) (l : Lent) where
   written n = writing n (plan G n (s .user) l)
 
   -- 35: the size in r0 to r2, lowest byte first
-  unfoldable pub sized : Outcome
-  sized =
-      done 0 s
-      (lend (l .image) (l .map) (splice (l .fcb) 33 (threeBytes (fileSize G (rowsOf G l) (named false (s .user) (l .fcb) 1)))) (l .buffer))
+  unfoldable pub sized : Told
+  sized = tell 0 (splice (l .fcb) 33 (threeBytes (fileSize G (rowsOf G l) (named false (s .user) (l .fcb) 1)))) (l .buffer)
 
   -- 36: 128 × extent + cr
-  unfoldable pub positioned : Outcome
-  positioned =
-      done 0 s (lend (l .image) (l .map) (splice (l .fcb) 33 (threeBytes (extentRecords * extentOf (l .fcb) + crOf (l .fcb)))) (l .buffer))
+  unfoldable pub positioned : Told
+  positioned = tell 0 (splice (l .fcb) 33 (threeBytes (extentRecords * extentOf (l .fcb) + crOf (l .fcb)))) (l .buffer)
 
   -- 46: the records of the free blocks, lowest byte first
-  unfoldable pub space : Outcome
-  space = done 0 s (lend (l .image) (l .map) (l .fcb) (splice (l .buffer) 0 (threeBytes (G .perBlock * freeCount G (l .map)))))
+  unfoldable pub space : Told
+  space = tell 0 (l .fcb) (splice (l .buffer) 0 (threeBytes (G .perBlock * freeCount G (l .map))))

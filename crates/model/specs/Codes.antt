@@ -1,40 +1,37 @@
--- Document 01's A and H for each way in which a call ends.
-use Prim.Native.Nat.{ℕ}
+-- Document 01's A and H for each way in which a call ends, and whether a search is over with it.
+use mathlib.Core.Bool.{Bool, true, false}
+use Prim.Native.Nat.{ℕ, _+_, _*_}
 use Rattle.model.specs.declared.Code.{Code}
 use Rattle.model.specs.declared.Code.the-variants.{Accepted, NotListed, BadParameter, BadDisk, BadRecord, NotCurrent, Failed, BadName, SearchOver, ReadOnly, Exists, NotClosed, NoExtent, NoRecord, NoEntry, DiskFull}
 
-unfoldable pub aOf : Code → ℕ
-aOf (Accepted n) = n
-aOf NotListed = 255
-aOf BadParameter = 255
-aOf BadDisk = 255
-aOf BadRecord = 6
-aOf NotCurrent = 9
-aOf Failed = 255
-aOf BadName = 255
-aOf SearchOver = 255
-aOf ReadOnly = 255
-aOf Exists = 255
-aOf NotClosed = 3
-aOf NoExtent = 4
-aOf NoRecord = 1
-aOf NoEntry = 5
-aOf DiskFull = 2
+pub record Says : Type 0 where
+  pub a : ℕ
+  pub h : ℕ
+  pub over : Bool
 
-unfoldable pub hOf : Code → ℕ
-hOf (Accepted n) = 0
-hOf NotListed = 255
-hOf BadParameter = 4
-hOf BadDisk = 1
-hOf BadRecord = 0
-hOf NotCurrent = 0
-hOf Failed = 0
-hOf BadName = 9
-hOf SearchOver = 0
-hOf ReadOnly = 3
-hOf Exists = 8
-hOf NotClosed = 0
-hOf NoExtent = 0
-hOf NoRecord = 0
-hOf NoEntry = 0
-hOf DiskFull = 0
+abbrev pub says : ℕ → ℕ → Says
+says a h = record { a = a; h = h; over = false }
+
+abbrev pub saysOf : Code → Says
+saysOf (Accepted n) = says n 0
+saysOf NotListed = says 255 255
+saysOf BadParameter = says 255 4
+saysOf BadDisk = says 255 1
+saysOf BadRecord = says 6 0
+saysOf NotCurrent = says 9 0
+saysOf Failed = says 255 0
+saysOf BadName = says 255 9
+saysOf SearchOver = record { a = 255; h = 0; over = true }
+saysOf ReadOnly = says 255 3
+saysOf Exists = says 255 8
+saysOf NotClosed = says 3 0
+saysOf NoExtent = says 4 0
+saysOf NoRecord = says 1 0
+saysOf NoEntry = says 5 0
+saysOf DiskFull = says 2 0
+
+abbrev pub aOf : Code → ℕ
+aOf c = saysOf c .a
+
+abbrev pub hOf : Code → ℕ
+hOf c = saysOf c .h

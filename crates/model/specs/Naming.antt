@@ -1,7 +1,6 @@
 -- Document 01: "A call names the session user's files that its FCB's name gives or matches, 23 by both names; calls that don't use
 -- the FCB name none." A call with an FCB of a wrong length names nothing.
 use mathlib.Core.Bool.{Bool, false}
-use mathlib.Core.List.{[], _∷_}
 use Prim.Native.Nat.{ℕ}
 use lib.Dec.{eqb}
 use lib.ListN.{length}
@@ -9,9 +8,9 @@ use Rattle.lists.specs.Tests.{_and_, _or_}
 use Rattle.format.specs.Diskette.{Bytes}
 use Rattle.format.specs.Entries.{named}
 use Rattle.format.specs.Fcb.{fcbBytes}
-use Rattle.model.specs.Table.{oneOf, usesFcb}
+use Rattle.model.specs.Kinds.{usesFcb, wild}
 
 -- the row is of a file that call n names, with this FCB, for this user
 unfoldable pub names : ℕ → ℕ → Bytes → Bytes → Bool
 names n user fcb row =
-    eqb (length fcb) fcbBytes and usesFcb n and (named (oneOf n (17 ∷ 19 ∷ [])) user fcb 1 row or (eqb n 23 and named false user fcb 17 row))
+    eqb (length fcb) fcbBytes and usesFcb n and (named (wild n) user fcb 1 row or (eqb n 23 and named false user fcb 17 row))

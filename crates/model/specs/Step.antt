@@ -2,64 +2,68 @@
 use mathlib.Core.Bool.{cond}
 use Prim.Native.Nat.{ℕ}
 use lib.Dec.{eqb}
-use Rattle.format.specs.Diskette.{Geometry}
+use Rattle.format.specs.Diskette.{Bytes, Geometry}
 use Rattle.model.specs.declared.Asked.{Asked}
 use Rattle.model.specs.declared.Session.{Session}
+use Rattle.model.specs.declared.Kind.{Kind}
+use Rattle.model.specs.declared.Kind.the-variants.{Unlisted, Quiet, Search, User, Settle, Close, Delete, Create, Rename, Read, Write}
 use Rattle.model.specs.declared.Code.{Code}
-use Rattle.model.specs.declared.Code.the-variants.{Accepted, NotListed, BadParameter, BadDisk, BadRecord, NotCurrent, Failed, BadName, SearchOver, ReadOnly, Exists, NotClosed, NoExtent, NoRecord, NoEntry, DiskFull}
+use Rattle.model.specs.declared.Code.the-variants.{NotListed}
 use Rattle.model.specs.declared.Verdict.{Verdict}
 use Rattle.model.specs.declared.Verdict.the-variants.{Passed, Refused}
+use Rattle.model.specs.Codes.{saysOf}
+use Rattle.model.specs.Kinds.{kindOf}
 use Rattle.model.specs.Lent.{Lent, Outcome, ends, ended}
 use Rattle.model.specs.Search.{patternOf}
 use Rattle.model.specs.Table.{verdict}
-use Rattle.model.specs.Calls.{loggedIn, freed, userSet, opened, closed, searched, deleted, created, renamed, sized, positioned, space, read, written}
+use Rattle.model.specs.Calls.{Told, quietly, loggedIn, freed, userSet, opened, closed, searched, deleted, created, renamed, sized, positioned, space, read, written}
 
 -- "only a 17 that finds nothing, or an 18 with a search on that finds no more, ends the search"
 abbrev pub refusedSession : Code → Session → Session
-refusedSession SearchOver s = ended s
-refusedSession (Accepted n) s = s
-refusedSession NotListed s = s
-refusedSession BadParameter s = s
-refusedSession BadDisk s = s
-refusedSession BadRecord s = s
-refusedSession NotCurrent s = s
-refusedSession Failed s = s
-refusedSession BadName s = s
-refusedSession ReadOnly s = s
-refusedSession Exists s = s
-refusedSession NotClosed s = s
-refusedSession NoExtent s = s
-refusedSession NoRecord s = s
-refusedSession NoEntry s = s
-refusedSession DiskFull s = s
+refusedSession code s = cond (saysOf code .over) (ended s) s
 
 -- every refusal changes nothing
 abbrev pub refused : Code → Session → Lent → Outcome
 refused code s l = ends code (refusedSession code s) l
 
--- what each call does; only listed numbers come here, and the last is 98
-unfoldable pub effect : Geometry → ℕ → ℕ → Lent → Session → Outcome
-effect G n argument l s =
-    cond (eqb n 13) (loggedIn G s l)
-    (cond (eqb n 15) (opened G s l)
-    (cond (eqb n 16) (closed G s l)
-    (cond (eqb n 17) (searched G s l (patternOf (l .fcb)) 0)
-    (cond (eqb n 18) (searched G s l (s .pattern) (s .place))
-    (cond (eqb n 19) (deleted G s l)
-    (cond (eqb n 20) (read G s l 20)
-    (cond (eqb n 21) (written G s l 21)
-    (cond (eqb n 22) (created G s l)
-    (cond (eqb n 23) (renamed G s l)
-    (cond (eqb n 32) (userSet G s l argument)
-    (cond (eqb n 33) (read G s l 33)
-    (cond (eqb n 34) (written G s l 34)
-    (cond (eqb n 35) (sized G s l)
-    (cond (eqb n 36) (positioned G s l)
-    (cond (eqb n 46) (space G s l) (freed G s l))))))))))))))))
+module _ (G : Geometry) (asked : Asked) (l : Lent) (s : Session) where
+  -- what a quiet call tells, by its number; the last is 46
+  unfoldable pub told : Told
+  told =
+      cond (eqb (asked .number) 15) (opened G s l)
+      (cond (eqb (asked .number) 35) (sized G s l)
+      (cond (eqb (asked .number) 36) (positioned G s l) (space G s l)))
 
-abbrev pub carriedOut : Geometry → Verdict → ℕ → ℕ → Lent → Session → Outcome
-carriedOut G Passed n argument l s = effect G n argument l s
-carriedOut G (Refused code) n argument l s = refused code s l
+  -- 17 begins a search, 18 goes on with the session's
+  unfoldable pub pattern : Bytes
+  pattern = cond (eqb (asked .number) 17) (patternOf (l .fcb)) (s .pattern)
 
-unfoldable pub step : Geometry → Asked → Lent → Session → Outcome
-step G asked l s = carriedOut G (verdict G (asked .number) (asked .argument) l s) (asked .number) (asked .argument) l s
+  unfoldable pub place : ℕ
+  place = cond (eqb (asked .number) 17) 0 (s .place)
+
+  unfoldable pub settled : Outcome
+  settled = cond (eqb (asked .number) 13) (loggedIn G s l) (freed G s l)
+
+  -- what a call does, by its kind; only listed numbers come here
+  abbrev pub does : Kind → Outcome
+  does Unlisted = refused NotListed s l
+  does Quiet = quietly told s l
+  does Search = searched G s l pattern place
+  does User = userSet G s l (asked .argument)
+  does Settle = settled
+  does Close = closed G s l
+  does Delete = deleted G s l
+  does Create = created G s l
+  does Rename = renamed G s l
+  does Read = read G s l (asked .number)
+  does Write = written G s l (asked .number)
+
+  unfoldable pub effect : Outcome
+  effect = does (kindOf (asked .number))
+
+  abbrev pub carriedOut : Verdict → Outcome
+  carriedOut Passed = effect
+  carriedOut (Refused code) = refused code s l
+
+  unfoldable pub step : Outcome
+  step = carriedOut (verdict G asked l s)

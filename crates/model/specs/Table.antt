@@ -20,41 +20,11 @@ use Rattle.model.specs.declared.Code.{Code}
 use Rattle.model.specs.declared.Code.the-variants.{NotListed, BadParameter, BadDisk, BadRecord, NotCurrent, Failed, BadName, SearchOver, ReadOnly, Exists, NotClosed, NoExtent, NoRecord, NoEntry, DiskFull}
 use Rattle.model.specs.declared.Verdict.{Verdict}
 use Rattle.model.specs.declared.Verdict.the-variants.{Passed, Refused}
+use Rattle.model.specs.declared.Asked.{Asked}
+use Rattle.model.specs.Kinds.{oneOf, usesFcb, isCall}
 use Rattle.model.specs.Lent.{Lent, rowsOf, searchOn}
 use Rattle.model.specs.Target.{targetExtent, stays, presentEntry, targetEntry, blockThere, recordThere, readOnlyThere}
 use Rattle.model.specs.Search.{patternOf, findHit}
-
--- ---- calls by their numbers
-unfoldable pub oneOf : ℕ → List ℕ → Bool
-oneOf n [] = false
-oneOf n (c ∷ cs) = eqb n c or oneOf n cs
-
--- the calls that use the FCB, and those that don't
-abbrev pub fcbCalls : List ℕ
-fcbCalls = 15 ∷ 16 ∷ 17 ∷ 19 ∷ 20 ∷ 21 ∷ 22 ∷ 23 ∷ 33 ∷ 34 ∷ 35 ∷ 36 ∷ []
-
-abbrev pub noFcbCalls : List ℕ
-noFcbCalls = 13 ∷ 18 ∷ 32 ∷ 46 ∷ 98 ∷ []
-
-unfoldable pub usesFcb : ℕ → Bool
-usesFcb n = oneOf n fcbCalls
-
--- there is a call of this number
-unfoldable pub isCall : ℕ → Bool
-isCall n = usesFcb n or oneOf n noFcbCalls
-
--- the record calls: all of them, those that read, those that write, and those that go by the random record
-abbrev pub recordCalls : List ℕ
-recordCalls = 20 ∷ 21 ∷ 33 ∷ 34 ∷ []
-
-abbrev pub readCalls : List ℕ
-readCalls = 20 ∷ 33 ∷ []
-
-abbrev pub writeCalls : List ℕ
-writeCalls = 21 ∷ 34 ∷ []
-
-abbrev pub randomCalls : List ℕ
-randomCalls = 33 ∷ 34 ∷ []
 
 -- ---- the tests
 module _ (G : Geometry) (l : Lent) where
@@ -64,12 +34,12 @@ module _ (G : Geometry) (l : Lent) where
       and eqb (length (l .buffer)) recordBytes
 
   -- a length, the session's user or place, or byte 0 of an FCB that is used
-  unfoldable pub parametersRight : ℕ → Session → Bool
-  parametersRight n s =
-      lengthsRight and leb (s .user) 15 and leb (s .place) (G .entries) and (not (usesFcb n) or leb (getD (l .fcb) 0 0) 1)
+  unfoldable pub parametersRight : Asked → Session → Bool
+  parametersRight asked s =
+      lengthsRight and leb (s .user) 15 and leb (s .place) (G .entries) and (not (usesFcb (asked .number)) or leb (getD (l .fcb) 0 0) 1)
 
-  unfoldable pub diskRight : ℕ → Bool
-  diskRight n = consistent G (l .image) and (eqb n 13 or mapRight G (rowsOf G l) (l .map))
+  unfoldable pub diskRight : Asked → Bool
+  diskRight asked = consistent G (l .image) and (eqb (asked .number) 13 or mapRight G (rowsOf G l) (l .map))
 
   -- some extent of the name in the FCB at q is there
   unfoldable pub anyNamed : Bool → ℕ → ℕ → Bool
@@ -95,32 +65,39 @@ pub record Row : Type 0 where
 abbrev pub when : Bool → Code → Row
 when test code = record { holds = test; code = code }
 
+-- a row of some calls, and the rows of a call among them
+pub record RowFor : Type 0 where
+  pub calls : List ℕ
+  pub row : Row
+
+abbrev pub keep : Bool → Row → List Row → List Row
+keep true r rs = r ∷ rs
+keep false r rs = rs
+
+abbrev pub rowsAt : ℕ → List RowFor → List Row
+rowsAt n [] = []
+rowsAt n (r ∷ rs) = keep (oneOf n (r .calls)) (r .row) (rowsAt n rs)
+
 -- the first row that holds
 unfoldable pub firstRow : List Row → Verdict
 firstRow [] = Passed
 firstRow (r ∷ rs) = cond (r .holds) (Refused (r .code)) (firstRow rs)
 
-module _ (G : Geometry) (n argument : ℕ) (l : Lent) (s : Session) where
-  -- a row for the calls named
-  abbrev pub row : List ℕ → Bool → Code → Row
-  row calls test code = when (oneOf n calls and test) code
+abbrev pub row : List ℕ → Bool → Code → RowFor
+row calls test code = record { calls = calls; row = when test code }
 
-  unfoldable pub table : List Row
-  table =
-      -- 255, 255
-      when (not (isCall n)) NotListed
-      -- 255, 4
-      ∷ when (not (parametersRight G l n s)) BadParameter
-      -- 255, 1
-      ∷ when (not (diskRight G l n)) BadDisk
+module _ (G : Geometry) (asked : Asked) (l : Lent) (s : Session) where
+  -- the rows that name calls
+  abbrev pub callRows : List RowFor
+  callRows =
       -- 6, 0
-      ∷ row randomCalls (ltb lastRecord (randomOf (l .fcb))) BadRecord
+      row (33 ∷ 34 ∷ []) (ltb lastRecord (randomOf (l .fcb))) BadRecord
       -- 9, 0
-      ∷ row recordCalls (not (isFound (presentEntry G (s .user) l))) NotCurrent
+      ∷ row (20 ∷ 21 ∷ 33 ∷ 34 ∷ []) (not (isFound (presentEntry G (s .user) l))) NotCurrent
       -- 255, 0
       ∷ row (16 ∷ []) (not (isFound (presentEntry G (s .user) l))) Failed
       ∷ row (36 ∷ []) (not (positionRight (l .fcb))) Failed
-      ∷ row (32 ∷ []) (not (eqb argument 255 or leb argument 15)) Failed
+      ∷ row (32 ∷ []) (not (eqb (asked .argument) 255 or leb (asked .argument) 15)) Failed
       -- 255, 9
       ∷ row (15 ∷ 22 ∷ 23 ∷ 35 ∷ []) (not (nameRight false (l .fcb) 1)) BadName
       ∷ row (17 ∷ 19 ∷ []) (not (nameRight true (l .fcb) 1)) BadName
@@ -137,25 +114,39 @@ module _ (G : Geometry) (n argument : ℕ) (l : Lent) (s : Session) where
       -- 255, 3
       ∷ row (19 ∷ []) (anyReadOnly G l true (s .user)) ReadOnly
       ∷ row (23 ∷ []) (anyReadOnly G l false (s .user)) ReadOnly
-      ∷ row writeCalls (readOnlyThere G n (s .user) l) ReadOnly
+      ∷ row (21 ∷ 34 ∷ []) (readOnlyThere G (asked .number) (s .user) l) ReadOnly
       -- 255, 8
       ∷ row (22 ∷ []) (isFound (askedEntry G l (s .user))) Exists
       ∷ row (23 ∷ []) (anyNamed G l false (s .user) 17) Exists
       -- 255, 0
       ∷ row (22 ∷ []) (not (isFound (findEmpty G (rowsOf G l)))) Failed
       -- 3, 0: stands behind 9, 0, so that it never decides (crate table, `never-not-closed`)
-      ∷ row recordCalls (not (stays n (l .fcb)) and not (isFound (presentEntry G (s .user) l))) NotClosed
+      ∷ row (20 ∷ 21 ∷ 33 ∷ 34 ∷ []) (not (stays (asked .number) (l .fcb)) and not (isFound (presentEntry G (s .user) l))) NotClosed
       -- 4, 0
-      ∷ row (33 ∷ []) (not (isFound (targetEntry G n (s .user) l))) NoExtent
+      ∷ row (33 ∷ []) (not (isFound (targetEntry G (asked .number) (s .user) l))) NoExtent
       -- 1, 0
-      ∷ row readCalls (not (recordThere G n (s .user) l)) NoRecord
+      ∷ row (20 ∷ 33 ∷ []) (not (recordThere G (asked .number) (s .user) l)) NoRecord
       -- 1, 0 (21) or 5, 0 (34)
-      ∷ row (21 ∷ []) (leb extents (targetExtent n (l .fcb))) NoRecord
-      ∷ row (21 ∷ []) (not (isFound (targetEntry G n (s .user) l)) and not (isFound (findEmpty G (rowsOf G l)))) NoRecord
-      ∷ row (34 ∷ []) (not (isFound (targetEntry G n (s .user) l)) and not (isFound (findEmpty G (rowsOf G l)))) NoEntry
+      ∷ row (21 ∷ []) (leb extents (targetExtent (asked .number) (l .fcb))) NoRecord
+      ∷ row (21 ∷ []) (not (isFound (targetEntry G (asked .number) (s .user) l)) and not (isFound (findEmpty G (rowsOf G l)))) NoRecord
+      ∷ row (34 ∷ []) (not (isFound (targetEntry G (asked .number) (s .user) l)) and not (isFound (findEmpty G (rowsOf G l)))) NoEntry
       -- 2, 0
-      ∷ row writeCalls (eqb (blockThere G n (s .user) l) 0 and not (isFound (findFree G (l .map)))) DiskFull
+      ∷ row (21 ∷ 34 ∷ []) (eqb (blockThere G (asked .number) (s .user) l) 0 and not (isFound (findFree G (l .map)))) DiskFull
       ∷ []
+
+  -- those of this call
+  abbrev pub ownRows : List Row
+  ownRows = rowsAt (asked .number) callRows
+
+  unfoldable pub table : List Row
+  table =
+      -- 255, 255
+      when (not (isCall (asked .number))) NotListed
+      -- 255, 4
+      ∷ when (not (parametersRight G l asked s)) BadParameter
+      -- 255, 1
+      ∷ when (not (diskRight G l asked)) BadDisk
+      ∷ ownRows
 
   unfoldable pub verdict : Verdict
   verdict = firstRow table

@@ -14,13 +14,10 @@ use Rattle.format.specs.declared.Found.{Found}
 use Rattle.format.specs.declared.Found.the-variants.{At, Nothing}
 use Rattle.model.specs.declared.Plan.{Plan}
 use Rattle.model.specs.declared.Plan.the-variants.{Stay, Move, Make}
+use Rattle.model.specs.Kinds.{isRandom}
 use Rattle.model.specs.Lent.{Lent, lend, rowsOf}
 use Rattle.model.specs.Closing.{closedImage, closedMap}
 use Rattle.model.specs.Entering.{entered, nextRow}
-
--- 33 and 34 go by the random record, 20 and 21 by cr
-abbrev pub isRandom : ℕ → Bool
-isRandom n = eqb n 33 or eqb n 34
 
 -- the target's extent, and its record there
 unfoldable pub targetExtent : ℕ → Bytes → ℕ

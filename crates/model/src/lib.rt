@@ -24,6 +24,21 @@ pub struct Answer {
     pub session: Session,
 }
 
+// What a call may change besides A, H and the search. `specs/Kinds.antt` lists the calls with their kinds.
+pub enum Kind {
+    Unlisted,
+    Quiet,
+    Search,
+    User,
+    Settle,
+    Close,
+    Delete,
+    Create,
+    Rename,
+    Read,
+    Write,
+}
+
 // How a call ends. specs/Codes.antt gives document 01's A and H for each case.
 pub enum Code {
     Accepted(u8),

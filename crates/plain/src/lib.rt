@@ -9,7 +9,7 @@ ghost use Rattle.facts.specs.Marks.{Marked, markCount};
 ghost use Rattle.format.specs.Fcb.{fcbBytes};
 ghost use Rattle.model.specs.Lent.{lend, outcome};
 ghost use Rattle.model.specs.Table.{positionRight};
-ghost use Rattle.table.specs.Own.{call13, call32, call36, call46, call98};
+ghost use Rattle.table.specs.Own.{ask};
 ghost use Rattle.table.specs.OwnStep.{ownStep};
 use model::Answer;
 use model::Code;
@@ -20,7 +20,7 @@ pub fn log_in(map: &mut [u16], marks: &[u8], session: Session) -> Answer
     requires { ⌜ (length (now map) ≡ eightInch .blocks) × (length (now marks) ≡ markCount) ⌝ }
     ensures { λ r. ⌜ ((argument : ℕ) (image fcb buffer : Bytes) → Marked eightInch (entryAt eightInch image) (now (marks .entry))
         → outcome r image (now (map .exit)) fcb buffer
-        ≡ ownStep eightInch argument (lend image (now (map .entry)) fcb buffer) session call13) ⌝ }
+        ≡ ownStep eightInch (ask 13 argument) (lend image (now (map .entry)) fcb buffer) session) ⌝ }
 {
     fresh::make_fresh(map, marks);
     answers::done(0, session)
@@ -29,7 +29,7 @@ pub fn log_in(map: &mut [u16], marks: &[u8], session: Session) -> Answer
 // 32: argument 255 returns the user, another sets it.
 pub fn user_number(argument: u8, session: Session) -> Answer
     ensures { λ r. ⌜ ((image map fcb buffer : Bytes) → outcome r image map fcb buffer
-        ≡ ownStep eightInch argument (lend image map fcb buffer) session call32) ⌝ }
+        ≡ ownStep eightInch (ask 32 argument) (lend image map fcb buffer) session) ⌝ }
 {
     if argument == 255 {
         let user = session.user;
@@ -56,7 +56,7 @@ fn position_right(fcb: &[u8]) -> bool
 pub fn random_record(fcb: &mut [u8], session: Session) -> Answer
     requires { ⌜ length (now fcb) ≡ fcbBytes ⌝ }
     ensures { λ r. ⌜ ((argument : ℕ) (image map buffer : Bytes) → outcome r image map (now (fcb .exit)) buffer
-        ≡ ownStep eightInch argument (lend image map (now (fcb .entry)) buffer) session call36) ⌝ }
+        ≡ ownStep eightInch (ask 36 argument) (lend image map (now (fcb .entry)) buffer) session) ⌝ }
 {
     if !position_right(fcb) {
         return answers::refuse(Code::Failed, session);
@@ -70,7 +70,7 @@ pub fn random_record(fcb: &mut [u8], session: Session) -> Answer
 pub fn free_space(map: &[u16], buffer: &mut [u8], session: Session) -> Answer
     requires { ⌜ (length (now map) ≡ eightInch .blocks) × (length (now buffer) ≡ recordBytes) ⌝ }
     ensures { λ r. ⌜ ((argument : ℕ) (image fcb : Bytes) → outcome r image (now (map .entry)) fcb (now (buffer .exit))
-        ≡ ownStep eightInch argument (lend image (now (map .entry)) fcb (now (buffer .entry))) session call46) ⌝ }
+        ≡ ownStep eightInch (ask 46 argument) (lend image (now (map .entry)) fcb (now (buffer .entry))) session) ⌝ }
 {
     let n = format::RECORDS_PER_BLOCK * notes::free_count(map);
     entering::put_three(buffer, 0, n);
@@ -81,7 +81,7 @@ pub fn free_space(map: &[u16], buffer: &mut [u8], session: Session) -> Answer
 pub fn free_blocks(map: &mut [u16], session: Session) -> Answer
     requires { ⌜ length (now map) ≡ eightInch .blocks ⌝ }
     ensures { λ r. ⌜ ((argument : ℕ) (image fcb buffer : Bytes) → outcome r image (now (map .exit)) fcb buffer
-        ≡ ownStep eightInch argument (lend image (now (map .entry)) fcb buffer) session call98) ⌝ }
+        ≡ ownStep eightInch (ask 98 argument) (lend image (now (map .entry)) fcb buffer) session) ⌝ }
 {
     freeing::free_pending(map);
     answers::done(0, session)

@@ -23,10 +23,11 @@ use Rattle.model.specs.declared.Plan.{Plan}
 use Rattle.model.specs.declared.Plan.the-variants.{Stay, Move, Make}
 use Rattle.model.specs.Lent.{Lent, answerOf, ended}
 use Rattle.model.specs.Target.{targetRecord, targetSlot, crAfter, moved, made, haveRead, haveWritten, targetExtent}
-use Rattle.model.specs.Table.{oneOf, readCalls, writeCalls}
+use Rattle.model.specs.Kinds.{kindOf}
+use Rattle.model.specs.declared.Kind.the-variants.{Read, Write}
 use Rattle.model.specs.Calls.{readAt, reading, writtenAt, writing}
 use Rattle.model.specs.Step.{refusedSession}
-use Rattle.table.specs.Own.{Call}
+use Rattle.table.specs.Own.{ask}
 use Rattle.table.specs.OwnStep.{ownStep}
 use Rattle.rulings.specs.declared.Ruling.the-variants.{Refuse, Follow}
 use Rattle.rulings.specs.Ruling.{readRuling, writeRuling}
@@ -94,25 +95,25 @@ arrived-own {G} S ext l (Make e t b) long hf w own =
 
 -- ---- the calls: refused with nothing changed, or the plan carried out
 module _ (G : Geometry) (argument n : ℕ) (l : Lent) (s : Session) (r : Answer) where
-  module _ (which : oneOf n readCalls ≡ true) (c : Call n) where
+  module _ (which : kindOf n ≡ Read) where
     pub read-refused : (code : Code) → readRuling G n (s .user) l ≡ Refuse code → r ≡ answerOf code (refusedSession code s)
-        → record { answer = r; lent = l } ≡ ownStep G argument l s c
-    read-refused code q h = rw (own-read G argument l s n which c, q, h)
+        → record { answer = r; lent = l } ≡ ownStep G (ask n argument) l s
+    read-refused code q h = rw (own-read G argument l s n which, q, h)
 
     pub read-carried : (p : Plan) (left : Lent) → readRuling G n (s .user) l ≡ Follow p → r ≡ answerOf (Accepted 0) (ended s)
         → left ≡ haveRead G (blockOf p) (targetRecord n (l .fcb)) (crAfter n (l .fcb)) (arrived G (targetExtent n (l .fcb)) l p)
-        → record { answer = r; lent = left } ≡ ownStep G argument l s c
+        → record { answer = r; lent = left } ≡ ownStep G (ask n argument) l s
     unfolding readAt
-    read-carried p left q h k = rw (own-read G argument l s n which c, q, reading-by G s l n p, h, k)
+    read-carried p left q h k = rw (own-read G argument l s n which, q, reading-by G s l n p, h, k)
 
-  module _ (which : oneOf n writeCalls ≡ true) (c : Call n) where
+  module _ (which : kindOf n ≡ Write) where
     pub write-refused : (code : Code) → writeRuling G n (s .user) l ≡ Refuse code → r ≡ answerOf code (refusedSession code s)
-        → record { answer = r; lent = l } ≡ ownStep G argument l s c
-    write-refused code q h = rw (own-write G argument l s n which c, q, h)
+        → record { answer = r; lent = l } ≡ ownStep G (ask n argument) l s
+    write-refused code q h = rw (own-write G argument l s n which, q, h)
 
     pub write-carried : (p : Plan) (left : Lent) → writeRuling G n (s .user) l ≡ Follow p → r ≡ answerOf (Accepted 0) (ended s)
         → left ≡ haveWritten G (entryOf p) (targetSlot G n (l .fcb)) (blockOf p) (targetRecord n (l .fcb)) (crAfter n (l .fcb))
         (arrived G (targetExtent n (l .fcb)) l p)
-        → record { answer = r; lent = left } ≡ ownStep G argument l s c
+        → record { answer = r; lent = left } ≡ ownStep G (ask n argument) l s
     unfolding writtenAt
-    write-carried p left q h k = rw (own-write G argument l s n which c, q, writing-by G s l n p, h, k)
+    write-carried p left q h k = rw (own-write G argument l s n which, q, writing-by G s l n p, h, k)

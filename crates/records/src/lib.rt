@@ -10,9 +10,10 @@ ghost use Rattle.format.specs.Fcb.{fcbBytes};
 ghost use Rattle.model.specs.Lent.{lend, outcome};
 ghost use Rattle.model.specs.Closing.{closedImage};
 ghost use Rattle.model.specs.Target.{moved, made, haveRead, haveWritten};
-ghost use Rattle.model.specs.Table.{oneOf, readCalls, writeCalls};
+ghost use Rattle.model.specs.Kinds.{kindOf};
+ghost use Rattle.model.specs.declared.Kind.the-variants.{Read, Write};
 ghost use Rattle.chains.specs.Chain.{Indexed};
-ghost use Rattle.table.specs.Own.{Call};
+ghost use Rattle.table.specs.Own.{ask};
 ghost use Rattle.table.specs.OwnStep.{ownStep};
 ghost use Rattle.rulings.specs.Bounds.{OnDisk, OwnExtent};
 ghost use Rattle.records.specs.Carry.{arrived, entryOf, blockOf};
@@ -145,9 +146,9 @@ pub fn read_call(
 ) -> Answer
     requires { ⌜ (length (now image) ≡ imageBytes eightInch) × (length (now map) ≡ eightInch .blocks) × (length (now fcb) ≡ fcbBytes)
         × (length (now buffer) ≡ recordBytes) × (session .user ≤ 15) × (consistent eightInch (now image) ≡ true)
-        × (oneOf number readCalls ≡ true) × Indexed eightInch (entryAt eightInch (now image)) (now chain) ⌝ }
-    ensures { λ r. ⌜ ((argument : ℕ) (c : Call number) → outcome r (now (image .exit)) (now (map .exit)) (now (fcb .exit)) (now (buffer .exit))
-        ≡ ownStep eightInch argument (lend (now (image .entry)) (now (map .entry)) (now (fcb .entry)) (now (buffer .entry))) session c) ⌝ }
+        × (kindOf number ≡ Read) × Indexed eightInch (entryAt eightInch (now image)) (now chain) ⌝ }
+    ensures { λ r. ⌜ ((argument : ℕ) → outcome r (now (image .exit)) (now (map .exit)) (now (fcb .exit)) (now (buffer .exit))
+        ≡ ownStep eightInch (ask number argument) (lend (now (image .entry)) (now (map .entry)) (now (fcb .entry)) (now (buffer .entry))) session) ⌝ }
 {
     let target = targets::target_of(number, fcb);
     match rulings::rule_read(number, target, image, map, chain, fcb, session.user) {
@@ -171,9 +172,9 @@ pub fn write_call(
 ) -> Answer
     requires { ⌜ (length (now image) ≡ imageBytes eightInch) × (length (now map) ≡ eightInch .blocks) × (length (now fcb) ≡ fcbBytes)
         × (length (now buffer) ≡ recordBytes) × (session .user ≤ 15) × (consistent eightInch (now image) ≡ true)
-        × (oneOf number writeCalls ≡ true) × Indexed eightInch (entryAt eightInch (now image)) (now chain) ⌝ }
-    ensures { λ r. ⌜ ((argument : ℕ) (c : Call number) → outcome r (now (image .exit)) (now (map .exit)) (now (fcb .exit)) (now (buffer .entry))
-        ≡ ownStep eightInch argument (lend (now (image .entry)) (now (map .entry)) (now (fcb .entry)) (now (buffer .entry))) session c) ⌝ }
+        × (kindOf number ≡ Write) × Indexed eightInch (entryAt eightInch (now image)) (now chain) ⌝ }
+    ensures { λ r. ⌜ ((argument : ℕ) → outcome r (now (image .exit)) (now (map .exit)) (now (fcb .exit)) (now (buffer .entry))
+        ≡ ownStep eightInch (ask number argument) (lend (now (image .entry)) (now (map .entry)) (now (fcb .entry)) (now (buffer .entry))) session) ⌝ }
 {
     let target = targets::target_of(number, fcb);
     match rulings::rule_write(number, target, image, map, chain, fcb, session.user) {

@@ -22,9 +22,11 @@ use Rattle.model.specs.declared.Code.the-variants.{Accepted, Failed, BadName, S
 use Rattle.model.specs.Lent.{Lent, Outcome, rowsOf, outcome, answerOf, ended, searching, searchOn}
 use Rattle.model.specs.Search.{patternOf, extentHit, hit, findHit}
 use Rattle.model.specs.Calls.{entryNumber, foundAt, searched}
-use Rattle.model.specs.Step.{refused}
+use Rattle.model.specs.Kinds.{kindOf}
+use Rattle.model.specs.Step.{refused, effect, pattern, place}
 use Rattle.table.specs.First.{_&_, Decides, here, later}
-use Rattle.table.specs.Own.{call17, call18, ownRows}
+use Rattle.model.specs.Table.{ownRows}
+use Rattle.table.specs.Own.{ask}
 use Rattle.table.specs.OwnStep.{ownStep, own-refused, own-carried}
 
 -- among the user's rows whose extent is asked for, the name decides
@@ -98,29 +100,30 @@ module _ (G : Geometry) (s : Session) (l : Lent) where
       rw (a, n, b) (ap (λ (f : Found). foundAt G s l pattern (numberOf (G .entries) f)) (sym q) ∙ from-found pattern place (ap isFound q))
 
   -- ---- 17
-  pub first-refused : (argument : ℕ) → patternRight (l .fcb) ≡ false → Decides BadName (ownRows G argument l s call17)
+  pub first-refused : (argument : ℕ) → patternRight (l .fcb) ≡ false → Decides BadName (ownRows G (ask 17 argument) l s)
   unfolding patternRight
   first-refused argument h =
       split (bool-cases (nameRight true (l .fcb) 1))
       (λ t. later (ap not t) (here (byte-asked (exOf (l .fcb)) ∙ ap not (sym (and-then _ _ t) ∙ h)) refl))
       (λ f. here (ap not f) refl)
 
-  pub first-searched : (argument : ℕ) → patternRight (l .fcb) ≡ true → searchedFrom (patternOf (l .fcb)) 0 ≡ ownStep G argument l s call17
-  unfolding patternRight
+  pub first-searched : (argument : ℕ) → patternRight (l .fcb) ≡ true → searchedFrom (patternOf (l .fcb)) 0 ≡ ownStep G (ask 17 argument) l s
+  unfolding patternRight effect kindOf pattern place
   first-searched argument h =
       let n = ap not (and-left _ _ h) in
       let x = byte-asked (exOf (l .fcb)) ∙ ap not (and-right _ _ h) in
       sym (split (bool-cases (isFound (findHit G (rowsOf G l) (s .user) (patternOf (l .fcb)) 0)))
-      (λ t. own-carried G argument l s call17 (n & x & ap not t & tt) ∙ from-found (patternOf (l .fcb)) 0 t)
-      (λ f. own-refused G argument l s call17 SearchOver (later n (later x (here (ap not f) refl))) ∙ from-missing (patternOf (l .fcb)) 0 f))
+      (λ t. own-carried G (ask 17 argument) l s (n & x & ap not t & tt) ∙ from-found (patternOf (l .fcb)) 0 t)
+      (λ f. own-refused G (ask 17 argument) l s SearchOver (later n (later x (here (ap not f) refl))) ∙ from-missing (patternOf (l .fcb)) 0 f))
 
   -- ---- 18
-  pub next-refused : (argument : ℕ) → s .on ≡ 0 → Decides Failed (ownRows G argument l s call18)
+  pub next-refused : (argument : ℕ) → s .on ≡ 0 → Decides Failed (ownRows G (ask 18 argument) l s)
   next-refused argument h = let o : searchOn s ≡ false = rw h in here (ap not o) refl
 
-  pub next-searched : (argument : ℕ) → (s .on ≡ 0 → ⊥) → searchedFrom (s .pattern) (s .place) ≡ ownStep G argument l s call18
+  pub next-searched : (argument : ℕ) → (s .on ≡ 0 → ⊥) → searchedFrom (s .pattern) (s .place) ≡ ownStep G (ask 18 argument) l s
+  unfolding effect kindOf pattern place
   next-searched argument h =
       let o : searchOn s ≡ true = rw (ne-eqb (s .on) 0 h) in
       sym (split (bool-cases (isFound (findHit G (rowsOf G l) (s .user) (s .pattern) (s .place))))
-      (λ t. own-carried G argument l s call18 (ap not o & ap not t & tt) ∙ from-found (s .pattern) (s .place) t)
-      (λ f. own-refused G argument l s call18 SearchOver (later (ap not o) (here (ap not f) refl)) ∙ from-missing (s .pattern) (s .place) f))
+      (λ t. own-carried G (ask 18 argument) l s (ap not o & ap not t & tt) ∙ from-found (s .pattern) (s .place) t)
+      (λ f. own-refused G (ask 18 argument) l s SearchOver (later (ap not o) (here (ap not f) refl)) ∙ from-missing (s .pattern) (s .place) f))

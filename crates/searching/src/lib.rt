@@ -8,7 +8,7 @@ ghost use Rattle.format.specs.Entries.{entryAt};
 ghost use Rattle.format.specs.Fcb.{fcbBytes};
 ghost use Rattle.model.specs.Lent.{lend, outcome};
 ghost use Rattle.model.specs.Search.{patternBytes, extentHit, hit, findHit};
-ghost use Rattle.table.specs.Own.{call17, call18};
+ghost use Rattle.table.specs.Own.{ask};
 ghost use Rattle.table.specs.OwnStep.{ownStep};
 ghost use Rattle.searching.specs.Searches.{patternRight, searchedFrom};
 use format::ENTRIES;
@@ -102,7 +102,7 @@ fn pattern_right(fcb: &[u8]) -> bool
 pub fn search_first(image: &[u8], fcb: &[u8], buffer: &mut [u8], session: Session) -> Answer
     requires { ⌜ (length (now image) ≡ imageBytes eightInch) × (length (now fcb) ≡ fcbBytes) × (length (now buffer) ≡ recordBytes) ⌝ }
     ensures { λ r. ⌜ ((argument : ℕ) (map : Bytes) → outcome r (now (image .entry)) map (now (fcb .entry)) (now (buffer .exit))
-        ≡ ownStep eightInch argument (lend (now (image .entry)) map (now (fcb .entry)) (now (buffer .entry))) session call17) ⌝ }
+        ≡ ownStep eightInch (ask 17 argument) (lend (now (image .entry)) map (now (fcb .entry)) (now (buffer .entry))) session) ⌝ }
 {
     if !pattern_right(fcb) {
         return answers::refuse(Code::BadName, session);
@@ -116,7 +116,7 @@ pub fn search_first(image: &[u8], fcb: &[u8], buffer: &mut [u8], session: Sessio
 pub fn search_next(image: &[u8], buffer: &mut [u8], session: Session) -> Answer
     requires { ⌜ (length (now image) ≡ imageBytes eightInch) × (length (now buffer) ≡ recordBytes) ⌝ }
     ensures { λ r. ⌜ ((argument : ℕ) (map fcb : Bytes) → outcome r (now (image .entry)) map fcb (now (buffer .exit))
-        ≡ ownStep eightInch argument (lend (now (image .entry)) map fcb (now (buffer .entry))) session call18) ⌝ }
+        ≡ ownStep eightInch (ask 18 argument) (lend (now (image .entry)) map fcb (now (buffer .entry))) session) ⌝ }
 {
     if session.on == 0 {
         return answers::refuse(Code::Failed, session);

@@ -1,5 +1,6 @@
 -- A table passes a call exactly when the call's facts hold.
 use mathlib.Core.Path.{_≡_, refl, sym, ap, _∙_}
+use mathlib.Core.Logic.{_⊎_}
 use mathlib.Core.Bool.{true, false, not}
 use Prim.Native.Nat.{ℕ, _/_, _≤_, _<_}
 use native.Mathlib.Omega.{arith}
@@ -18,12 +19,18 @@ use Rattle.model.specs.declared.Session.{Session}
 use Rattle.model.specs.declared.Code.the-variants.{NotListed}
 use Rattle.model.specs.declared.Verdict.the-variants.{Passed}
 use Rattle.model.specs.Lent.{Lent, rowsOf}
-use Rattle.model.specs.Target.{isRandom, targetExtent, presentEntry, targetEntry, recordThere, blockThere, readOnlyThere}
-use Rattle.model.specs.Table.{isCall, parametersRight, diskRight, verdict}
+use Rattle.model.specs.Target.{targetExtent, presentEntry, targetEntry, recordThere, blockThere, readOnlyThere}
+use Rattle.model.specs.declared.Asked.{Asked}
+use Rattle.model.specs.declared.Kind.{Kind}
+use Rattle.model.specs.declared.Kind.the-variants.{Unlisted, Search, User, Close, Create, Rename, Read, Write}
+use Rattle.model.specs.Kinds.{Listed, calls, kindOf, same, numbersIn, isCall, isRandom}
+use Rattle.model.specs.Search.{findHit}
+use Rattle.model.specs.Step.{pattern, place}
+use Rattle.model.specs.Table.{parametersRight, diskRight, ownRows, verdict}
 use Rattle.table.specs.First.{_&_, NoneHolds, passed-none, none-passed, passed-refused}
-use Rattle.table.specs.Own.{Call, call13, call15, call16, call17, call18, call19, call20, call21, call22, call23, call32, call33, call34, call35, call36, call46, call98, call-of, ownRows, rowsFor, verdict-rows, verdict-unlisted}
+use Rattle.table.specs.Own.{ask, AtEach, at-kind, rowsFor, verdict-rows, verdict-unlisted}
 use Rattle.table.specs.Present.{there-target, file-extent-below}
-use Rattle.table.specs.Facts.{Reads, Writes, Own, Ready, AcceptedCall}
+use Rattle.table.specs.Facts.{Opens, Closes, Makes, Renames, Sizes, Positions, Reads, Writes, Ready, AcceptedCall}
 use Rattle.table.specs.Reflect.{found, missed, either-found, either-missed, pattern-of, pattern-right, argument-of, argument-right, parameters-right, disk-right, ready-of, some-of, some-right, none-of, none-right, writable-of, writable-right, positions-of, positions-right}
 
 -- the target's extent of 33 and 34 is below 2,048 exactly where the random record is at most 262,143
@@ -66,96 +73,100 @@ module _ (G : Geometry) (l : Lent) (s : Session) where
         block = λ z. found _ (second-fails _ _ b (eq-eqb _ _ z));
       }
 
-  own-of : (argument : ℕ) {n : ℕ} (c : Call n) → consistent G (l .image) ≡ true → s .user ≤ 15 → NoneHolds (ownRows G argument l s c) → Own G l s argument c
-  unfolding _or_
-  own-of a call13 right low h = tt
-  own-of a call15 right low h = record { name = not-false _ (h .0); ex = ltb-false _ _ (h .1 .0); entry = found _ (h .1 .1 .0) }
-  own-of a call16 right low h = record { entry = found _ (h .0) }
-  own-of a call17 right low h = record { name = not-false _ (h .0); ex = pattern-of _ (h .1 .0); entry = found _ (h .1 .1 .0) }
-  own-of a call18 right low h = record { on = not-false _ (h .0); entry = found _ (h .1 .0) }
-  own-of a call19 right low h =
-      record { name = not-false _ (h .0); files = record { some = some-of G l s true 1 (h .1 .0); writable = writable-of G l s true (h .1 .1 .0) } }
-  own-of a call20 right low h = read-of 20 right low (h .0) (h .1 .1 .0)
-  own-of a call21 right low h = writes-of 21 (h .0) (h .1 .0) (leb-false _ _ (h .1 .1 .1 .0)) (h .1 .1 .1 .1 .0) (h .1 .1 .1 .1 .1 .0)
-  own-of a call22 right low h =
-      record { name = not-false _ (h .0); ex = ltb-false _ _ (h .1 .0); new = not-found _ (h .1 .1 .0); entry = found _ (h .1 .1 .1 .0) }
-  own-of a call23 right low h =
-      record {
-        name = not-false _ (h .0);
-        new-name = not-false _ (h .1 .0);
-        files = record { some = some-of G l s false 1 (h .1 .1 .0); writable = writable-of G l s false (h .1 .1 .1 .0) };
-        new = none-of G l s 17 (h .1 .1 .1 .1 .0);
-      }
-  own-of a call32 right low h = argument-of a (h .0)
-  own-of a call33 right low h = read-of 33 right low (h .1 .0) (h .1 .1 .1 .1 .0)
-  own-of a call34 right low h =
-      writes-of 34 (h .1 .0) (h .1 .1 .0) (random-below 34 (l .fcb) refl (h .0)) (h .1 .1 .1 .1 .0) (h .1 .1 .1 .1 .1 .0)
-  own-of a call35 right low h = record { name = not-false _ (h .0); some = some-of G l s false 1 (h .1 .0) }
-  own-of a call36 right low h = positions-of G l s (h .0)
-  own-of a call46 right low h = tt
-  own-of a call98 right low h = tt
-
-  -- ---- and back
   block-right : (n : ℕ) → (blockThere G n (s .user) l ≡ 0 → FoundAt (findFree G (l .map)))
       → (eqb (blockThere G n (s .user) l) 0 and not (isFound (findFree G (l .map)))) ≡ false
   block-right n f =
       split (eq-or-ne (blockThere G n (s .user) l) 0) (λ z. and-fails-right _ _ (missed _ (f z))) (λ z. and-fails-left _ _ (ne-eqb _ _ z))
 
-  own-right : (argument : ℕ) {n : ℕ} (c : Call n) → Own G l s argument c → NoneHolds (ownRows G argument l s c)
+-- ---- a call's own facts, by its kind
+module _ (G : Geometry) (asked : Asked) (l : Lent) (s : Session) (none : NoneHolds (ownRows G asked l s)) where
+  -- from what holds at each number of the kind
+  by-rows : (F : ℕ → Type 0) (k : Kind) → same Unlisted k ≡ false
+      → AtEach (λ (n : ℕ). NoneHolds (ownRows G (ask n (asked .argument)) l s) → F n) (numbersIn (λ (c : Listed). same (c .kind) k) calls)
+      → kindOf (asked .number) ≡ k → F (asked .number)
+  by-rows F k u x q = at-kind (λ (n : ℕ). NoneHolds (ownRows G (ask n (asked .argument)) l s) → F n) k (asked .number) u x q none
+
+  pub closes-of : kindOf (asked .number) ≡ Close → Closes G l s
+  closes-of = by-rows (λ (n : ℕ). Closes G l s) Close refl ((λ h. record { entry = found _ (h .0) }) & tt)
+
+  pub makes-of : kindOf (asked .number) ≡ Create → Makes G l s
+  makes-of =
+      by-rows (λ (n : ℕ). Makes G l s) Create refl
+      ((λ (name, (ex, (new, (entry, none)))). record { name = not-false _ name; ex = ltb-false _ _ ex; new = not-found _ new; entry = found _ entry }) & tt)
+
+  pub renames-of : kindOf (asked .number) ≡ Rename → Renames G l s
+  renames-of =
+      by-rows (λ (n : ℕ). Renames G l s) Rename refl
+      ((λ h. record {
+        name = not-false _ (h .0);
+        new-name = not-false _ (h .1 .0);
+        files = record { some = some-of G l s false 1 (h .1 .1 .0); writable = writable-of G l s false (h .1 .1 .1 .0) };
+        new = none-of G l s 17 (h .1 .1 .1 .1 .0);
+      }) & tt)
+
+  pub sets-of : kindOf (asked .number) ≡ User → (asked .argument ≡ 255) ⊎ (asked .argument ≤ 15)
   unfolding _or_
-  own-right a call13 o = tt
-  own-right a call15 o = ap not (o .name) & le-ltb _ _ (o .ex) & missed _ (o .entry) & tt
-  own-right a call16 o = missed _ (o .entry) & tt
-  own-right a call17 o = ap not (o .name) & pattern-right _ (o .ex) & missed _ (o .entry) & tt
-  own-right a call18 o = ap not (o .on) & missed _ (o .entry) & tt
-  own-right a call19 o = ap not (o .name) & some-right G l s true 1 (o .files .some) & writable-right G l s true (o .files .writable) & tt
-  own-right a call20 o = missed _ (o .entry) & and-fails-right _ _ (missed _ (o .entry)) & ap not (o .there) & tt
-  own-right a call21 o =
-      missed _ (o .entry) & o .writable & and-fails-right _ _ (missed _ (o .entry)) & lt-leb _ _ (o .extent)
-      & either-missed _ _ (o .room) & block-right 21 (o .block) & tt
-  own-right a call22 o = ap not (o .name) & le-ltb _ _ (o .ex) & ap isFound (o .new) & missed _ (o .entry) & tt
-  own-right a call23 o =
-      ap not (o .name) & ap not (o .new-name) & some-right G l s false 1 (o .files .some)
-      & writable-right G l s false (o .files .writable) & none-right G l s 17 (o .new) & tt
-  own-right a call32 o = argument-right a o & tt
-  own-right a call33 o =
+  sets-of = by-rows (λ (n : ℕ). (asked .argument ≡ 255) ⊎ (asked .argument ≤ 15)) User refl ((λ h. argument-of (asked .argument) (h .0)) & tt)
+
+  pub hits-of : kindOf (asked .number) ≡ Search → FoundAt (findHit G (rowsOf G l) (s .user) (pattern G asked l s) (place G asked l s))
+  unfolding pattern place
+  hits-of =
+      by-rows (λ (n : ℕ). FoundAt (findHit G (rowsOf G l) (s .user) (pattern G (ask n (asked .argument)) l s) (place G (ask n (asked .argument)) l s))) Search refl
+      ((λ h. found _ (h .1 .1 .0)) & (λ h. found _ (h .1 .0)) & tt)
+
+  pub reads-of : consistent G (l .image) ≡ true → s .user ≤ 15 → kindOf (asked .number) ≡ Read → Reads G l s (asked .number)
+  reads-of right low =
+      by-rows (Reads G l s) Read refl
+      ((λ h. read-of G l s 20 right low (h .0) (h .1 .1 .0)) & (λ h. read-of G l s 33 right low (h .1 .0) (h .1 .1 .1 .1 .0)) & tt)
+
+  pub writes-by : kindOf (asked .number) ≡ Write → Writes G l s (asked .number)
+  unfolding isRandom
+  writes-by =
+      by-rows (Writes G l s) Write refl
+      ((λ h. writes-of G l s 21 (h .0) (h .1 .0) (leb-false _ _ (h .1 .1 .1 .0)) (h .1 .1 .1 .1 .0) (h .1 .1 .1 .1 .1 .0))
+      & (λ h. writes-of G l s 34 (h .1 .0) (h .1 .1 .0) (random-below 34 (l .fcb) refl (h .0)) (h .1 .1 .1 .1 .0) (h .1 .1 .1 .1 .1 .0)) & tt)
+
+-- ---- and back, where a law says that a call is carried out
+module _ (G : Geometry) (argument : ℕ) (l : Lent) (s : Session) where
+  pub opens-of : NoneHolds (ownRows G (ask 15 argument) l s) → Opens G l s
+  opens-of h = record { name = not-false _ (h .0); ex = ltb-false _ _ (h .1 .0); entry = found _ (h .1 .1 .0) }
+
+  pub sizes-right : Sizes G l s → NoneHolds (ownRows G (ask 35 argument) l s)
+  sizes-right o = ap not (o .name) & some-right G l s false 1 (o .some) & tt
+
+  pub positions-none : Positions G l s → NoneHolds (ownRows G (ask 36 argument) l s)
+  positions-none o = positions-right G l s o & tt
+
+  pub makes-right : Makes G l s → NoneHolds (ownRows G (ask 22 argument) l s)
+  makes-right o = ap not (o .name) & le-ltb _ _ (o .ex) & ap isFound (o .new) & missed _ (o .entry) & tt
+
+  pub reads-right : Reads G l s 33 → NoneHolds (ownRows G (ask 33 argument) l s)
+  unfolding isRandom
+  reads-right o =
       random-low 33 (l .fcb) refl (o .extent) & missed _ (o .entry) & and-fails-right _ _ (missed _ (o .entry))
       & missed _ (o .target) & ap not (o .there) & tt
-  own-right a call34 o =
-      random-low 34 (l .fcb) refl (o .extent) & missed _ (o .entry) & o .writable & and-fails-right _ _ (missed _ (o .entry))
-      & either-missed _ _ (o .room) & block-right 34 (o .block) & tt
-  own-right a call35 o = ap not (o .name) & some-right G l s false 1 (o .some) & tt
-  own-right a call36 o = positions-right G l s o & tt
-  own-right a call46 o = tt
-  own-right a call98 o = tt
+
+  pub writes-right : Writes G l s 21 → NoneHolds (ownRows G (ask 21 argument) l s)
+  writes-right o =
+      missed _ (o .entry) & o .writable & and-fails-right _ _ (missed _ (o .entry)) & lt-leb _ _ (o .extent)
+      & either-missed _ _ (o .room) & block-right G l s 21 (o .block) & tt
 
 -- ---- the table
-module _ (G : Geometry) (n argument : ℕ) (l : Lent) (s : Session) where
-  pub passed-call : verdict G n argument l s ≡ Passed → isCall n ≡ true
+module _ (G : Geometry) (asked : Asked) (l : Lent) (s : Session) where
+  pub passed-call : verdict G asked l s ≡ Passed → isCall (asked .number) ≡ true
   passed-call q =
-      split (bool-cases (isCall n)) (λ t. t) (λ f. passed-refused NotListed (sym q ∙ verdict-unlisted G argument l s n f))
-
-  pub passed-ready : verdict G n argument l s ≡ Passed → Ready G n l s
-  passed-ready q =
-      let c = call-of n (passed-call q) in
-      let none = passed-none (rowsFor G argument l s c) (sym (verdict-rows G argument l s c) ∙ q) in
-      ready-of G n l s (not-false (parametersRight G l n s) (none .0)) (not-false (diskRight G l n) (none .1 .0))
-
-  pub passed-own : (c : Call n) → verdict G n argument l s ≡ Passed → Own G l s argument c
-  passed-own c q =
-      let none = passed-none (rowsFor G argument l s c) (sym (verdict-rows G argument l s c) ∙ q) in
-      let r = passed-ready q in
-      own-of G l s argument c (r .image-right) (r .fits .user-low) (none .1 .1)
+      split (bool-cases (isCall (asked .number))) (λ t. t) (λ f. passed-refused NotListed (sym q ∙ verdict-unlisted G asked l s f))
 
   -- a passed table taken apart
-  pub accepted : verdict G n argument l s ≡ Passed → AcceptedCall G n argument l s
+  pub accepted : verdict G asked l s ≡ Passed → AcceptedCall G asked l s
   accepted q =
-      let c = call-of n (passed-call q) in
-      record { call = c; ready = passed-ready q; own = passed-own c q }
+      let t = passed-call q in
+      let none = passed-none (rowsFor G asked l s) (sym (verdict-rows G asked l s t) ∙ q) in
+      record { listed = t; ready = ready-of G asked l s (not-false (parametersRight G l asked s) (none .0)) (not-false (diskRight G l asked) (none .1 .0)); none = none .1 .1 }
 
   -- a call whose facts hold is passed
-  pub passes : (c : Call n) → Ready G n l s → Own G l s argument c → verdict G n argument l s ≡ Passed
-  passes c r o =
-      verdict-rows G argument l s c
-      ∙ none-passed (rowsFor G argument l s c)
-      (ap not (parameters-right G n l s (r .fits) (r .drive)) & ap not (disk-right G n l s (r .image-right) (r .map-right)) & own-right G l s argument c o)
+  pub passes : isCall (asked .number) ≡ true → Ready G asked l s → NoneHolds (ownRows G asked l s) → verdict G asked l s ≡ Passed
+  passes t r o =
+      verdict-rows G asked l s t
+      ∙ none-passed (rowsFor G asked l s)
+      (ap not (parameters-right G asked l s (r .fits) (r .drive)) & ap not (disk-right G asked l s (r .image-right) (r .map-right)) & o)

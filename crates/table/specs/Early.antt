@@ -9,14 +9,15 @@ use Rattle.model.specs.declared.Code.{Code}
 use Rattle.model.specs.declared.Code.the-variants.{NotListed, BadParameter, BadDisk}
 use Rattle.model.specs.declared.Verdict.the-variants.{Refused}
 use Rattle.model.specs.Lent.{Lent, outcome, answerOf}
-use Rattle.model.specs.Table.{isCall, parametersRight, diskRight, verdict}
+use Rattle.model.specs.Kinds.{isCall}
+use Rattle.model.specs.Table.{parametersRight, diskRight, verdict}
 use Rattle.model.specs.Step.{refusedSession, step}
 use Rattle.table.specs.First.{first-holds, first-passes}
-use Rattle.table.specs.Own.{call-of, verdict-rows, verdict-unlisted}
+use Rattle.table.specs.Own.{verdict-rows, verdict-unlisted}
 
 module _ (G : Geometry) (asked : Asked) (l : Lent) (s : Session) where
   -- an answer that changed nothing
-  pub refuses-step : (code : Code) (r : Answer) → verdict G (asked .number) (asked .argument) l s ≡ Refused code
+  pub refuses-step : (code : Code) (r : Answer) → verdict G asked l s ≡ Refused code
       → r ≡ answerOf code (refusedSession code s) → outcome r (l .image) (l .map) (l .fcb) (l .buffer) ≡ step G asked l s
   unfolding step
   refuses-step code r v q = rw (v, q)
@@ -24,14 +25,14 @@ module _ (G : Geometry) (asked : Asked) (l : Lent) (s : Session) where
   -- ---- each of the three, in their order
   pub unlisted-step : (r : Answer) → isCall (asked .number) ≡ false → r ≡ answerOf NotListed (refusedSession NotListed s)
       → outcome r (l .image) (l .map) (l .fcb) (l .buffer) ≡ step G asked l s
-  unlisted-step r h = refuses-step NotListed r (verdict-unlisted G (asked .argument) l s (asked .number) h)
+  unlisted-step r h = refuses-step NotListed r (verdict-unlisted G asked l s h)
 
-  pub parameter-step : (r : Answer) → isCall (asked .number) ≡ true → parametersRight G l (asked .number) s ≡ false
+  pub parameter-step : (r : Answer) → isCall (asked .number) ≡ true → parametersRight G l asked s ≡ false
       → r ≡ answerOf BadParameter (refusedSession BadParameter s) → outcome r (l .image) (l .map) (l .fcb) (l .buffer) ≡ step G asked l s
   parameter-step r t h =
-      refuses-step BadParameter r (verdict-rows G (asked .argument) l s (call-of (asked .number) t) ∙ first-holds _ _ (ap not h))
+      refuses-step BadParameter r (verdict-rows G asked l s t ∙ first-holds _ _ (ap not h))
 
-  pub disk-step : (r : Answer) → isCall (asked .number) ≡ true → parametersRight G l (asked .number) s ≡ true → diskRight G l (asked .number) ≡ false
+  pub disk-step : (r : Answer) → isCall (asked .number) ≡ true → parametersRight G l asked s ≡ true → diskRight G l asked ≡ false
       → r ≡ answerOf BadDisk (refusedSession BadDisk s) → outcome r (l .image) (l .map) (l .fcb) (l .buffer) ≡ step G asked l s
   disk-step r t p h =
-      refuses-step BadDisk r (verdict-rows G (asked .argument) l s (call-of (asked .number) t) ∙ first-passes _ _ (ap not p) ∙ first-holds _ _ (ap not h))
+      refuses-step BadDisk r (verdict-rows G asked l s t ∙ first-passes _ _ (ap not p) ∙ first-holds _ _ (ap not h))

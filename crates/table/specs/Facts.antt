@@ -16,8 +16,10 @@ use Rattle.model.specs.declared.Session.{Session}
 use Rattle.model.specs.Lent.{Lent, rowsOf, searchOn}
 use Rattle.model.specs.Target.{targetExtent, presentEntry, targetEntry, blockThere, recordThere, readOnlyThere}
 use Rattle.model.specs.Search.{patternOf, findHit}
-use Rattle.model.specs.Table.{usesFcb, askedEntry}
-use Rattle.table.specs.Own.{Call, call13, call15, call16, call17, call18, call19, call20, call21, call22, call23, call32, call33, call34, call35, call36, call46, call98}
+use Rattle.model.specs.declared.Asked.{Asked}
+use Rattle.model.specs.Kinds.{usesFcb, isCall}
+use Rattle.model.specs.Table.{askedEntry, ownRows}
+use Rattle.table.specs.First.{NoneHolds}
 
 -- the lengths, the user and the search place are right
 pub record Fits (G : Geometry) (l : Lent) (s : Session) : Type 0 where
@@ -91,35 +93,15 @@ module _ (G : Geometry) (l : Lent) (s : Session) where
     pub room : targetEntry G n (s .user) l ≡ Nothing → FoundAt (findEmpty G (rowsOf G l))
     pub block : blockThere G n (s .user) l ≡ 0 → FoundAt (findFree G (l .map))
 
-  -- a call's own facts
-  abbrev pub Own : ℕ → {n : ℕ} → Call n → Type 0
-  Own argument call13 = Unit {0}
-  Own argument call15 = Opens
-  Own argument call16 = Closes
-  Own argument call17 = Searches
-  Own argument call18 = SearchesOn
-  Own argument call19 = Deletes
-  Own argument call20 = Reads 20
-  Own argument call21 = Writes 21
-  Own argument call22 = Makes
-  Own argument call23 = Renames
-  Own argument call32 = (argument ≡ 255) ⊎ (argument ≤ 15)
-  Own argument call33 = Reads 33
-  Own argument call34 = Writes 34
-  Own argument call35 = Sizes
-  Own argument call36 = Positions
-  Own argument call46 = Unit {0}
-  Own argument call98 = Unit {0}
-
 -- what the first three rows say of every call that they pass
-pub record Ready (G : Geometry) (n : ℕ) (l : Lent) (s : Session) : Type 0 where
+pub record Ready (G : Geometry) (asked : Asked) (l : Lent) (s : Session) : Type 0 where
   pub fits : Fits G l s
-  pub drive : usesFcb n ≡ true → getD (l .fcb) 0 0 ≤ 1
+  pub drive : usesFcb (asked .number) ≡ true → getD (l .fcb) 0 0 ≤ 1
   pub image-right : consistent G (l .image) ≡ true
-  pub map-right : (n ≡ 13 → ⊥) → mapRight G (rowsOf G l) (l .map) ≡ true
+  pub map-right : (asked .number ≡ 13 → ⊥) → mapRight G (rowsOf G l) (l .map) ≡ true
 
--- what the whole table says: the call is listed, and its facts hold
-pub record AcceptedCall (G : Geometry) (n argument : ℕ) (l : Lent) (s : Session) : Type 0 where
-  pub call : Call n
-  pub ready : Ready G n l s
-  pub own : Own G l s argument call
+-- what the whole table says: the call is listed, and no row holds
+pub record AcceptedCall (G : Geometry) (asked : Asked) (l : Lent) (s : Session) : Type 0 where
+  pub listed : isCall (asked .number) ≡ true
+  pub ready : Ready G asked l s
+  pub none : NoneHolds (ownRows G asked l s)

@@ -21,7 +21,10 @@ use Rattle.format.specs.declared.Found.{Found}
 use Rattle.format.specs.declared.Found.the-variants.{At, Nothing}
 use Rattle.model.specs.declared.Session.{Session}
 use Rattle.model.specs.Lent.{Lent, rowsOf}
-use Rattle.model.specs.Table.{oneOf, usesFcb, lengthsRight, parametersRight, diskRight, anyNamed, anyReadOnly, positionRight}
+use Rattle.model.specs.declared.Asked.{Asked}
+use Rattle.model.specs.Kinds.{usesFcb}
+use Rattle.table.specs.Own.{ask}
+use Rattle.model.specs.Table.{lengthsRight, parametersRight, diskRight, anyNamed, anyReadOnly, positionRight}
 use Rattle.table.specs.Facts.{Fits, Positions, Ready}
 
 -- ---- tests of look-ups
@@ -54,8 +57,8 @@ argument-right a (inl h) = ap not (or-left _ _ (eq-eqb _ _ h))
 argument-right a (inr h) = ap not (or-right _ _ (le-leb _ _ h))
 
 -- ---- lengths, user, place and drive
-module _ (G : Geometry) (n : ℕ) (l : Lent) (s : Session) where
-  pub fits-of : parametersRight G l n s ≡ true → Fits G l s
+module _ (G : Geometry) (asked : Asked) (l : Lent) (s : Session) where
+  pub fits-of : parametersRight G l asked s ≡ true → Fits G l s
   unfolding parametersRight lengthsRight
   fits-of h =
       let p = and-left _ _ h in
@@ -69,14 +72,14 @@ module _ (G : Geometry) (n : ℕ) (l : Lent) (s : Session) where
         place-low = leb-true _ _ (and-left _ _ (and-right _ _ t));
       }
 
-  pub drive-of : parametersRight G l n s ≡ true → usesFcb n ≡ true → getD (l .fcb) 0 0 ≤ 1
+  pub drive-of : parametersRight G l asked s ≡ true → usesFcb (asked .number) ≡ true → getD (l .fcb) 0 0 ≤ 1
   unfolding parametersRight
   drive-of h u = leb-true _ _ (sym (or-then _ _ (ap not u)) ∙ and-right _ _ (and-right _ _ (and-right _ _ h)))
 
-  drive-right : (usesFcb n ≡ true → getD (l .fcb) 0 0 ≤ 1) → (not (usesFcb n) or leb (getD (l .fcb) 0 0) 1) ≡ true
-  drive-right d = split (bool-cases (usesFcb n)) (λ t. or-right _ _ (le-leb _ _ (d t))) (λ f. or-left _ _ (ap not f))
+  drive-right : (usesFcb (asked .number) ≡ true → getD (l .fcb) 0 0 ≤ 1) → (not (usesFcb (asked .number)) or leb (getD (l .fcb) 0 0) 1) ≡ true
+  drive-right d = split (bool-cases (usesFcb (asked .number))) (λ t. or-right _ _ (le-leb _ _ (d t))) (λ f. or-left _ _ (ap not f))
 
-  pub parameters-right : Fits G l s → (usesFcb n ≡ true → getD (l .fcb) 0 0 ≤ 1) → parametersRight G l n s ≡ true
+  pub parameters-right : Fits G l s → (usesFcb (asked .number) ≡ true → getD (l .fcb) 0 0 ≤ 1) → parametersRight G l asked s ≡ true
   unfolding parametersRight lengthsRight
   parameters-right f d =
       and-both _ _
@@ -84,29 +87,29 @@ module _ (G : Geometry) (n : ℕ) (l : Lent) (s : Session) where
       (and-both _ _ (le-leb _ _ (f .user-low)) (and-both _ _ (le-leb _ _ (f .place-low)) (drive-right d)))
 
   -- ---- the image and the map
-  pub image-of : diskRight G l n ≡ true → consistent G (l .image) ≡ true
+  pub image-of : diskRight G l asked ≡ true → consistent G (l .image) ≡ true
   unfolding diskRight
   image-of h = and-left _ _ h
 
-  pub map-of : diskRight G l n ≡ true → (n ≡ 13 → ⊥) → mapRight G (rowsOf G l) (l .map) ≡ true
+  pub map-of : diskRight G l asked ≡ true → (asked .number ≡ 13 → ⊥) → mapRight G (rowsOf G l) (l .map) ≡ true
   unfolding diskRight
-  map-of h ne = sym (or-then _ _ (ne-eqb n 13 ne)) ∙ and-right _ _ h
+  map-of h ne = sym (or-then _ _ (ne-eqb (asked .number) 13 ne)) ∙ and-right _ _ h
 
-  map-right : ((n ≡ 13 → ⊥) → mapRight G (rowsOf G l) (l .map) ≡ true) → (eqb n 13 or mapRight G (rowsOf G l) (l .map)) ≡ true
-  map-right m = split (eq-or-ne n 13) (λ q. or-left _ _ (eq-eqb _ _ q)) (λ q. or-right _ _ (m q))
+  map-right : ((asked .number ≡ 13 → ⊥) → mapRight G (rowsOf G l) (l .map) ≡ true) → (eqb (asked .number) 13 or mapRight G (rowsOf G l) (l .map)) ≡ true
+  map-right m = split (eq-or-ne (asked .number) 13) (λ q. or-left _ _ (eq-eqb _ _ q)) (λ q. or-right _ _ (m q))
 
-  pub disk-right : consistent G (l .image) ≡ true → ((n ≡ 13 → ⊥) → mapRight G (rowsOf G l) (l .map) ≡ true) → diskRight G l n ≡ true
+  pub disk-right : consistent G (l .image) ≡ true → ((asked .number ≡ 13 → ⊥) → mapRight G (rowsOf G l) (l .map) ≡ true) → diskRight G l asked ≡ true
   unfolding diskRight
   disk-right c m = and-both _ _ c (map-right m)
 
   -- what the first three rows say where they pass
-  pub ready-of : parametersRight G l n s ≡ true → diskRight G l n ≡ true → Ready G n l s
+  pub ready-of : parametersRight G l asked s ≡ true → diskRight G l asked ≡ true → Ready G asked l s
   ready-of p d = record { fits = fits-of p; drive = drive-of p; image-right = image-of d; map-right = map-of d }
 
 -- a log-in takes any map, and no FCB
-pub login-ready : (G : Geometry) (l : Lent) (s : Session) → Fits G l s → consistent G (l .image) ≡ true → Ready G 13 l s
-unfolding usesFcb oneOf _or_
-login-ready G l s f c = record { fits = f; drive = λ u. clash (sym u); image-right = c; map-right = λ ne. absurd (ne refl) }
+pub login-ready : (G : Geometry) (argument : ℕ) (l : Lent) (s : Session) → Fits G l s → consistent G (l .image) ≡ true → Ready G (ask 13 argument) l s
+unfolding usesFcb
+login-ready G argument l s f c = record { fits = f; drive = λ u. clash (sym u); image-right = c; map-right = λ ne. absurd (ne refl) }
 
 -- ---- the tests of single calls
 module _ (G : Geometry) (l : Lent) (s : Session) where

@@ -1,12 +1,12 @@
 -- What a refusal says: which row it came from, and which codes a call can be refused with at all.
 use mathlib.Core.Path.{_≡_, refl, sym, ap, subst, _∙_}
-use mathlib.Core.Bool.{Bool, true, false, not}
+use mathlib.Core.Bool.{Bool, true, false, not, cond}
 use mathlib.Core.List.{List, [], _∷_, _++_}
-use Prim.Native.Nat.{ℕ, _<_}
+use Prim.Native.Nat.{ℕ, _<_, _+_, _*_}
 use lib.Dec.{eqb, ltb}
-use borrow.Author.Tests.{ltb-true, eqb-false, not-true, not-false}
+use borrow.Author.Tests.{ltb-true, eq-eqb, eqb-true, not-true, not-false}
 use Rattle.lists.specs.Cases.{split, bool-cases, clash, not-both}
-use Rattle.lists.specs.Tests.{_and_, _or_, and-left, and-right}
+use Rattle.lists.specs.Tests.{_and_, _or_, and-left, and-right, or-then}
 use Rattle.format.specs.Diskette.{Geometry, lastRecord}
 use Rattle.format.specs.Consistent.{consistent}
 use Rattle.format.specs.Notes.{mapRight}
@@ -15,225 +15,196 @@ use Rattle.format.specs.Found.{isFound}
 use Rattle.facts.specs.Found.{not-found}
 use Rattle.format.specs.declared.Found.{Found}
 use Rattle.format.specs.declared.Found.the-variants.{Nothing}
+use Rattle.model.specs.declared.Asked.{Asked}
 use Rattle.model.specs.declared.Session.{Session}
 use Rattle.model.specs.declared.Code.{Code}
-use Rattle.model.specs.declared.Code.the-variants.{Accepted, NotListed, BadParameter, BadDisk, BadRecord, NotCurrent, Failed, BadName, SearchOver, ReadOnly, Exists, NotClosed, NoExtent, NoRecord, NoEntry, DiskFull}
+use Rattle.model.specs.declared.Code.the-variants.{NotListed, BadParameter, BadDisk, BadRecord, NotClosed}
 use Rattle.model.specs.declared.Verdict.the-variants.{Refused}
+use Rattle.model.specs.Codes.{saysOf, hOf}
+use Rattle.model.specs.Kinds.{oneOf, isCall}
 use Rattle.model.specs.Lent.{Lent, rowsOf, searchOn}
 use Rattle.model.specs.Search.{patternOf, findHit}
-use Rattle.model.specs.Table.{oneOf, recordCalls, writeCalls, randomCalls, isCall, parametersRight, diskRight, Row, when, verdict}
-use Rattle.table.specs.First.{_&_, NoneHolds, Decides, here, later, refused-same, refused-decides, decides-refused}
-use Rattle.table.specs.Own.{Call, call13, call15, call16, call17, call18, call19, call20, call21, call22, call23, call32, call33, call34, call35, call36, call46, call98, at-one, call-of, ownRows, rowsFor, verdict-rows, verdict-unlisted}
+use Rattle.model.specs.Table.{parametersRight, diskRight, Row, RowFor, when, keep, rowsAt, callRows, firstRow, ownRows, verdict}
+use Rattle.table.specs.First.{_&_, NoneHolds, Decides, here, later, passed-refused, refused-same, refused-decides, decides-refused}
+use Rattle.table.specs.Own.{ask, at-one, rowsFor, verdict-rows, verdict-unlisted}
 use Rattle.table.specs.Facts.{Ready}
 use Rattle.table.specs.Reflect.{parameters-right, disk-right, ready-of}
 
--- ---- codes of a list of rows
--- the test passes at every row's code
-unfoldable pub allCodes : (Code → Bool) → List Row → Bool
-allCodes t [] = true
-allCodes t (r ∷ rs) = t (r .code) and allCodes t rs
+-- two tests as one that computes
+both : (a b : Bool) → cond a b false ≡ true → (a ≡ true) × (b ≡ true)
+both true b h = (refl, h)
+both false b h = clash (sym h)
 
-pub decided-passes : (t : Code → Bool) (c : Code) (rs : List Row) → allCodes t rs ≡ true → Decides c rs → t c ≡ true
-unfolding allCodes
-decided-passes t c rs h (here {r = r} {rs = ts} y q) = subst (λ (x : Code). t x ≡ true) q (and-left _ _ h)
-decided-passes t c rs h (later {r = r} {rs = ts} f d) = decided-passes t c ts (and-right _ _ h) d
+-- ---- a test of calls and code that passes at every row passes at the row that decides
+abbrev pub allRows : (List ℕ → Code → Bool) → List RowFor → Bool
+allRows t [] = true
+allRows t (r ∷ rs) = cond (t (r .calls) (r .row .code)) (allRows t rs) false
 
--- a number for each code, by which the checker tells codes apart
-unfoldable codeNumber : Code → ℕ
-codeNumber (Accepted k) = 0
-codeNumber NotListed = 1
-codeNumber BadParameter = 2
-codeNumber BadDisk = 3
-codeNumber BadRecord = 4
-codeNumber NotCurrent = 5
-codeNumber Failed = 6
-codeNumber BadName = 7
-codeNumber SearchOver = 8
-codeNumber ReadOnly = 9
-codeNumber Exists = 10
-codeNumber NotClosed = 11
-codeNumber NoExtent = 12
-codeNumber NoRecord = 13
-codeNumber NoEntry = 14
-codeNumber DiskFull = 15
+pub record RowOf (t : List ℕ → Code → Bool) (n : ℕ) (c : Code) : Type 0 where
+  pub calls : List ℕ
+  pub applies : oneOf n calls ≡ true
+  pub passes : t calls c ≡ true
+
+kept : (t : List ℕ → Code → Bool) (n : ℕ) (c : Code) (r : RowFor) (rows : List Row) (b : Bool) → b ≡ oneOf n (r .calls)
+    → t (r .calls) (r .row .code) ≡ true → (Decides c rows → RowOf t n c) → Decides c (keep b (r .row) rows) → RowOf t n c
+kept t n c r rows true q p rest (here y e) =
+    record { calls = r .calls; applies = sym q; passes = subst (λ (x : Code). t (r .calls) x ≡ true) e p }
+kept t n c r rows true q p rest (later f d) = rest d
+kept t n c r rows false q p rest d = rest d
+
+pub row-of : (t : List ℕ → Code → Bool) (n : ℕ) (c : Code) (rs : List RowFor) → allRows t rs ≡ true → Decides c (rowsAt n rs) → RowOf t n c
+unfolding firstRow
+row-of t n c [] h d = passed-refused c (decides-refused c [] d)
+row-of t n c (r ∷ rs) h d = kept t n c r (rowsAt n rs) (oneOf n (r .calls)) refl (both (t (r .calls) (r .row .code)) (allRows t rs) h .0) (row-of t n c rs (both (t (r .calls) (r .row .code)) (allRows t rs) h .1)) d
+
+-- ---- codes told apart by what they say
+unfoldable key : Code → ℕ
+key c = saysOf c .a + 256 * (saysOf c .h) + cond (saysOf c .over) 65536 0
 
 abbrev isCode : Code → Code → Bool
-isCode c d = eqb (codeNumber c) (codeNumber d)
+isCode c d = eqb (key c) (key d)
 
-other-code : {A : Type 0} (c d : Code) → isCode c d ≡ false → c ≡ d → A
-other-code c d h q = absurd (eqb-false (codeNumber c) (codeNumber d) h (ap codeNumber q))
+is-self : (c : Code) → isCode c c ≡ true
+is-self c = eq-eqb (key c) (key c) refl
 
--- a code that no row has decides nothing
-abbrev Absent : Code → List Row → Type 0
-Absent c [] = Unit {0}
-Absent c (r ∷ rs) = (isCode (r .code) c ≡ false) × Absent c rs
+-- rows whose codes fail a test decide no code that passes it
+abbrev Absent : (Code → Bool) → List Row → Type 0
+Absent t [] = Unit {0}
+Absent t (r ∷ rs) = (t (r .code) ≡ false) × Absent t rs
 
-absent : {A : Type 0} (c : Code) (rs : List Row) → Decides c rs → Absent c rs → A
-absent c rs (here {r = r} t q) h = other-code (r .code) c (h .0) q
-absent c rs (later {rs = ts} f d) h = absent c ts d (h .1)
+module _ (t : Code → Bool) (c : Code) (h : t c ≡ true) where
+  other : {A : Type 0} (d : Code) → t d ≡ false → d ≡ c → A
+  other d f q = not-both (t c) h (subst (λ (x : Code). t x ≡ false) q f)
 
--- so a row that alone has it holds, where it is decided
-only-row : (test : Bool) (c : Code) (rs : List Row) → Decides c (when test c ∷ rs) → Absent c rs → test ≡ true
-only-row test c rs (here t q) a = t
-only-row test c rs (later f d) a = absent c rs d a
+  absent : {A : Type 0} (rs : List Row) → Decides c rs → Absent t rs → A
+  absent rs (here {r = r} y q) a = other (r .code) (a .0) q
+  absent rs (later {rs = ts} f d) a = absent ts d (a .1)
 
--- and rows in front, of other codes, have failed
-record Behind (c : Code) (front rs : List Row) : Type 0 where
-  failed : NoneHolds front
-  rest : Decides c rs
+  -- so a row that alone has it holds, where it is decided
+  only-row : (test : Bool) (code : Code) (rs : List Row) → Decides c (when test code ∷ rs) → Absent t rs → test ≡ true
+  only-row test code rs (here y q) a = y
+  only-row test code rs (later f d) a = absent rs d a
 
-behind : (c : Code) (front rs : List Row) → Absent c front → Decides c (front ++ rs) → Behind c front rs
-behind c [] rs a d = record { failed = tt; rest = d }
-behind c (r ∷ front) rs a (here h q) = other-code (r .code) c (a .0) q
-behind c (r ∷ front) rs a (later f d) =
-    let b = behind c front rs (a .1) d in
-    record { failed = f & b .failed; rest = b .rest }
+  -- and rows in front, of other codes, have failed
+  record Behind (front rs : List Row) : Type 0 where
+    failed : NoneHolds front
+    rest : Decides c rs
 
--- ---- the rows of document 01's table that name a call, by their codes; the first three name every call
-unfoldable pub gives : ℕ → Code → Bool
-gives n (Accepted k) = false
-gives n NotListed = false
-gives n BadParameter = false
-gives n BadDisk = false
-gives n BadRecord = oneOf n randomCalls
-gives n NotCurrent = oneOf n recordCalls
-gives n Failed = oneOf n (15 ∷ 16 ∷ 18 ∷ 19 ∷ 22 ∷ 23 ∷ 32 ∷ 35 ∷ 36 ∷ [])
-gives n BadName = oneOf n (15 ∷ 17 ∷ 19 ∷ 22 ∷ 23 ∷ 35 ∷ [])
-gives n SearchOver = oneOf n (17 ∷ 18 ∷ [])
-gives n ReadOnly = oneOf n (19 ∷ 21 ∷ 23 ∷ 34 ∷ [])
-gives n Exists = oneOf n (22 ∷ 23 ∷ [])
-gives n NotClosed = oneOf n recordCalls
-gives n NoExtent = oneOf n (33 ∷ [])
-gives n NoRecord = oneOf n (20 ∷ 21 ∷ 33 ∷ [])
-gives n NoEntry = oneOf n (34 ∷ [])
-gives n DiskFull = oneOf n writeCalls
+  behind : (front rs : List Row) → Absent t front → Decides c (front ++ rs) → Behind front rs
+  behind [] rs a d = record { failed = tt; rest = d }
+  behind (r ∷ front) rs a (here y q) = other (r .code) (a .0) q
+  behind (r ∷ front) rs a (later f d) =
+      let b = behind front rs (a .1) d in
+      record { failed = f & b .failed; rest = b .rest }
 
 -- a search has found nothing: 17 from the first entry on, or 18, with a search on, from its place on
 pub data SearchEnds (G : Geometry) (l : Lent) (s : Session) : ℕ → Type 0 where
   ends17 : findHit G (rowsOf G l) (s .user) (patternOf (l .fcb)) 0 ≡ Nothing → SearchEnds G l s 17
   ends18 : searchOn s ≡ true → findHit G (rowsOf G l) (s .user) (s .pattern) (s .place) ≡ Nothing → SearchEnds G l s 18
 
-module _ (G : Geometry) (argument : ℕ) (l : Lent) (s : Session) where
-  all-given : {n : ℕ} (c : Call n) → allCodes (gives n) (ownRows G argument l s c) ≡ true
-  unfolding allCodes gives oneOf _and_ _or_
-  all-given call13 = refl
-  all-given call15 = refl
-  all-given call16 = refl
-  all-given call17 = refl
-  all-given call18 = refl
-  all-given call19 = refl
-  all-given call20 = refl
-  all-given call21 = refl
-  all-given call22 = refl
-  all-given call23 = refl
-  all-given call32 = refl
-  all-given call33 = refl
-  all-given call34 = refl
-  all-given call35 = refl
-  all-given call36 = refl
-  all-given call46 = refl
-  all-given call98 = refl
+-- every number of the one list is in the other
+abbrev within : List ℕ → List ℕ → Bool
+within [] ds = true
+within (c ∷ cs) ds = cond (oneOf c ds) (within cs ds) false
 
-  -- where a refusal comes from: one of the first three rows, or a row of the call's own, with a code that document 01 gives for the call
-  pub data Refuses (n : ℕ) (code : Code) : Type 0 where
-    unlisted : code ≡ NotListed → isCall n ≡ false → Refuses n code
-    parameter : code ≡ BadParameter → Call n → parametersRight G l n s ≡ false → Refuses n code
-    disk : code ≡ BadDisk → Call n → diskRight G l n ≡ false → Refuses n code
-    own : (c : Call n) → gives n code ≡ true → Ready G n l s → Decides code (ownRows G argument l s c) → Refuses n code
+within-one : (n : ℕ) (cs ds : List ℕ) → within cs ds ≡ true → oneOf n cs ≡ true → oneOf n ds ≡ true
+within-one n [] ds w h = clash (sym h)
+within-one n (c ∷ cs) ds w h =
+    split (bool-cases (eqb n c)) (λ e. rw (eqb-true n c e) (both (oneOf c ds) (within cs ds) w .0)) (λ e. within-one n cs ds (both (oneOf c ds) (within cs ds) w .1) (rw e at h))
 
-  -- a code of a call's own rows is one that document 01 gives for the call
-  pub own-given : (code : Code) {n : ℕ} (c : Call n) → Decides code (ownRows G argument l s c) → gives n code ≡ true
-  own-given code {n} c d = decided-passes (gives n) code (ownRows G argument l s c) (all-given c) d
+module _ (G : Geometry) (asked : Asked) (l : Lent) (s : Session) where
+  -- where a refusal comes from: one of the first three rows, or a row of the call's own
+  pub data Refuses (code : Code) : Type 0 where
+    unlisted : code ≡ NotListed → isCall (asked .number) ≡ false → Refuses code
+    parameter : code ≡ BadParameter → parametersRight G l asked s ≡ false → Refuses code
+    disk : code ≡ BadDisk → diskRight G l asked ≡ false → Refuses code
+    own : Ready G asked l s → Decides code (ownRows G asked l s) → Refuses code
 
-  refuses-call : (code : Code) {n : ℕ} (c : Call n) → Decides code (rowsFor G argument l s c) → Refuses n code
-  refuses-call code c (here t q) = parameter (sym q) c (not-true _ t)
-  refuses-call code c (later f (here t q)) = disk (sym q) c (not-true _ t)
-  refuses-call code {n} c (later f (later g d)) = own c (own-given code c d) (ready-of G n l s (not-false _ f) (not-false _ g)) d
+  refuses-call : (code : Code) → Decides code (rowsFor G asked l s) → Refuses code
+  refuses-call code (here t q) = parameter (sym q) (not-true _ t)
+  refuses-call code (later f (here t q)) = disk (sym q) (not-true _ t)
+  refuses-call code (later f (later g d)) = own (ready-of G asked l s (not-false _ f) (not-false _ g)) d
 
-  pub refuses : (n : ℕ) (code : Code) → verdict G n argument l s ≡ Refused code → Refuses n code
-  refuses n code q =
-      split (bool-cases (isCall n))
-      (λ t. let c = call-of n t in
-      refuses-call code c (refused-decides code (rowsFor G argument l s c) (sym (verdict-rows G argument l s c) ∙ q)))
-      (λ f. unlisted (refused-same code NotListed (sym q ∙ verdict-unlisted G argument l s n f)) f)
+  pub refuses : (code : Code) → verdict G asked l s ≡ Refused code → Refuses code
+  refuses code q =
+      split (bool-cases (isCall (asked .number)))
+      (λ t. refuses-call code (refused-decides code (rowsFor G asked l s) (sym (verdict-rows G asked l s t) ∙ q)))
+      (λ f. unlisted (refused-same code NotListed (sym q ∙ verdict-unlisted G asked l s f)) f)
 
-  -- a code that neither of the first two rows has comes from the call's own
-  own-decides : (code : Code) {n : ℕ} (c : Call n) → isCode BadParameter code ≡ false → isCode BadDisk code ≡ false
-      → verdict G n argument l s ≡ Refused code → Decides code (ownRows G argument l s c)
-  own-decides code {n} c p d q =
-      behind code (when (not (parametersRight G l n s)) BadParameter ∷ when (not (diskRight G l n)) BadDisk ∷ []) (ownRows G argument l s c)
-      (p & d & tt) (refused-decides code (rowsFor G argument l s c) (sym (verdict-rows G argument l s c) ∙ q)) .rest
+  -- a code that none of the first three rows has comes from the call's own
+  pub own-decides : (t : Code → Bool) (code : Code) → t code ≡ true → t NotListed ≡ false → t BadParameter ≡ false → t BadDisk ≡ false
+      → Refuses code → Decides code (ownRows G asked l s)
+  own-decides t code h u p d (unlisted e f) = other t code h NotListed u (sym e)
+  own-decides t code h u p d (parameter e f) = other t code h BadParameter p (sym e)
+  own-decides t code h u p d (disk e f) = other t code h BadDisk d (sym e)
+  own-decides t code h u p d (own r w) = w
 
-  -- the number of a call that is refused with a code of its own rows is among those that the document gives for the code
-  refused-given : (n : ℕ) (code : Code) → isCode NotListed code ≡ false → isCode BadParameter code ≡ false → isCode BadDisk code ≡ false
-      → verdict G n argument l s ≡ Refused code → gives n code ≡ true
-  refused-given n code u p d q = go (refuses n code q)
-    where
-      go : Refuses n code → gives n code ≡ true
-      go (unlisted e f) = other-code NotListed code u (sym e)
-      go (parameter e c f) = other-code BadParameter code p (sym e)
-      go (disk e c f) = other-code BadDisk code d (sym e)
-      go (own c g r w) = g
+  -- the codes that pass a test are of these calls alone, where the table says so
+  pub code-calls : (t : Code → Bool) (ds : List ℕ) (code : Code) → t code ≡ true
+      → allRows (λ (cs : List ℕ) (d : Code). cond (t d) (within cs ds) true) (callRows G asked l s) ≡ true
+      → Decides code (ownRows G asked l s) → oneOf (asked .number) ds ≡ true
+  code-calls t ds code h all d =
+      let r = row-of (λ (cs : List ℕ) (c : Code). cond (t c) (within cs ds) true) (asked .number) code (callRows G asked l s) all d in
+      within-one (asked .number) (r .calls) ds (rw h at (r .passes)) (r .applies)
 
   -- ---- a consistent image with a right map is never refused for the disk
-  bad-disk : (n : ℕ) → Refuses n BadDisk → diskRight G l n ≡ false
-  unfolding gives codeNumber
-  bad-disk n (unlisted e f) = other-code BadDisk NotListed refl e
-  bad-disk n (parameter e c f) = other-code BadDisk BadParameter refl e
-  bad-disk n (disk e c f) = f
-  bad-disk n (own c g r d) = clash (sym g)
+  bad-disk : (code : Code) → eqb (hOf code) 1 ≡ true → Refuses code → diskRight G l asked ≡ false
+  bad-disk code h (unlisted e f) = other (λ (c : Code). eqb (hOf c) 1) code h NotListed refl (sym e)
+  bad-disk code h (parameter e f) = other (λ (c : Code). eqb (hOf c) 1) code h BadParameter refl (sym e)
+  bad-disk code h (disk e f) = f
+  bad-disk code h (own r d) =
+      not-both (eqb (hOf code) 1) h
+      (not-true _ (row-of (λ (cs : List ℕ) (c : Code). not (eqb (hOf c) 1)) (asked .number) code (callRows G asked l s) refl d .passes))
 
-  pub never-bad-disk : (n : ℕ) → consistent G (l .image) ≡ true → mapRight G (rowsOf G l) (l .map) ≡ true
-      → verdict G n argument l s ≡ Refused BadDisk → ⊥
-  never-bad-disk n right map q = not-both (diskRight G l n) (disk-right G n l s right (λ z. map)) (bad-disk n (refuses n BadDisk q))
+  pub never-bad-disk : (code : Code) → hOf code ≡ 1 → consistent G (l .image) ≡ true → mapRight G (rowsOf G l) (l .map) ≡ true
+      → verdict G asked l s ≡ Refused code → ⊥
+  never-bad-disk code h right map q =
+      not-both (diskRight G l asked) (disk-right G asked l s right (λ z. map)) (bad-disk code (eq-eqb _ _ h) (refuses code q))
 
-  -- ---- code 3 never comes out: its row asks for an FCB that is not current, and stands behind the row for that
-  no-three : (X Y : Bool) (front rs : List Row) → Absent NotClosed front → Absent NotClosed rs → (NoneHolds front → X ≡ false)
-      → Decides NotClosed (front ++ (when (Y and X) NotClosed ∷ rs)) → ⊥
-  no-three X Y front rs a b current d =
-      let p = behind NotClosed front (when (Y and X) NotClosed ∷ rs) a d in
-      not-both X (and-right Y X (only-row (Y and X) NotClosed rs (p .rest) b)) (current (p .failed))
+-- ---- code 3 never comes out: its row asks for an FCB that is not current, and stands behind the row for that
+no-three : (X Y : Bool) (front rs : List Row) → Absent (isCode NotClosed) front → Absent (isCode NotClosed) rs → (NoneHolds front → X ≡ false)
+    → Decides NotClosed (front ++ (when (Y and X) NotClosed ∷ rs)) → ⊥
+no-three X Y front rs a b current d =
+    let p = behind (isCode NotClosed) NotClosed (is-self NotClosed) front (when (Y and X) NotClosed ∷ rs) a d in
+    not-both X (and-right Y X (only-row (isCode NotClosed) NotClosed (is-self NotClosed) (Y and X) NotClosed rs (p .rest) b)) (current (p .failed))
 
-  pub never-not-closed : (n : ℕ) → verdict G n argument l s ≡ Refused NotClosed → ⊥
-  unfolding gives codeNumber
-  never-not-closed n q =
-      at-one (λ (n : ℕ). verdict G n argument l s ≡ Refused NotClosed → ⊥) n recordCalls (refused-given n NotClosed refl refl refl q)
-      ((λ v. no-three _ _ (_ ∷ []) _ (refl & tt) (refl & tt) (λ h. h .0) (own-decides NotClosed call20 refl refl v))
-      & (λ v. no-three _ _ (_ ∷ _ ∷ []) _ (refl & refl & tt) (refl & refl & refl & tt) (λ h. h .0) (own-decides NotClosed call21 refl refl v))
-      & (λ v. no-three _ _ (_ ∷ _ ∷ []) _ (refl & refl & tt) (refl & refl & tt) (λ h. h .1 .0) (own-decides NotClosed call33 refl refl v))
-      & (λ v. no-three _ _ (_ ∷ _ ∷ _ ∷ []) _ (refl & refl & refl & tt) (refl & refl & tt) (λ h. h .1 .0) (own-decides NotClosed call34 refl refl v))
-      & tt) q
+module _ (G : Geometry) (asked : Asked) (l : Lent) (s : Session) where
+  pub never-not-closed : verdict G asked l s ≡ Refused NotClosed → ⊥
+  unfolding key
+  never-not-closed q =
+      let d = own-decides G asked l s (isCode NotClosed) NotClosed refl refl refl refl (refuses G asked l s NotClosed q) in
+      at-one (λ (n : ℕ). Decides NotClosed (ownRows G (ask n (asked .argument)) l s) → ⊥) (asked .number) (20 ∷ 21 ∷ 33 ∷ 34 ∷ [])
+      (code-calls G asked l s (isCode NotClosed) (20 ∷ 21 ∷ 33 ∷ 34 ∷ []) NotClosed refl refl d)
+      ((λ v. no-three _ _ (_ ∷ []) _ (refl & tt) (refl & tt) (λ h. h .0) v)
+      & (λ v. no-three _ _ (_ ∷ _ ∷ []) _ (refl & refl & tt) (refl & refl & refl & tt) (λ h. h .0) v)
+      & (λ v. no-three _ _ (_ ∷ _ ∷ []) _ (refl & refl & tt) (refl & refl & tt) (λ h. h .1 .0) v)
+      & (λ v. no-three _ _ (_ ∷ _ ∷ _ ∷ []) _ (refl & refl & refl & tt) (refl & refl & tt) (λ h. h .1 .0) v) & tt) d
 
   -- ---- code 6 comes out only where the random record is over 262,143
-  pub random-over : (n : ℕ) → verdict G n argument l s ≡ Refused BadRecord → lastRecord < randomOf (l .fcb)
-  unfolding gives codeNumber
-  random-over n q =
-      ltb-true _ _ (at-one (λ (n : ℕ). verdict G n argument l s ≡ Refused BadRecord → ltb lastRecord (randomOf (l .fcb)) ≡ true) n randomCalls
-      (refused-given n BadRecord refl refl refl q)
-      ((λ v. only-row _ BadRecord _ (own-decides BadRecord call33 refl refl v) (refl & refl & refl & refl & tt))
-      & (λ v. only-row _ BadRecord _ (own-decides BadRecord call34 refl refl v) (refl & refl & refl & refl & refl & tt)) & tt) q)
+  pub random-over : verdict G asked l s ≡ Refused BadRecord → lastRecord < randomOf (l .fcb)
+  unfolding key
+  random-over q =
+      let d = own-decides G asked l s (isCode BadRecord) BadRecord refl refl refl refl (refuses G asked l s BadRecord q) in
+      ltb-true _ _ (at-one (λ (n : ℕ). Decides BadRecord (ownRows G (ask n (asked .argument)) l s) → ltb lastRecord (randomOf (l .fcb)) ≡ true) (asked .number) (33 ∷ 34 ∷ [])
+      (code-calls G asked l s (isCode BadRecord) (33 ∷ 34 ∷ []) BadRecord refl refl d)
+      ((λ v. only-row (isCode BadRecord) BadRecord refl _ BadRecord _ v (refl & refl & refl & refl & tt))
+      & (λ v. only-row (isCode BadRecord) BadRecord refl _ BadRecord _ v (refl & refl & refl & refl & refl & tt)) & tt) d)
 
   -- ---- a search ends exactly where it has found nothing
-  last-row : (r : Found) (code : Code) → Decides code (when (not (isFound r)) code ∷ []) → r ≡ Nothing
-  last-row r code d = not-found r (not-true _ (only-row _ code [] d tt))
-
-  over-17 : Decides SearchOver (ownRows G argument l s call17) → SearchEnds G l s 17
-  unfolding codeNumber
-  over-17 d = ends17 (last-row _ SearchOver (behind SearchOver (_ ∷ _ ∷ []) _ (refl & refl & tt) d .rest))
-
-  over-18 : Decides SearchOver (ownRows G argument l s call18) → SearchEnds G l s 18
-  unfolding codeNumber
-  over-18 d = let p = behind SearchOver (_ ∷ []) _ (refl & tt) d in ends18 (not-false _ (p .failed .0)) (last-row _ SearchOver (p .rest))
-
-  pub search-over : (n : ℕ) → verdict G n argument l s ≡ Refused SearchOver → SearchEnds G l s n
-  unfolding gives codeNumber
-  search-over n q =
-      at-one (λ (n : ℕ). verdict G n argument l s ≡ Refused SearchOver → SearchEnds G l s n) n (17 ∷ 18 ∷ []) (refused-given n SearchOver refl refl refl q)
-      (λ v. over-17 (own-decides SearchOver call17 refl refl v), (λ v. over-18 (own-decides SearchOver call18 refl refl v), tt)) q
+  pub search-over : (code : Code) → saysOf code .over ≡ true → Refuses G asked l s code → SearchEnds G l s (asked .number)
+  search-over code h q =
+      let d = own-decides G asked l s (λ (c : Code). saysOf c .over) code h refl refl refl q in
+      at-one (λ (n : ℕ). Decides code (ownRows G (ask n (asked .argument)) l s) → SearchEnds G l s n) (asked .number) (17 ∷ 18 ∷ [])
+      (code-calls G asked l s (λ (c : Code). saysOf c .over) (17 ∷ 18 ∷ []) code h refl d)
+      ((λ v. ends17 (last-row _ _ (behind (λ (c : Code). saysOf c .over) code h (_ ∷ _ ∷ []) _ (refl & refl & tt) v .rest)))
+      & (λ v. let p = behind (λ (c : Code). saysOf c .over) code h (_ ∷ []) _ (refl & tt) v in ends18 (not-false _ (p .failed .0)) (last-row _ _ (p .rest))) & tt) d
+    where
+      last-row : (r : Found) (c : Code) → Decides code (when (not (isFound r)) c ∷ []) → r ≡ Nothing
+      last-row r c v = not-found r (not-true _ (only-row (λ (x : Code). saysOf x .over) code h _ c [] v tt))
 
   -- a row of the call's own decides, once the first three have failed
-  pub refused-own : {n : ℕ} (c : Call n) (code : Code) → Ready G n l s → Decides code (ownRows G argument l s c) → verdict G n argument l s ≡ Refused code
-  refused-own {n} c code r d =
-      verdict-rows G argument l s c
-      ∙ decides-refused code (rowsFor G argument l s c)
-      (later (ap not (parameters-right G n l s (r .fits) (r .drive))) (later (ap not (disk-right G n l s (r .image-right) (r .map-right))) d))
+  pub refused-own : (code : Code) → isCall (asked .number) ≡ true → Ready G asked l s → Decides code (ownRows G asked l s) → verdict G asked l s ≡ Refused code
+  refused-own code t r d =
+      verdict-rows G asked l s t
+      ∙ decides-refused code (rowsFor G asked l s)
+      (later (ap not (parameters-right G asked l s (r .fits) (r .drive))) (later (ap not (disk-right G asked l s (r .image-right) (r .map-right))) d))

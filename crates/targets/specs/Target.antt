@@ -10,7 +10,8 @@ use Rattle.model.specs.declared.Code.{Code}
 use Rattle.model.specs.declared.Code.the-variants.{NoRecord}
 use Rattle.model.specs.declared.Plan.{Plan}
 use Rattle.model.specs.declared.Plan.the-variants.{Stay, Move}
-use Rattle.model.specs.Target.{isRandom, targetExtent, targetRecord, crAfter}
+use Rattle.model.specs.Kinds.{isRandom}
+use Rattle.model.specs.Target.{targetExtent, targetRecord, crAfter}
 use Rattle.targets.specs.declared.Target.{Target}
 
 -- t is the target of call n, with cr afterwards

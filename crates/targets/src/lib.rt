@@ -5,7 +5,7 @@ ghost use lib.ListN.{length};
 ghost use Rattle.format.specs.Diskette.{eightInch, imageBytes, slotCount};
 ghost use Rattle.format.specs.Entries.{entryAt, extentOf, findFile};
 ghost use Rattle.format.specs.Fcb.{fcbBytes, randomOf};
-ghost use Rattle.model.specs.Target.{isRandom};
+ghost use Rattle.model.specs.Kinds.{isRandom};
 ghost use Rattle.chains.specs.Chain.{Indexed};
 ghost use Rattle.targets.specs.Target.{TargetOf, overLast, missingCode, arrivedSlot, arrivedCount, goTo};
 use format::Found;

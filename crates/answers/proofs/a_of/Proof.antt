@@ -7,7 +7,7 @@ use denote.Enum.Declared.{tagOf}
 use Rattle.model.proofs.Code as code
 use Rattle.model.specs.declared.Code.{Code}
 use Rattle.model.specs.declared.Code.the-variants.{Accepted, NotListed, BadParameter, BadDisk, BadRecord, NotCurrent, Failed, BadName, SearchOver, ReadOnly, Exists, NotClosed, NoExtent, NoRecord, NoEntry, DiskFull}
-use Rattle.model.specs.Codes.{aOf}
+use Rattle.model.specs.Codes.{saysOf, aOf}
 use borrow.Author.Needs.{needs}
 use Rattle.answers.proofs.a_of.Statement.{statement}
 use Rattle.answers.proofs.a_of.Tie as tie
@@ -37,42 +37,34 @@ enum-told-7 : tie.Need-enum-told-7
 enum-told-7 c = search needs
 
 returns : tie.Need-returns
-unfolding aOf
 returns c = rw (c .before .code .given .1)
 
 returns-2 : tie.Need-returns-2
-unfolding aOf
 returns-2 c = rw (c .enum-told .given .1)
 
 returns-3 : tie.Need-returns-3
-unfolding aOf
 returns-3 c = rw (c .enum-told2 .given .1)
 
 returns-4 : tie.Need-returns-4
-unfolding aOf
 returns-4 c = rw (c .enum-told3 .given .1)
 
 returns-5 : tie.Need-returns-5
-unfolding aOf
 returns-5 c = rw (c .enum-told4 .given .1)
 
 returns-6 : tie.Need-returns-6
-unfolding aOf
 returns-6 c = rw (c .enum-told5 .given .1)
 
 returns-7 : tie.Need-returns-7
-unfolding aOf
 returns-7 c = rw (c .enum-told6 .given .1)
 
 returns-8 : tie.Need-returns-8
-unfolding aOf
 returns-8 c = rw (c .enum-told7 .given .1)
 
 others : List ℕ
 others = 1 ∷ 2 ∷ 3 ∷ 6 ∷ 7 ∷ 8 ∷ 9 ∷ 10 ∷ []
 
 rest : (k : Code) → OneOf others (tagOf code.the-type k) → 255 ≡ aOf k
-unfolding others aOf
+unfolding others
 rest (Accepted n) h = absurd (miss others 0 tt h)
 rest NotListed h = refl
 rest BadParameter h = refl

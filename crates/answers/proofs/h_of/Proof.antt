@@ -7,7 +7,7 @@ use denote.Enum.Declared.{tagOf}
 use Rattle.model.proofs.Code as code
 use Rattle.model.specs.declared.Code.{Code}
 use Rattle.model.specs.declared.Code.the-variants.{Accepted, NotListed, BadParameter, BadDisk, BadRecord, NotCurrent, Failed, BadName, SearchOver, ReadOnly, Exists, NotClosed, NoExtent, NoRecord, NoEntry, DiskFull}
-use Rattle.model.specs.Codes.{hOf}
+use Rattle.model.specs.Codes.{saysOf, hOf}
 use borrow.Author.Needs.{needs}
 use Rattle.answers.proofs.h_of.Statement.{statement}
 use Rattle.answers.proofs.h_of.Tie as tie
@@ -31,34 +31,28 @@ enum-told-6 : tie.Need-enum-told-6
 enum-told-6 c = search needs
 
 returns : tie.Need-returns
-unfolding hOf
 returns c = rw (c .enum-told .given .1)
 
 returns-2 : tie.Need-returns-2
-unfolding hOf
 returns-2 c = rw (c .enum-told2 .given .1)
 
 returns-3 : tie.Need-returns-3
-unfolding hOf
 returns-3 c = rw (c .enum-told3 .given .1)
 
 returns-4 : tie.Need-returns-4
-unfolding hOf
 returns-4 c = rw (c .enum-told4 .given .1)
 
 returns-5 : tie.Need-returns-5
-unfolding hOf
 returns-5 c = rw (c .enum-told5 .given .1)
 
 returns-6 : tie.Need-returns-6
-unfolding hOf
 returns-6 c = rw (c .enum-told6 .given .1)
 
 others : List ℕ
 others = 0 ∷ 4 ∷ 5 ∷ 6 ∷ 8 ∷ 11 ∷ 12 ∷ 13 ∷ 14 ∷ 15 ∷ []
 
 rest : (k : Code) → OneOf others (tagOf code.the-type k) → 0 ≡ hOf k
-unfolding others hOf
+unfolding others
 rest (Accepted n) h = refl
 rest NotListed h = absurd (miss others 1 tt h)
 rest BadParameter h = absurd (miss others 2 tt h)

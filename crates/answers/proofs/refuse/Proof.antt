@@ -9,6 +9,7 @@ use Rattle.model.specs.declared.Session.{Session}
 use Rattle.model.specs.declared.Code.{Code}
 use Rattle.model.specs.declared.Code.the-variants.{Accepted, NotListed, BadParameter, BadDisk, BadRecord, NotCurrent, Failed, BadName, SearchOver, ReadOnly, Exists, NotClosed, NoExtent, NoRecord, NoEntry, DiskFull}
 use Rattle.model.specs.Lent.{answerOf}
+use Rattle.model.specs.Codes.{saysOf}
 use Rattle.model.specs.Step.{refusedSession}
 use borrow.Author.Needs.{needs}
 use Rattle.answers.proofs.refuse.Statement.{statement}

@@ -4,7 +4,7 @@ use borrow.Author.Needs.{needs}
 use Rattle.format.specs.Diskette.{Bytes, eightInch}
 use Rattle.model.specs.Lent.{lend}
 use Rattle.model.specs.Step.{step}
-use Rattle.table.specs.Total.{ask}
+use Rattle.table.specs.Own.{ask}
 use Rattle.assured.proofs.read_again.Statement.{statement}
 use Rattle.assured.proofs.read_again.Tie as tie
 

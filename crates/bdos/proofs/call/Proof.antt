@@ -5,13 +5,12 @@ use borrow.Author.Needs.{needs}
 use borrow.Author.Tests.{not-true, not-false}
 use Rattle.format.specs.Diskette.{eightInch}
 use Rattle.model.specs.Lent.{Lent, lend}
-use Rattle.model.specs.Table.{isCall, parametersRight}
-use Rattle.table.specs.Own.{call13, call-of}
+use Rattle.model.specs.Kinds.{isCall}
+use Rattle.model.specs.Table.{parametersRight}
 use Rattle.table.specs.Facts.{Ready}
 use Rattle.table.specs.Reflect.{fits-of, ready-of}
 use Rattle.table.specs.OwnStep.{own-at, step-own}
 use Rattle.table.specs.Early.{unlisted-step, parameter-step, disk-step}
-use Rattle.dispatch.specs.Numbers.{call-own}
 use Rattle.bdos.proofs.call.Statement.{statement}
 use Rattle.bdos.proofs.call.Tie as tie
 
@@ -25,12 +24,12 @@ called c = sym (c .before .is-call .ensures) ∙ not-false _ (c .if1 .left)
 
 parameters : (c : tie.Else2) →
     let s = c .before .before .before .before .before .before .before .before .before .before .before .before in
-    parametersRight eightInch (given s) (s .args .asked .number) (s .args .session) ≡ true
+    parametersRight eightInch (given s) (s .args .asked) (s .args .session) ≡ true
 parameters c = sym (c .before .parameters-right .ensures) ∙ not-false _ (c .if2 .left)
 
 ready : (c : tie.Else3) →
     let s = c .before .before .before .before .before .before .before .before .before .before .before .before .before .before .before .before .before .before .before .before in
-    Ready eightInch (s .args .asked .number) (given s) (s .args .session)
+    Ready eightInch (s .args .asked) (given s) (s .args .session)
 ready c =
     ready-of eightInch _ _ _ (parameters (c .before .before .before .before .before .before .before .before))
     (sym (c .before .before .before .disk-right .ensures .0 _ _) ∙ not-false _ (c .if3 .left))
@@ -116,16 +115,17 @@ same-length-12 c = search needs
 
 returns-4 : tie.Need-returns-4
 returns-4 c =
-    let k = call-of _ (called (c .before .before .before .before .before .before .before .before .before .before .before .before .before .before .before .before .before .before .before .before)) in
+    let k = called (c .before .before .before .before .before .before .before .before .before .before .before .before .before .before .before .before .before .before .before .before) in
     c .before .before .log-in .ensures _ _ _ _ (c .before .before .before .before .before .before .before .before .before .disk-right .ensures .1 (not-false _ (c .before .before .before .before .before .before .if3 .left)) .0)
-    ∙ own-at eightInch _ _ (c .before .before .before .before .before .if4 .taken) k call13 _ ∙ sym (step-own eightInch _ _ _ k refl (ready (c .before .before .before .before .before .before)))
+    ∙ own-at eightInch _ _ _ 13 (c .before .before .before .before .before .if4 .taken) ∙ sym (step-own eightInch _ _ _ k (ready (c .before .before .before .before .before .before)))
 
 slice-aggregate-own-call : tie.Need-slice-aggregate-own-call
 slice-aggregate-own-call c = search needs
 
 own-call-requires : tie.Need-own-call-requires
 own-call-requires c κs = (
-  call-own _ (called (c .before .before .before .before .before .before .before .before .before .before .before .before .before .before .before .before .before .before .before .before)) (c .before .before .before .before .before .if4 .left),
+  called (c .before .before .before .before .before .before .before .before .before .before .before .before .before .before .before .before .before .before .before .before),
+  c .before .before .before .before .before .if4 .left,
   ready (c .before .before .before .before .before .before),
   c .before .before .before .before .before .before .before .before .before .disk-right .ensures .1 (not-false _ (c .before .before .before .before .before .before .if3 .left)) .1,
 )
@@ -144,8 +144,8 @@ same-length-16 c = search needs
 
 returns-5 : tie.Need-returns-5
 returns-5 c =
-    let k = call-of _ (called (c .before .before .before .before .before .before .before .before .before .before .before .before .before .before .before .before .before .before .before .before .before .before .before .before .before .before .before .before .before)) in
-    c .before .before .before .before .before .before .before .before .own-call .ensures k ∙ sym (step-own eightInch _ _ _ k refl (ready (c .before .before .before .before .before .before .before .before .before .before .before .before .before .before .before)))
+    let k = called (c .before .before .before .before .before .before .before .before .before .before .before .before .before .before .before .before .before .before .before .before .before .before .before .before .before .before .before .before .before) in
+    c .before .before .before .before .before .before .before .before .own-call .ensures ∙ sym (step-own eightInch _ _ _ k (ready (c .before .before .before .before .before .before .before .before .before .before .before .before .before .before .before)))
 
 pub call-spec : {M : Type 1} → statement M
 call-spec =

@@ -24,8 +24,8 @@ same-length : tie.Need-same-length
 same-length c = search needs
 
 returns : tie.Need-returns
-returns c = λ map buffer.
-    open-wrong eightInch _ _ _ (sym (c .before .before .asks-right .ensures) ∙ not-true _ (c .before .if1 .taken)) (c .refuse .ensures)
+returns c = λ argument map buffer.
+    open-wrong eightInch argument _ _ _ (sym (c .before .before .asks-right .ensures) ∙ not-true _ (c .before .if1 .taken)) (c .refuse .ensures)
 
 find-asked-requires : tie.Need-find-asked-requires
 find-asked-requires c κs = search needs
@@ -43,9 +43,9 @@ same-length-2 : tie.Need-same-length-2
 same-length-2 c = search needs
 
 returns-2 : tie.Need-returns-2
-returns-2 c = λ map buffer.
+returns-2 c = λ argument map buffer.
     let u = c .before .before .before .before .before in
-    open-missed eightInch _ _ _ (sym (u .before .asks-right .ensures) ∙ not-false _ (u .if1 .left))
+    open-missed eightInch argument _ _ _ (sym (u .before .asks-right .ensures) ∙ not-false _ (u .if1 .left))
     (sym (c .before .before .before .find-asked .ensures map buffer) ∙ c .before .enum-told .given .1) (c .refuse2 .ensures)
 
 -- the entry found is the one that is asked for
@@ -73,10 +73,10 @@ same-length-3 : tie.Need-same-length-3
 same-length-3 c = search needs
 
 returns-3 : tie.Need-returns-3
-returns-3 c = λ map buffer.
+returns-3 c = λ argument map buffer.
     let k = c .before .before .before .before .before .before in
     let u = k .before .before .before .before .before in
-    open-done eightInch _ _ _ _ _ (sym (u .before .asks-right .ensures) ∙ not-false _ (u .if1 .left)) (asked k map buffer) (c .done .ensures)
+    open-done eightInch argument _ _ _ _ _ (sym (u .before .asks-right .ensures) ∙ not-false _ (u .if1 .left)) (asked k map buffer) (c .done .ensures)
     (let row = c .before .before .before .before .copy-row .ensures in
     c .before .before .before .enter .ensures ∙ rw (row, ← asked-own eightInch run-own _ _ _ (asked k map buffer)))
 

@@ -8,7 +8,7 @@ use borrow.Author.Tests.{not-true, not-false}
 use Rattle.lists.specs.Splice.{splice}
 use Rattle.model.specs.Entering.{threeBytes}
 use Rattle.model.specs.declared.Code.the-variants.{Failed}
-use Rattle.table.specs.Own.{call36}
+use Rattle.table.specs.Own.{ask}
 use Rattle.table.specs.OwnStep.{refuses-own}
 use Rattle.plain.specs.Plain.{position-refused, position-told}
 use borrow.Author.Needs.{needs}
@@ -27,7 +27,7 @@ same-length c = search needs
 returns : tie.Need-returns
 returns c =
     let a = c .before .before .before .before .before .args in
-    λ argument image map buffer. refuses-own eightInch argument (lend image map (a .fcb .now) buffer) (a .session) call36 Failed (c .refuse .result)
+    λ argument image map buffer. refuses-own eightInch (ask 36 argument) (lend image map (a .fcb .now) buffer) (a .session) Failed (c .refuse .result)
     (position-refused eightInch argument (lend image map (a .fcb .now) buffer) (a .session)
     (sym (c .before .before .position-right .ensures) ∙ not-true _ (c .before .if1 .taken)))
     (c .refuse .ensures)

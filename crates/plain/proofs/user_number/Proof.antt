@@ -2,7 +2,7 @@
 use Rattle.format.specs.Diskette.{eightInch}
 use Rattle.model.specs.Lent.{lend}
 use Rattle.model.specs.declared.Code.the-variants.{Failed}
-use Rattle.table.specs.Own.{call32}
+use Rattle.table.specs.Own.{ask}
 use Rattle.table.specs.OwnStep.{refuses-own}
 use Rattle.plain.specs.Plain.{user-told, user-refused, user-set}
 use native.Mathlib.Omega.{arith}
@@ -25,7 +25,7 @@ refuse-requires c κs = search needs
 returns-2 : tie.Need-returns-2
 returns-2 c =
     let a = c .before .before .before .args in
-    λ image map fcb buffer. refuses-own eightInch (a .argument) (lend image map fcb buffer) (a .session) call32 Failed (c .refuse .result)
+    λ image map fcb buffer. refuses-own eightInch (ask 32 (a .argument)) (lend image map fcb buffer) (a .session) Failed (c .refuse .result)
     (user-refused eightInch (a .argument) (lend image map fcb buffer) (a .session) (c .before .before .if1 .left) (omega arith))
     (c .refuse .ensures)
 

@@ -5,7 +5,7 @@ use Rattle.format.specs.Diskette.{Bytes, eightInch}
 use Rattle.model.specs.declared.Code.the-variants.{BadName}
 use Rattle.model.specs.Lent.{Lent, lend}
 use Rattle.model.specs.Search.{patternOf}
-use Rattle.table.specs.Own.{call17}
+use Rattle.table.specs.Own.{ask}
 use Rattle.table.specs.OwnStep.{refuses-own}
 use Rattle.searching.specs.Searches.{first-refused, first-searched}
 use borrow.Author.Needs.{needs}
@@ -22,7 +22,7 @@ returns : tie.Need-returns
 returns c =
     let a = c .before .before .before .before .before .before .args in
     let l : Bytes → Lent = λ map. lend (a .image .now) map (a .fcb .now) (a .buffer .now) in
-    λ argument map. refuses-own eightInch argument (l map) (a .session) call17 BadName (c .refuse .result)
+    λ argument map. refuses-own eightInch (ask 17 argument) (l map) (a .session) BadName (c .refuse .result)
     (first-refused eightInch (a .session) (l map) argument (sym (c .before .before .pattern-right .ensures) ∙ not-true _ (c .before .if1 .taken)))
     (c .refuse .ensures)
 

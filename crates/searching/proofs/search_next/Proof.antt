@@ -3,7 +3,7 @@ use mathlib.Core.Path.{_∙_}
 use Rattle.format.specs.Diskette.{Bytes, eightInch}
 use Rattle.model.specs.declared.Code.the-variants.{Failed}
 use Rattle.model.specs.Lent.{Lent, lend}
-use Rattle.table.specs.Own.{call18}
+use Rattle.table.specs.Own.{ask}
 use Rattle.table.specs.OwnStep.{refuses-own}
 use Rattle.searching.specs.Searches.{next-refused, next-searched}
 use borrow.Author.Needs.{needs}
@@ -17,7 +17,7 @@ returns : tie.Need-returns
 returns c =
     let a = c .before .before .before .before .before .args in
     let l : Bytes → Bytes → Lent = λ map fcb. lend (a .image .now) map fcb (a .buffer .now) in
-    λ argument map fcb. refuses-own eightInch argument (l map fcb) (a .session) call18 Failed (c .refuse .result)
+    λ argument map fcb. refuses-own eightInch (ask 18 argument) (l map fcb) (a .session) Failed (c .refuse .result)
     (next-refused eightInch (a .session) (l map fcb) argument (c .before .if1 .taken)) (c .refuse .ensures)
 
 cast-place : tie.Need-cast-place

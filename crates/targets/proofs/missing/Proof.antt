@@ -1,7 +1,7 @@
 -- The number decides, by the test of random calls.
 use mathlib.Core.Path.{_≡_, sym, _∙_}
 use mathlib.Core.Bool.{true, false}
-use Rattle.model.specs.Target.{isRandom}
+use Rattle.model.specs.Kinds.{isRandom}
 use Rattle.targets.specs.Target.{missingCode}
 use borrow.Author.Needs.{needs}
 use Rattle.targets.proofs.missing.Statement.{statement}

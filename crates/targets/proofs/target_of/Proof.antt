@@ -2,7 +2,7 @@
 use mathlib.Core.Path.{_≡_, sym, ap, _∙_}
 use Prim.Native.Nat.{ℕ, _+_, _/_, _%_}
 use mathlib.Core.Bool.{true, false}
-use Rattle.model.specs.Target.{isRandom}
+use Rattle.model.specs.Kinds.{isRandom}
 use Rattle.fields.specs.Target.{extent-random, record-random, crAfter-random, extent-past, record-past, extent-within, record-within, crAfter-sequential}
 use Rattle.format.specs.Fcb.{crOf}
 use borrow.Author.Needs.{needs}
