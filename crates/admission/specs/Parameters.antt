@@ -16,11 +16,11 @@ use Rattle.model.specs.Kinds.{usesFcb}
 use Rattle.model.specs.Table.{lengthsRight, parametersRight}
 
 module _ (G : Geometry) (l : Lent) where
-  pub image-length : lengthsRight G l ≡ true → Long G (l .image)
+  pub image-length : lengthsRight G l ≡ true → Long G (l .drive .image)
   unfolding lengthsRight
-  image-length t = long-says G (l .image) (and-left _ _ t)
+  image-length t = long-says G (l .drive .image) (and-left _ _ t)
 
-  pub map-length : lengthsRight G l ≡ true → length (l .map) ≡ G .blocks
+  pub map-length : lengthsRight G l ≡ true → length (l .drive .map) ≡ G .blocks
   unfolding lengthsRight
   map-length t = eqb-true _ _ (and-left _ _ (and-right _ _ t))
 
@@ -29,11 +29,11 @@ module _ (G : Geometry) (l : Lent) where
   fcb-length t = eqb-true _ _ (and-left _ _ (and-right _ _ (and-right _ _ t)))
 
   -- the last length decides where the others are right
-  pub buffer-decides : Long G (l .image) → length (l .map) ≡ G .blocks → length (l .fcb) ≡ fcbBytes
+  pub buffer-decides : Long G (l .drive .image) → length (l .drive .map) ≡ G .blocks → length (l .fcb) ≡ fcbBytes
       → lengthsRight G l ≡ eqb (length (l .buffer)) recordBytes
   unfolding lengthsRight
   buffer-decides i m f =
-      and-then _ _ (long-is G (l .image) i) ∙ and-then _ _ (eq-eqb _ _ m) ∙ and-then _ _ (eq-eqb _ _ f)
+      and-then _ _ (long-is G (l .drive .image) i) ∙ and-then _ _ (eq-eqb _ _ m) ∙ and-then _ _ (eq-eqb _ _ f)
 
   module _ (asked : Asked) (s : Session) where
     pub lengths-are : parametersRight G l asked s ≡ true → lengthsRight G l ≡ true

@@ -68,13 +68,13 @@ told asked l s o m =
 -- became such a file's, or in the one record that the call wrote
 abbrev pub Framed : Asked → Lent → Session → Outcome → Type 0
 Framed asked l s o =
-    Frame eightInch (l .image) (o .lent .image) (names (asked .number) (s .user) (l .fcb)) (MayWrite eightInch (asked .number) l s o)
+    Frame eightInch (l .drive .image) (o .lent .drive .image) (names (asked .number) (s .user) (l .fcb)) (MayWrite eightInch (asked .number) l s o)
 
 pub framed : (asked : Asked) (l : Lent) (s : Session) (o : Outcome) → o ≡ step eightInch asked l s → Framed asked l s o
 framed asked l s o m = subst (Framed asked l s) (sym m) (step-ok eight-sound asked l s .frame)
 
 -- ---- an outcome that meets the contract: it is that of the request, and leaves the disk after it
-module _ (d : Disk) (q : Request) (o : Outcome) (f b : Bytes) (meets : o ≡ step eightInch (q .asked) (lend (d .image) (d .map) f b) (d .session))
+module _ (d : Disk) (q : Request) (o : Outcome) (f b : Bytes) (meets : o ≡ step eightInch (q .asked) (lend (d .drive .image) (d .drive .map) f b) (d .session))
     (fcb : f ≡ q .fcb) (buffer : b ≡ q .buffer) where
   pub met : o ≡ outcomeOf eightInch d q
   unfolding outcomeOf
@@ -125,7 +125,7 @@ module _ (d : Disk) (w : Request) (writes : kindOf (w .asked .number) ≡ Write)
   -- call 33 on the disk after the calls
   module _ (o : Outcome) (met : o ≡ outcomeOf eightInch d w) (qs : List Request) (e : Disk) (made : e ≡ run eightInch (after eightInch d w) qs)
       (x r : ℕ) (ext : x ≡ targetExtent (w .asked .number) (w .fcb)) (rec : r ≡ targetRecord (w .asked .number) (w .fcb)) (empty : Bytes) (p : Outcome)
-      (last : p ≡ step eightInch (ask 33 0) (lend (e .image) (e .map) (targetSet (o .lent .fcb) x r) empty) (e .session)) where
+      (last : p ≡ step eightInch (ask 33 0) (lend (e .drive .image) (e .drive .map) (targetSet (o .lent .fcb) x r) empty) (e .session)) where
     pub read-last : p ≡ readAfter d w qs empty
     unfolding readAfter readFcb atRecord outcomeOf
     read-last = last ∙ rw (made, ext, rec, met)

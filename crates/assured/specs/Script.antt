@@ -33,7 +33,7 @@ abbrev pub requests : Bytes → ℕ → List Request
 requests script n = requestsFrom script 0 n
 
 abbrev pub diskOf : Bytes → Bytes → Session → Disk
-diskOf image map s = record { image = image; map = map; session = s }
+diskOf image map s = record { drive = record { image = image; map = map }; session = s }
 
 -- ---- the loop that makes them: what is left to be made comes to the same
 module _ (G : Geometry) (script : Bytes) where

@@ -52,12 +52,12 @@ use Rattle.demands.specs.Erased.{erased-accepted}
 use Rattle.demands.specs.Runs.{Request, Disk, lentTo, outcomeOf, left, accepts, after}
 
 -- ---- a write that nothing stands against
-module _ {G : Geometry} (S : Sound G) (asked : Asked) (number : asked .number ≡ 21) (l : Lent) (s : Session) (g : Good G (l .image) (l .map)) (fits : Fits G l s)
-    (drive : getD (l .fcb) 0 0 ≤ 1) (e : ℕ) (cur : Cur G (viewOf G (l .image) (l .map)) (s .user) (l .fcb) e)
-    (writable : readOnly (rowsOf G l e) ≡ false) (cr : crOf (l .fcb) < 128) (free : FoundAt (findFree G (l .map))) where
+module _ {G : Geometry} (S : Sound G) (asked : Asked) (number : asked .number ≡ 21) (l : Lent) (s : Session) (g : Good G (l .drive .image) (l .drive .map)) (fits : Fits G l s)
+    (drive : getD (l .fcb) 0 0 ≤ 1) (e : ℕ) (cur : Cur G (viewOf G (l .drive .image) (l .drive .map)) (s .user) (l .fcb) e)
+    (writable : readOnly (rowsOf G l e) ≡ false) (cr : crOf (l .fcb) < 128) (free : FoundAt (findFree G (l .drive .map))) where
   at : presentEntry G (s .user) l ≡ At e
   unfolding presentEntry
-  at = cur-current G (l .image) (l .map) (s .user) (l .fcb) e (g .inv .dir) (fits .user-low) cur
+  at = cur-current G (l .drive .image) (l .drive .map) (s .user) (l .fcb) e (g .inv .dir) (fits .user-low) cur
 
   same-extent : targetExtent 21 (l .fcb) ≡ extentOf (l .fcb)
   unfolding isRandom
@@ -89,7 +89,7 @@ module _ {G : Geometry} (S : Sound G) (asked : Asked) (number : asked .number �
   write-accepted =
       total-accepted G asked l s
       (ap (λ (n : ℕ). verdict G (ask n (asked .argument)) l s) number ∙ passes G (ask 21 (asked .argument)) l s refl
-      record { fits = fits; drive = λ u. drive; image-right = good-consistent G (l .image) (l .map) g; map-right = λ q. good-right G (l .image) (l .map) g } (writes-right G (asked .argument) l s writes))
+      record { fits = fits; drive = λ u. drive; image-right = good-consistent G (l .drive .image) (l .drive .map) g; map-right = λ q. good-right G (l .drive .image) (l .drive .map) g } (writes-right G (asked .argument) l s writes))
 
 -- ---- a make, and a write through the FCB that it handed back
 module _ {G : Geometry} (S : Sound G) (d : Disk) (q : Request) (number : q .asked .number ≡ 22) (accepted : accepts G d q ≡ true) (cr : crOf (q .fcb) < 128) where
@@ -120,29 +120,29 @@ module _ {G : Geometry} (S : Sound G) (d : Disk) (q : Request) (number : q .aske
   fits : Fits G l (d .session)
   fits = carried .facts .ready .fits
 
-  good : Good G (l .image) (l .map)
+  good : Good G (l .drive .image) (l .drive .map)
   good = ready-good (carried .facts .ready) (λ z. let a : 13 ≡ 22 = sym z ∙ number in omega arith)
 
   -- the entry that was made is not read-only
-  new-row : entryAt G (createdAt G (d .session) l t .lent .image) t ≡ madeRow (d .session .user) (l .fcb)
+  new-row : entryAt G (createdAt G (d .session) l t .lent .drive .image) t ≡ madeRow (d .session .user) (l .fcb)
   unfolding createdAt t
   new-row =
-      entry-stored S (l .image) (good .image-long) t (empty-says G (rowsOf G l) t (makes .entry .is) .below) (madeRow (d .session .user) (l .fcb))
+      entry-stored S (l .drive .image) (good .image-long) t (empty-says G (rowsOf G l) t (makes .entry .is) .below) (madeRow (d .session .user) (l .fcb))
       (length-madeRow (d .session .user) (l .fcb))
 
   -- what it left
   made : Disk
   made = left (createdAt G (d .session) l t)
 
-  made-good : Good G (made .image) (made .map)
+  made-good : Good G (made .drive .image) (made .drive .map)
   unfolding made outcomeOf
   made-good =
-      subst (λ (o : Outcome). Good G (o .lent .image) (o .lent .map)) made-is (step-accepted S (q .asked) (lentTo d q) (d .session) carried)
+      subst (λ (o : Outcome). Good G (o .lent .drive .image) (o .lent .drive .map)) made-is (step-accepted S (q .asked) (lentTo d q) (d .session) carried)
 
-  some-free : (b : ℕ) → b < G .blocks → noteAt (l .map) b ≡ freeNote → FoundAt (findFree G (l .map))
-  some-free b h z = found-cases (findFree G (l .map)) (λ k e. record { place = k; is = e }) (λ e. absurd (none-free G (l .map) e b h z))
+  some-free : (b : ℕ) → b < G .blocks → noteAt (l .drive .map) b ≡ freeNote → FoundAt (findFree G (l .drive .map))
+  some-free b h z = found-cases (findFree G (l .drive .map)) (λ k e. record { place = k; is = e }) (λ e. absurd (none-free G (l .drive .map) e b h z))
 
-  written-next : (b : ℕ) → b < G .blocks → noteAt (l .map) b ≡ freeNote
+  written-next : (b : ℕ) → b < G .blocks → noteAt (l .drive .map) b ≡ freeNote
       → (w : Request) → w .asked .number ≡ 21 → w .fcb ≡ createdAt G (d .session) l t .lent .fcb → length (w .buffer) ≡ recordBytes → accepts G made w ≡ true
   unfolding made outcomeOf createdAt t
   written-next b h z w n fcb buffer =
@@ -165,7 +165,7 @@ module _ {G : Geometry} (S : Sound G) (d : Disk) (q : Request) (number : q .aske
       (rw (fcb, rest-copied (l .fcb) row hf hr 36 32 (omega arith) (omega arith)) cr) (some-free b h z))
 
   -- a write through the FCB handed back, where a block is free
-  pub make-then-write : (b : ℕ) → b < G .blocks → noteAt (d .map) b ≡ freeNote
+  pub make-then-write : (b : ℕ) → b < G .blocks → noteAt (d .drive .map) b ≡ freeNote
       → (w : Request) → w .asked .number ≡ 21 → w .fcb ≡ outcomeOf G d q .lent .fcb → length (w .buffer) ≡ recordBytes → accepts G (after G d q) w ≡ true
   unfolding after made
   make-then-write b h z w n fcb buffer =
@@ -187,7 +187,7 @@ module _ {G : Geometry} (S : Sound G) (some : 0 < G .entries) where
       fresh-at G (entryAt G img) (G .area) (S .area-below)
       ∙ rw (le-ltb (G .area) (G .area) (omega arith), erased-unlisted G img erased (G .area) (λ z. omega (arith, S .area-some)))
 
-  made-on : (d : Disk) → ErasedDisk G (d .image) → Good G (d .image) (d .map) → InRange G (d .session) → (q : Request) → Asks q 22
+  made-on : (d : Disk) → ErasedDisk G (d .drive .image) → Good G (d .drive .image) (d .drive .map) → InRange G (d .session) → (q : Request) → Asks q 22
       → getD (q .fcb) 0 0 ≤ 1 → nameRight false (q .fcb) 1 ≡ true → exOf (q .fcb) ≤ 31 → accepts G d q ≡ true
   unfolding outcomeOf askedEntry isCall kindOf
   made-on d erased good range q a drive name ex =
@@ -198,26 +198,26 @@ module _ {G : Geometry} (S : Sound G) (some : 0 < G .entries) where
       record {
         fits = record { image-long = good .image-long; map-long = good .map-long; fcb-long = a .fcb; buffer-long = a .buffer; user-low = range .user; place-low = range .place };
         drive = λ u. drive;
-        image-right = good-consistent G (d .image) (d .map) good;
-        map-right = λ z. good-right G (d .image) (d .map) good;
+        image-right = good-consistent G (d .drive .image) (d .drive .map) good;
+        map-right = λ z. good-right G (d .drive .image) (d .drive .map) good;
       }
       (makes-right G (q .asked .argument) (lentTo d q) (d .session) record {
         name = name;
         ex = ex;
-        new = no-file-is G (entryAt G (d .image)) (d .session .user) (q .fcb) 1 (exOf (q .fcb)) (λ e h. none e h);
-        entry = found-cases (findEmpty G (entryAt G (d .image))) (λ k e. record { place = k; is = e })
-            (λ e. absurd (not-both (empty (entryAt G (d .image) 0)) (erased-empty G (d .image) erased 0 some) (none-empty-says G (entryAt G (d .image)) e 0 some)));
+        new = no-file-is G (entryAt G (d .drive .image)) (d .session .user) (q .fcb) 1 (exOf (q .fcb)) (λ e h. none e h);
+        entry = found-cases (findEmpty G (entryAt G (d .drive .image))) (λ k e. record { place = k; is = e })
+            (λ e. absurd (not-both (empty (entryAt G (d .drive .image) 0)) (erased-empty G (d .drive .image) erased 0 some) (none-empty-says G (entryAt G (d .drive .image)) e 0 some)));
       })))
     where
-      none : (e : ℕ) → e < G .entries → isFile G (d .session .user) (q .fcb) 1 (exOf (q .fcb)) (entryAt G (d .image) e) ≡ false
+      none : (e : ℕ) → e < G .entries → isFile G (d .session .user) (q .fcb) 1 (exOf (q .fcb)) (entryAt G (d .drive .image) e) ≡ false
       none e h =
-          split (bool-cases (isFile G (d .session .user) (q .fcb) 1 (exOf (q .fcb)) (entryAt G (d .image) e)))
-          (λ t. not-both (used (entryAt G (d .image) e))
-          (file-used G (d .session .user) (q .fcb) 1 (exOf (q .fcb)) (entryAt G (d .image) e) t (range .user)) (erased-unused G (d .image) erased e h))
+          split (bool-cases (isFile G (d .session .user) (q .fcb) 1 (exOf (q .fcb)) (entryAt G (d .drive .image) e)))
+          (λ t. not-both (used (entryAt G (d .drive .image) e))
+          (file-used G (d .session .user) (q .fcb) 1 (exOf (q .fcb)) (entryAt G (d .drive .image) e) t (range .user)) (erased-unused G (d .drive .image) erased e h))
           (λ f. f)
 
   -- log in, make a file, write its first record
-  pub erased-begins : (d : Disk) → ErasedDisk G (d .image) → length (d .map) ≡ G .blocks → InRange G (d .session)
+  pub erased-begins : (d : Disk) → ErasedDisk G (d .drive .image) → length (d .drive .map) ≡ G .blocks → InRange G (d .session)
       → (login make write : Request) → Asks login 13 → Asks make 22 → getD (make .fcb) 0 0 ≤ 1 → nameRight false (make .fcb) 1 ≡ true → exOf (make .fcb) ≤ 31 → crOf (make .fcb) < 128
       → Asks write 21 → write .fcb ≡ outcomeOf G (after G d login) make .lent .fcb
       → (accepts G d login ≡ true) × (accepts G (after G d login) make ≡ true) × (accepts G (after G (after G d login) make) write ≡ true)
@@ -226,10 +226,10 @@ module _ {G : Geometry} (S : Sound G) (some : 0 < G .entries) where
       let first = erased-accepted G d login erased map range (a .number) (a .fcb) (a .buffer) in
       let t = booked-login S d login (a .number) first in
       let o = logged-in G d login (a .number) first in
-      let second = made-on (after G d login) (subst (λ (x : Outcome). ErasedDisk G (x .lent .image)) (sym o) erased) (t .good) (t .range) make b drive name ex in (
+      let second = made-on (after G d login) (subst (λ (x : Outcome). ErasedDisk G (x .lent .drive .image)) (sym o) erased) (t .good) (t .range) make b drive name ex in (
         first,
         second,
         make-then-write S (after G d login) make (b .number) second cr (G .area) (S .area-below)
-            (ap (λ (x : Outcome). noteAt (x .lent .map) (G .area)) o ∙ first-free (d .image) erased)
+            (ap (λ (x : Outcome). noteAt (x .lent .drive .map) (G .area)) o ∙ first-free (d .drive .image) erased)
             write (c .number) same (c .buffer),
       )

@@ -41,11 +41,11 @@ pub eight-nothing-lost : (d : Disk) (q : Request) → q .asked .number ≡ 13 �
 eight-nothing-lost = nothing-lost eight-sound
 
 pub eight-bytes-stay : (d : Disk) (q : Request)
-    → Frame eightInch (d .image) (after eightInch d q .image) (names (q .asked .number) (d .session .user) (q .fcb))
+    → Frame eightInch (d .drive .image) (after eightInch d q .drive .image) (names (q .asked .number) (d .session .user) (q .fcb))
     (MayWrite eightInch (q .asked .number) (lentTo d q) (d .session) (outcomeOf eightInch d q))
 eight-bytes-stay = bytes-stay eight-sound
 
-pub eight-system-stays : (d : Disk) (q : Request) (i : ℕ) → i < 6656 → getD (after eightInch d q .image) i 0 ≡ getD (d .image) i 0
+pub eight-system-stays : (d : Disk) (q : Request) (i : ℕ) → i < 6656 → getD (after eightInch d q .drive .image) i 0 ≡ getD (d .drive .image) i 0
 eight-system-stays = system-stays eight-sound
 
 -- the FCB handed back is current
@@ -55,7 +55,7 @@ pub eight-still-current : (d : Disk) (q : Request) → accepts eightInch d q ≡
 eight-still-current = still-current eight-sound
 
 -- and they speak of something: a log-in, a make and a write on an erased disk are accepted
-pub eight-begins : (d : Disk) → ErasedDisk eightInch (d .image) → length (d .map) ≡ 243 → InRange eightInch (d .session)
+pub eight-begins : (d : Disk) → ErasedDisk eightInch (d .drive .image) → length (d .drive .map) ≡ 243 → InRange eightInch (d .session)
     → (login make write : Request) → Asks login 13 → Asks make 22 → getD (make .fcb) 0 0 ≤ 1 → nameRight false (make .fcb) 1 ≡ true → exOf (make .fcb) ≤ 31 → crOf (make .fcb) < 128
     → Asks write 21 → write .fcb ≡ outcomeOf eightInch (after eightInch d login) make .lent .fcb
     → (accepts eightInch d login ≡ true) × (accepts eightInch (after eightInch d login) make ≡ true) × (accepts eightInch (after eightInch (after eightInch d login) make) write ≡ true)

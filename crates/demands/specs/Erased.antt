@@ -16,7 +16,7 @@ use Rattle.table.specs.Total.{InRange, total-accepted}
 use Rattle.demands.specs.Accepted.{carried-says}
 use Rattle.demands.specs.Runs.{Request, Disk, lentTo, outcomeOf, accepts}
 
-pub erased-accepted : (G : Geometry) (d : Disk) (q : Request) → ErasedDisk G (d .image) → length (d .map) ≡ G .blocks → InRange G (d .session)
+pub erased-accepted : (G : Geometry) (d : Disk) (q : Request) → ErasedDisk G (d .drive .image) → length (d .drive .map) ≡ G .blocks → InRange G (d .session)
     → q .asked .number ≡ 13 → length (q .fcb) ≡ fcbBytes → length (q .buffer) ≡ recordBytes → accepts G d q ≡ true
 unfolding outcomeOf isCall kindOf
 erased-accepted G d q erased map range n fcb buffer =
@@ -24,7 +24,7 @@ erased-accepted G d q erased map range n fcb buffer =
     (total-accepted G (q .asked) (lentTo d q) (d .session)
     (ap (λ (k : ℕ). verdict G (ask k (q .asked .argument)) (lentTo d q) (d .session)) n
     ∙ passes G (ask 13 (q .asked .argument)) (lentTo d q) (d .session) refl
-    (login-ready G (q .asked .argument) (lentTo d q) (d .session) fits (erased-consistent G (d .image) erased)) tt))
+    (login-ready G (q .asked .argument) (lentTo d q) (d .session) fits (erased-consistent G (d .drive .image) erased)) tt))
   where
     fits : Fits G (lentTo d q) (d .session)
     fits = record {

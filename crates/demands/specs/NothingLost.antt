@@ -32,9 +32,9 @@ use Rattle.demands.specs.Runs.{Request, Disk, lentTo, outcomeOf, accepts
 
 -- ---- a disk whose map tells the same as a book
 pub record Booked (G : Geometry) (d : Disk) (u : Book) : Type 0 where
-  pub good : Good G (d .image) (d .map)
+  pub good : Good G (d .drive .image) (d .drive .map)
   pub range : InRange G (d .session)
-  pub tracks : Tracks G u (noteAt (d .map))
+  pub tracks : Tracks G u (noteAt (d .drive .map))
 
 -- what an accepted log-in does
 pub logged-in : (G : Geometry) (d : Disk) (q : Request) → q .asked .number ≡ 13 → accepts G d q ≡ true → outcomeOf G d q ≡ loggedIn G (d .session) (lentTo d q)
@@ -67,29 +67,29 @@ module _ {G : Geometry} (S : Sound G) where
       record {
         good = step-accepted S (q .asked) l (d .session) c;
         range = step-range G (q .asked) l (d .session) record { user = fits .user-low; place = fits .place-low };
-        tracks = subst (λ (o : Outcome). Tracks G nothingHeld (noteAt (o .lent .map))) (sym (logged-in G d q n a)) (logged-in-tracks G l (d .session));
+        tracks = subst (λ (o : Outcome). Tracks G nothingHeld (noteAt (o .lent .drive .map))) (sym (logged-in G d q n a)) (logged-in-tracks G l (d .session));
       }
 
 -- ---- what is never lost
 pub record NothingLost (G : Geometry) (d : Disk) (u : Book) : Type 0 where
-  pub image-consistent : consistent G (d .image) ≡ true
-  pub map-right : mapRight G (entryAt G (d .image)) (d .map) ≡ true
+  pub image-consistent : consistent G (d .drive .image) ≡ true
+  pub map-right : mapRight G (entryAt G (d .drive .image)) (d .drive .map) ≡ true
   -- the map is the fresh map overlaid with the book
-  pub overlay : (b : ℕ) → b < G .blocks → noteAt (d .map) b ≡ overlaid (u b) (freshNote G (entryAt G (d .image)) b)
+  pub overlay : (b : ℕ) → b < G .blocks → noteAt (d .drive .map) b ≡ overlaid (u b) (freshNote G (entryAt G (d .drive .image)) b)
   -- a block in the book has its place, and no other block's note is pending
-  pub held : (b : ℕ) → b < G .blocks → (u b ≡ 0 → ⊥) → InBook G (entryAt G (d .image)) (noteAt (d .map)) u b
-  pub others : (b : ℕ) → b < G .blocks → u b ≡ 0 → isPending (noteAt (d .map) b) ≡ false
+  pub held : (b : ℕ) → b < G .blocks → (u b ≡ 0 → ⊥) → InBook G (entryAt G (d .drive .image)) (noteAt (d .drive .map)) u b
+  pub others : (b : ℕ) → b < G .blocks → u b ≡ 0 → isPending (noteAt (d .drive .map) b) ≡ false
   -- no call is refused for the disk: H is never 1
   pub never-refused : (q : Request) → outcomeOf G d q .answer .h ≡ 1 → ⊥
 
 pub booked-lost : (G : Geometry) (d : Disk) (u : Book) → Booked G d u → NothingLost G d u
 unfolding outcomeOf
 booked-lost G d u t =
-    let rows = entryAt G (d .image) in
-    let m = noteAt (d .map) in
+    let rows = entryAt G (d .drive .image) in
+    let m = noteAt (d .drive .map) in
     record {
-      image-consistent = good-consistent G (d .image) (d .map) (t .good);
-      map-right = good-right G (d .image) (d .map) (t .good);
+      image-consistent = good-consistent G (d .drive .image) (d .drive .map) (t .good);
+      map-right = good-right G (d .drive .image) (d .drive .map) (t .good);
       overlay = λ b h. book-map G rows m u (t .good .inv) (t .tracks) b h;
       held = λ b h r. book-has G rows m u (t .good .inv) (t .tracks) b h r;
       others = λ b h z. book-settled G rows m u (t .good .inv) (t .tracks) b h z;
@@ -106,21 +106,21 @@ module _ {G : Geometry} (S : Sound G) where
 
   -- byte by byte, for every call on any disk
   pub bytes-stay : (d : Disk) (q : Request)
-      → Frame G (d .image) (after G d q .image) (names (q .asked .number) (d .session .user) (q .fcb)) (MayWrite G (q .asked .number) (lentTo d q) (d .session) (outcomeOf G d q))
+      → Frame G (d .drive .image) (after G d q .drive .image) (names (q .asked .number) (d .session .user) (q .fcb)) (MayWrite G (q .asked .number) (lentTo d q) (d .session) (outcomeOf G d q))
   unfolding after outcomeOf
   bytes-stay d q = step-ok S (q .asked) (lentTo d q) (d .session) .frame
 
   -- the system tracks are never touched
-  pub system-stays : (d : Disk) (q : Request) (i : ℕ) → i < G .reserved * G .sectors * recordBytes → getD (after G d q .image) i 0 ≡ getD (d .image) i 0
+  pub system-stays : (d : Disk) (q : Request) (i : ℕ) → i < G .reserved * G .sectors * recordBytes → getD (after G d q .drive .image) i 0 ≡ getD (d .drive .image) i 0
   system-stays d q i h = split (bytes-stay d q i) (λ e. e) (λ w. absurd (go w))
     where
-      go : Where G (d .image) (after G d q .image) (names (q .asked .number) (d .session .user) (q .fcb)) (MayWrite G (q .asked .number) (lentTo d q) (d .session) (outcomeOf G d q)) i → ⊥
+      go : Where G (d .drive .image) (after G d q .drive .image) (names (q .asked .number) (d .session .user) (q .fcb)) (MayWrite G (q .asked .number) (lentTo d q) (d .session) (outcomeOf G d q)) i → ⊥
       go (in-entry e p n) = let a = p .from in omega (arith, entry-past S e)
       go (in-new e p z n) = let a = p .from in omega (arith, entry-past S e)
       go (in-record x p m) = let a = p .from in omega (arith, offset-past S x)
 
   -- nor are the sectors that belong to no block
-  pub spare-stays : (d : Disk) (q : Request) (i x : ℕ) → blockRecords G ≤ x → InRecord G x i → getD (after G d q .image) i 0 ≡ getD (d .image) i 0
+  pub spare-stays : (d : Disk) (q : Request) (i x : ℕ) → blockRecords G ≤ x → InRecord G x i → getD (after G d q .drive .image) i 0 ≡ getD (d .drive .image) i 0
   spare-stays d q i x past r = split (bytes-stay d q i) (λ e. e) (λ w. absurd (go w))
     where
       entry : (e : ℕ) → InEntry G e i → ⊥
@@ -128,7 +128,7 @@ module _ {G : Geometry} (S : Sound G) where
           let a = p .from in let b = p .upto in let c = r .from in let k = r .upto in
           split (entry-record-apart S e x (p .low) (omega (arith, area-within S))) (λ v. omega arith) (λ v. omega arith)
 
-      go : Where G (d .image) (after G d q .image) (names (q .asked .number) (d .session .user) (q .fcb)) (MayWrite G (q .asked .number) (lentTo d q) (d .session) (outcomeOf G d q)) i → ⊥
+      go : Where G (d .drive .image) (after G d q .drive .image) (names (q .asked .number) (d .session .user) (q .fcb)) (MayWrite G (q .asked .number) (lentTo d q) (d .session) (outcomeOf G d q)) i → ⊥
       go (in-entry e p n) = entry e p
       go (in-new e p z n) = entry e p
       go (in-record y p m) =

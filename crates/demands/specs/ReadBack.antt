@@ -88,10 +88,10 @@ user-stays G d q z =
 
 -- ---- a record that holds, over calls that leave its file alone
 pub record Kept (G : Geometry) (d : Disk) (user : ℕ) (f : Bytes) (e rec : ℕ) (v : Bytes) : Type 0 where
-  pub good : Good G (d .image) (d .map)
+  pub good : Good G (d .drive .image) (d .drive .map)
   pub range : InRange G (d .session)
   pub same : d .session .user ≡ user
-  pub holds : Holds G (viewOf G (d .image) (d .map)) user f e rec v
+  pub holds : Holds G (viewOf G (d .drive .image) (d .drive .map)) user f e rec v
 
 module _ {G : Geometry} (S : Sound G) (user : ℕ) (f : Bytes) (hf : length f ≡ fcbBytes) (e rec : ℕ) (v : Bytes) where
   kept-after : (d : Disk) (q : Request) → LeavesAlone G f d q → Kept G d user f e rec v → Kept G (after G d q) user f e rec v
@@ -102,14 +102,14 @@ module _ {G : Geometry} (S : Sound G) (user : ℕ) (f : Bytes) (hf : length f �
       let away : names (q .asked .number) user (q .fcb) (fileRow user f) ≡ false =
       subst (λ (x : ℕ). names (q .asked .number) x (q .fcb) (fileRow x f) ≡ false) (k .same) (o .elsewhere) in
       let N : Names = names (q .asked .number) user (q .fcb) in
-      let t = viewOf G (after G d q .image) (after G d q .map) in
+      let t = viewOf G (after G d q .drive .image) (after G d q .drive .map) in
       record {
         good = step-good S (q .asked) (lentTo d q) (d .session) (k .good);
         range = step-range G (q .asked) (lentTo d q) (d .session) (k .range);
         same = split (is-or-not (kindOf (q .asked .number)) User) (λ z. o .same-user z) (λ z. user-stays G d q z) ∙ k .same;
-        holds = holds-kept S (viewOf G (d .image) (d .map)) t N user low f
-            (subst (λ (x : ℕ). Effect G (viewOf G (d .image) (d .map)) t (names (q .asked .number) x (q .fcb))) (k .same) (ok .effect))
-            (subst (λ (x : ℕ). Keeps G (viewOf G (d .image) (d .map)) t (names (q .asked .number) x (q .fcb))) (k .same) (ok .keeps (o .unsettled)))
+        holds = holds-kept S (viewOf G (d .drive .image) (d .drive .map)) t N user low f
+            (subst (λ (x : ℕ). Effect G (viewOf G (d .drive .image) (d .drive .map)) t (names (q .asked .number) x (q .fcb))) (k .same) (ok .effect))
+            (subst (λ (x : ℕ). Keeps G (viewOf G (d .drive .image) (d .drive .map)) t (names (q .asked .number) x (q .fcb))) (k .same) (ok .keeps (o .unsettled)))
             (names-apart (q .asked .number) user (q .fcb) f hf away) e rec v (k .holds);
       }
 
@@ -134,7 +134,7 @@ module _ {G : Geometry} (S : Sound G) (user : ℕ) (f : Bytes) (hf : length f �
         place-low = k .range .place;
       }
       (rw (rest-atRecord f (recordNumber (extentOf f) rec) hf 0 (omega arith) (omega arith)) drive) f hf e rec v
-      (subst (λ (x : ℕ). Holds G (viewOf G (d .image) (d .map)) x f e rec v) (sym (k .same)) (k .holds)) low refl
+      (subst (λ (x : ℕ). Holds G (viewOf G (d .drive .image) (d .drive .map)) x f e rec v) (sym (k .same)) (k .holds)) low refl
 
 -- ---- what an accepted write leaves
 pub record Wrote (G : Geometry) (d : Disk) (w : Request) : Type 0 where

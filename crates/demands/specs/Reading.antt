@@ -90,15 +90,15 @@ pub record Gives (o : Outcome) (v : Bytes) : Type 0 where
   pub is-h : o .answer .h ≡ 0
   pub is-buffer : o .lent .buffer ≡ v
 
-module _ {G : Geometry} (S : Sound G) (asked : Asked) (number : asked .number ≡ 33) (l : Lent) (s : Session) (g : Good G (l .image) (l .map)) (fits : Fits G l s)
+module _ {G : Geometry} (S : Sound G) (asked : Asked) (number : asked .number ≡ 33) (l : Lent) (s : Session) (g : Good G (l .drive .image) (l .drive .map)) (fits : Fits G l s)
     (drive : getD (l .fcb) 0 0 ≤ 1) (f : Bytes) (hf : length f ≡ fcbBytes) (e rec : ℕ) (v : Bytes)
-    (h : Holds G (viewOf G (l .image) (l .map)) (s .user) f e rec v) (low : extentOf f < extents)
+    (h : Holds G (viewOf G (l .drive .image) (l .drive .map)) (s .user) f e rec v) (low : extentOf f < extents)
     (is : l .fcb ≡ atRecord f (recordNumber (extentOf f) rec)) where
   at : presentEntry G (s .user) l ≡ At e
   unfolding presentEntry
   at =
-      cur-current G (l .image) (l .map) (s .user) (l .fcb) e (g .inv .dir) (fits .user-low)
-      (rw is (cur-atRecord f (recordNumber (extentOf f) rec) hf G (viewOf G (l .image) (l .map)) (s .user) e (h .cur)))
+      cur-current G (l .drive .image) (l .drive .map) (s .user) (l .fcb) e (g .inv .dir) (fits .user-low)
+      (rw is (cur-atRecord f (recordNumber (extentOf f) rec) hf G (viewOf G (l .drive .image) (l .drive .map)) (s .user) e (h .cur)))
 
   random : randomOf (l .fcb) ≡ 128 * extentOf f + rec
   random = ap randomOf is ∙ random-atRecord f (recordNumber (extentOf f) rec) hf (let a = h .inside in omega arith)
@@ -147,16 +147,16 @@ module _ {G : Geometry} (S : Sound G) (asked : Asked) (number : asked .number �
   ready = record {
     fits = fits;
     drive = λ u. drive;
-    image-right = good-consistent G (l .image) (l .map) g;
-    map-right = λ q. good-right G (l .image) (l .map) g;
+    image-right = good-consistent G (l .drive .image) (l .drive .map) g;
+    map-right = λ q. good-right G (l .drive .image) (l .drive .map) g;
   }
 
   -- the buffer gets the record
   got : (p : Plan) → Planned G 33 (s .user) l (There G 33 (s .user) l) p → reading G s l 33 p .lent .buffer ≡ v
   unfolding readAt haveRead
   got p (stay k b q t target w) =
-      ap (λ (x : ℕ). recordAt G (l .image) (placeIn G x (targetRecord 33 (l .fcb)))) (sym (w .is) ∙ block)
-      ∙ ap (λ (x : ℕ). recordAt G (l .image) (placeIn G (recSlot G f rec) x)) target-record ∙ h .dat
+      ap (λ (x : ℕ). recordAt G (l .drive .image) (placeIn G x (targetRecord 33 (l .fcb)))) (sym (w .is) ∙ block)
+      ∙ ap (λ (x : ℕ). recordAt G (l .drive .image) (placeIn G (recSlot G f rec) x)) target-record ∙ h .dat
   got p (move k t b q go target w) = not-both (stays 33 (l .fcb)) stays-there go
   got p (make k t b q go none room w) = not-both (stays 33 (l .fcb)) stays-there go
 

@@ -5,7 +5,7 @@ use mathlib.Core.List.{List, [], _∷_}
 use Rattle.format.specs.Diskette.{Bytes, Geometry}
 use Rattle.model.specs.declared.Asked.{Asked}
 use Rattle.model.specs.declared.Session.{Session}
-use Rattle.model.specs.Lent.{Lent, lend, Outcome}
+use Rattle.model.specs.Lent.{Drive, Lent, Outcome}
 use Rattle.model.specs.Step.{step}
 use Rattle.effects.specs.Book.{Book, acceptedAnswer, bookStep}
 
@@ -16,19 +16,18 @@ pub record Request : Type 0 where
 
 -- what passes from call to call
 pub record Disk : Type 0 where
-  pub image : Bytes
-  pub map : Bytes
+  pub drive : Drive
   pub session : Session
 
 abbrev pub lentTo : Disk → Request → Lent
-lentTo d q = lend (d .image) (d .map) (q .fcb) (q .buffer)
+lentTo d q = record { drive = d .drive; fcb = q .fcb; buffer = q .buffer }
 
 -- one call, and the disk after it
 unfoldable pub outcomeOf : Geometry → Disk → Request → Outcome
 outcomeOf G d q = step G (q .asked) (lentTo d q) (d .session)
 
 abbrev pub left : Outcome → Disk
-left o = record { image = o .lent .image; map = o .lent .map; session = o .answer .session }
+left o = record { drive = o .lent .drive; session = o .answer .session }
 
 unfoldable pub after : Geometry → Disk → Request → Disk
 after G d q = left (outcomeOf G d q)

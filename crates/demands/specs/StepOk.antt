@@ -55,15 +55,15 @@ use Rattle.demands.specs.Accepted.{refused-says, carried-says}
 pub record MayWrite (G : Geometry) (n : ℕ) (l : Lent) (s : Session) (o : Outcome) (d : ℕ) : Type 0 where
   pub accepts : acceptedAnswer n (o .answer) ≡ true
   pub writes : kindOf n ≡ Write
-  pub one : OneRecord G (l .image) (l .map) (names n (s .user) (l .fcb)) (slotOf G (o .lent .fcb) (targetSlot G n (l .fcb))) (targetRecord n (l .fcb)) d
+  pub one : OneRecord G (l .drive .image) (l .drive .map) (names n (s .user) (l .fcb)) (slotOf G (o .lent .fcb) (targetSlot G n (l .fcb))) (targetRecord n (l .fcb)) d
 
 pub record StepOk (G : Geometry) (n : ℕ) (l : Lent) (s : Session) (o : Outcome) : Type 0 where
-  pub effect : Effect G (viewOf G (l .image) (l .map)) (viewOf G (o .lent .image) (o .lent .map)) (names n (s .user) (l .fcb))
+  pub effect : Effect G (viewOf G (l .drive .image) (l .drive .map)) (viewOf G (o .lent .drive .image) (o .lent .drive .map)) (names n (s .user) (l .fcb))
   -- all but accepted 13 and 98 keep what is pending for other files
   pub keeps : (acceptedAnswer n (o .answer) ≡ true → kindOf n ≡ Settle → ⊥)
-      → Keeps G (viewOf G (l .image) (l .map)) (viewOf G (o .lent .image) (o .lent .map)) (names n (s .user) (l .fcb))
-  pub frame : Frame G (l .image) (o .lent .image) (names n (s .user) (l .fcb)) (MayWrite G n l s o)
-  pub book : (u : Book) → Tracks G u (noteAt (l .map)) → Tracks G (bookStep G n l s o u) (noteAt (o .lent .map))
+      → Keeps G (viewOf G (l .drive .image) (l .drive .map)) (viewOf G (o .lent .drive .image) (o .lent .drive .map)) (names n (s .user) (l .fcb))
+  pub frame : Frame G (l .drive .image) (o .lent .drive .image) (names n (s .user) (l .fcb)) (MayWrite G n l s o)
+  pub book : (u : Book) → Tracks G u (noteAt (l .drive .map)) → Tracks G (bookStep G n l s o u) (noteAt (o .lent .drive .map))
 
 -- ---- a call that is refused
 refused-book : (G : Geometry) (n : ℕ) (l : Lent) (s : Session) (o : Outcome) (u : Book) → acceptedAnswer n (o .answer) ≡ false → bookStep G n l s o u ≡ u
@@ -77,8 +77,8 @@ accepted-book G n l s o u t = rw t
 
 refused-ok : (G : Geometry) (n : ℕ) (l : Lent) (s : Session) (o : Outcome) → o .lent ≡ l → acceptedAnswer n (o .answer) ≡ false → StepOk G n l s o
 refused-ok G n l s o q f = record {
-  effect = rw q (nothing-done G (viewOf G (l .image) (l .map)) (names n (s .user) (l .fcb)));
-  keeps = λ w. rw q (nothing-kept G (viewOf G (l .image) (l .map)) (names n (s .user) (l .fcb)));
+  effect = rw q (nothing-done G (viewOf G (l .drive .image) (l .drive .map)) (names n (s .user) (l .fcb)));
+  keeps = λ w. rw q (nothing-kept G (viewOf G (l .drive .image) (l .drive .map)) (names n (s .user) (l .fcb)));
   frame = λ i. inl (rw q);
   book = λ u t b h. ap (λ (v : Book). v b) (refused-book G n l s o u f) ∙ rw q (t b h);
 }
@@ -86,7 +86,7 @@ refused-ok G n l s o q f = record {
 -- ---- a call that is carried out
 abbrev Carries : Geometry → ℕ → Lent → Session → Outcome → Type 0
 Carries G n l s o =
-    Change G (names n (s .user) (l .fcb)) (MayWrite G n l s o) (bookBy G n (s .user) l (o .lent)) (l .image) (l .map) (o .lent .image) (o .lent .map)
+    Change G (names n (s .user) (l .fcb)) (MayWrite G n l s o) (bookBy G n (s .user) l (o .lent)) (l .drive .image) (l .drive .map) (o .lent .drive .image) (o .lent .drive .map)
 
 carries-ok : (G : Geometry) (n : ℕ) (l : Lent) (s : Session) (o : Outcome) → acceptedAnswer n (o .answer) ≡ true → Carries G n l s o → StepOk G n l s o
 carries-ok G n l s o a c = record {
@@ -98,7 +98,7 @@ carries-ok G n l s o a c = record {
 
 -- 13 and 98: the map alone changes, and nothing is held any more
 settles-ok : (G : Geometry) (n : ℕ) (l : Lent) (s : Session) (o : Outcome) → acceptedAnswer n (o .answer) ≡ true → kindOf n ≡ Settle
-    → o .lent .image ≡ l .image → Tracks G nothingHeld (noteAt (o .lent .map)) → StepOk G n l s o
+    → o .lent .drive .image ≡ l .drive .image → Tracks G nothingHeld (noteAt (o .lent .drive .map)) → StepOk G n l s o
 unfolding bookBy
 settles-ok G n l s o a w q tr = record {
   effect = record { row = λ e f. rw q; new = λ e h z. inl (rw q); dat = λ b k e h m f. rw q };
@@ -123,22 +123,22 @@ record Named (n : ℕ) : Type 0 where
   plain : wild n ≡ false
 
 -- ---- call by call
-module _ {G : Geometry} (S : Sound G) (l : Lent) (s : Session) (f : Fits G l s) (g : Good G (l .image) (l .map)) where
+module _ {G : Geometry} (S : Sound G) (l : Lent) (s : Session) (f : Fits G l s) (g : Good G (l .drive .image) (l .drive .map)) where
   -- a call that changes neither image nor map nor book
-  quiet : (n : ℕ) (o : Outcome) → o .lent .image ≡ l .image → o .lent .map ≡ l .map → ((u : Book) → bookBy G n (s .user) l (o .lent) u ≡ u) → Carries G n l s o
+  quiet : (n : ℕ) (o : Outcome) → o .lent .drive .image ≡ l .drive .image → o .lent .drive .map ≡ l .drive .map → ((u : Book) → bookBy G n (s .user) l (o .lent) u ≡ u) → Carries G n l s o
   quiet n o p q b =
-      subst (λ (m : Bytes). Change G (names n (s .user) (l .fcb)) (MayWrite G n l s o) (bookBy G n (s .user) l (o .lent)) (l .image) (l .map) (o .lent .image) m) (sym q)
-      (subst (λ (i : Bytes). Change G (names n (s .user) (l .fcb)) (MayWrite G n l s o) (bookBy G n (s .user) l (o .lent)) (l .image) (l .map) i (l .map)) (sym p)
+      subst (λ (m : Bytes). Change G (names n (s .user) (l .fcb)) (MayWrite G n l s o) (bookBy G n (s .user) l (o .lent)) (l .drive .image) (l .drive .map) (o .lent .drive .image) m) (sym q)
+      (subst (λ (i : Bytes). Change G (names n (s .user) (l .fcb)) (MayWrite G n l s o) (bookBy G n (s .user) l (o .lent)) (l .drive .image) (l .drive .map) i (l .drive .map)) (sym p)
       (as-change G (names n (s .user) (l .fcb)) (names n (s .user) (l .fcb)) (MayWrite G n l s o) (MayWrite G n l s o) asItWas (bookBy G n (s .user) l (o .lent))
-      (l .image) (l .map) (l .image) (l .map) (λ r h. h) (λ d w. w) (λ u x h. ap (λ (v : Book). v x) (b u))
-      (no-change G (names n (s .user) (l .fcb)) (MayWrite G n l s o) (l .image) (l .map) g)))
+      (l .drive .image) (l .drive .map) (l .drive .image) (l .drive .map) (λ r h. h) (λ d w. w) (λ u x h. ap (λ (v : Book). v x) (b u))
+      (no-change G (names n (s .user) (l .fcb)) (MayWrite G n l s o) (l .drive .image) (l .drive .map) g)))
 
   -- a change by the name of the FCB that writes no record
   by-name : (n : ℕ) (o : Outcome) (B : Book → Book) → usesFcb n ≡ true → wild n ≡ false → ((u : Book) → bookBy G n (s .user) l (o .lent) u ≡ B u)
-      → Change G (byName (s .user) (l .fcb)) WritesNone B (l .image) (l .map) (o .lent .image) (o .lent .map) → Carries G n l s o
+      → Change G (byName (s .user) (l .fcb)) WritesNone B (l .drive .image) (l .drive .map) (o .lent .drive .image) (o .lent .drive .map) → Carries G n l s o
   by-name n o B u w b c =
       as-change G (byName (s .user) (l .fcb)) (names n (s .user) (l .fcb)) WritesNone (MayWrite G n l s o) B (bookBy G n (s .user) l (o .lent))
-      (l .image) (l .map) (o .lent .image) (o .lent .map) (names-plain n (s .user) (l .fcb) (f .fcb-long) u w) (λ d z. absurd z) (λ v x h. ap (λ (y : Book). y x) (b v)) c
+      (l .drive .image) (l .drive .map) (o .lent .drive .image) (o .lent .drive .map) (names-plain n (s .user) (l .fcb) (f .fcb-long) u w) (λ d z. absurd z) (λ v x h. ap (λ (y : Book). y x) (b v)) c
 
   -- 16
   closed-carries : (n : ℕ) → kindOf n ≡ Close → Closes G l s → Carries G n l s (closed G s l)
@@ -148,7 +148,7 @@ module _ {G : Geometry} (S : Sound G) (l : Lent) (s : Session) (f : Fits G l s) 
       let m = at-kind Named Close n refl (record { uses = refl; plain = refl } & tt) q in
       rw (c .entry .is)
       (by-name n (closedAt G s l e) (settledBy G (rowsOf G l e) (l .fcb)) (m .uses) (m .plain) (λ u. rw (q, present-before S n l s g f e (c .entry .is) WritesNone))
-      (closed-change S (l .image) (l .map) g (s .user) (f .user-low) (l .fcb) e (present-cur S n l s g f e (c .entry .is) WritesNone) WritesNone))
+      (closed-change S (l .drive .image) (l .drive .map) g (s .user) (f .user-low) (l .fcb) e (present-cur S n l s g f e (c .entry .is) WritesNone) WritesNone))
 
   -- 20 and 33
   read-carries : (n : ℕ) → kindOf n ≡ Read → ReadOk G n (s .user) l (read G s l n .lent) → Carries G n l s (read G s l n)
@@ -165,12 +165,12 @@ module _ {G : Geometry} (S : Sound G) (l : Lent) (s : Session) (f : Fits G l s) 
       let m = at-kind Named Write n refl (record { uses = refl; plain = refl } & record { uses = refl; plain = refl } & tt) q in
       let more = names-plain n (s .user) (l .fcb) (f .fcb-long) (m .uses) (m .plain) in
       as-change G (byName (s .user) (l .fcb)) (names n (s .user) (l .fcb)) (OneOf G n (s .user) l (written G s l n .lent)) (MayWrite G n l s (written G s l n))
-      (writtenBook G n (s .user) l (written G s l n .lent)) (bookBy G n (s .user) l (written G s l n .lent)) (l .image) (l .map)
-      (written G s l n .lent .image) (written G s l n .lent .map) more
+      (writtenBook G n (s .user) l (written G s l n .lent)) (bookBy G n (s .user) l (written G s l n .lent)) (l .drive .image) (l .drive .map)
+      (written G s l n .lent .drive .image) (written G s l n .lent .drive .map) more
       (λ d x. record {
         accepts = a;
         writes = q;
-        one = one-more G (l .image) (l .map) (byName (s .user) (l .fcb)) (names n (s .user) (l .fcb)) more
+        one = one-more G (l .drive .image) (l .drive .map) (byName (s .user) (l .fcb)) (names n (s .user) (l .fcb)) more
             (slotOf G (written G s l n .lent .fcb) (targetSlot G n (l .fcb))) (targetRecord n (l .fcb)) d x;
       })
       (λ v x h. rw q) (r .change)
@@ -181,9 +181,9 @@ module _ {G : Geometry} (S : Sound G) (l : Lent) (s : Session) (f : Fits G l s) 
   deleted-carries n q =
       let m = at-kind (λ (n : ℕ). (usesFcb n ≡ true) × (wild n ≡ true)) Delete n refl ((refl, refl) & tt) q in
       as-change G (deletes G s l) (names n (s .user) (l .fcb)) WritesNone (MayWrite G n l s (deleted G s l)) (deletedBook G n (s .user) l)
-      (bookBy G n (s .user) l (deleted G s l .lent)) (l .image) (l .map) (deleted G s l .lent .image) (deleted G s l .lent .map)
+      (bookBy G n (s .user) l (deleted G s l .lent)) (l .drive .image) (l .drive .map) (deleted G s l .lent .drive .image) (deleted G s l .lent .drive .map)
       (λ r h. names-by n (s .user) (l .fcb) r (f .fcb-long) (m .0) (rw (m .1) h)) (λ d z. absurd z) (λ u x h. rw q)
-      (erased-change S (deletes G s l) (l .image) (l .map) g (λ e h n. named-used true (s .user) (l .fcb) 1 (rowsOf G l e) n (f .user-low)) WritesNone)
+      (erased-change S (deletes G s l) (l .drive .image) (l .drive .map) g (λ e h n. named-used true (s .user) (l .fcb) 1 (rowsOf G l e) n (f .user-low)) WritesNone)
 
   -- 22
   created-carries : (n : ℕ) → kindOf n ≡ Create → Makes G l s → GoodOutcome G (created G s l) → Carries G n l s (created G s l)
@@ -194,8 +194,8 @@ module _ {G : Geometry} (S : Sound G) (l : Lent) (s : Session) (f : Fits G l s) 
       let found = empty-says G (rowsOf G l) t (m .entry .is) in
       let k = at-kind Named Create n refl (record { uses = refl; plain = refl } & tt) q in
       by-name n (created G s l) asItWas (k .uses) (k .plain) (λ u. rw q)
-      (subst (λ (o : Outcome). Change G (byName (s .user) (l .fcb)) WritesNone asItWas (l .image) (l .map) (o .lent .image) (o .lent .map)) (sym (at t (m .entry .is)))
-      (made-change S (byName (s .user) (l .fcb)) (l .image) (l .map) g t (found .below) (found .holds) row (length-madeRow (s .user) (l .fcb))
+      (subst (λ (o : Outcome). Change G (byName (s .user) (l .fcb)) WritesNone asItWas (l .drive .image) (l .drive .map) (o .lent .drive .image) (o .lent .drive .map)) (sym (at t (m .entry .is)))
+      (made-change S (byName (s .user) (l .fcb)) (l .drive .image) (l .drive .map) g t (found .below) (found .holds) row (length-madeRow (s .user) (l .fcb))
       (named-intro false (s .user) (l .fcb) 1 row (user-made (s .user) (l .fcb)) (like-intro (l .fcb) 1 row 1 (λ i h. sym (name-made (s .user) (l .fcb) i h))))
       (subst (GoodOutcome G) (at t (m .entry .is)) good) WritesNone))
     where
@@ -207,7 +207,7 @@ module _ {G : Geometry} (S : Sound G) (l : Lent) (s : Session) (f : Fits G l s) 
   unfolding renamed bookBy usesFcb wild
   renamed-carries n q r =
       let m = at-kind Named Rename n refl (record { uses = refl; plain = refl } & tt) q in
-      by-name n (renamed G s l) asItWas (m .uses) (m .plain) (λ u. rw q) (renamed-change S (l .image) (l .map) g (s .user) (f .user-low) (l .fcb) (r .new-name) (r .new) WritesNone)
+      by-name n (renamed G s l) asItWas (m .uses) (m .plain) (λ u. rw q) (renamed-change S (l .drive .image) (l .drive .map) g (s .user) (f .user-low) (l .fcb) (r .new-name) (r .new) WritesNone)
 
   user-lent : (argument : ℕ) → userSet G s l argument .lent ≡ l
   unfolding userSet
@@ -230,13 +230,13 @@ module _ {G : Geometry} (S : Sound G) (l : Lent) (s : Session) (f : Fits G l s) 
   carried asked c Write q z a = written-carries (asked .number) q a (written-ok S (asked .number) l s g f (writes-by G asked l s (c .none) q))
 
 -- 13 leaves the fresh map, 98 one without pending notes: nothing is held
-pub logged-in-tracks : (G : Geometry) (l : Lent) (s : Session) → Tracks G nothingHeld (noteAt (loggedIn G s l .lent .map))
+pub logged-in-tracks : (G : Geometry) (l : Lent) (s : Session) → Tracks G nothingHeld (noteAt (loggedIn G s l .lent .drive .map))
 unfolding loggedIn
 logged-in-tracks G l s = fresh-tracks G (rowsOf G l) (noteAt (freshMap G (rowsOf G l))) (fresh-at G (rowsOf G l))
 
-freed-settles : (G : Geometry) (l : Lent) (s : Session) → Tracks G nothingHeld (noteAt (freed G s l .lent .map))
+freed-settles : (G : Geometry) (l : Lent) (s : Session) → Tracks G nothingHeld (noteAt (freed G s l .lent .drive .map))
 unfolding freed
-freed-settles G l s = freed-tracks G (noteAt (l .map)) (noteAt (freedMap G (l .map))) (freed-at G (l .map))
+freed-settles G l s = freed-tracks G (noteAt (l .drive .map)) (noteAt (freedMap G (l .drive .map))) (freed-at G (l .drive .map))
 
 settles : (G : Geometry) (asked : Asked) (l : Lent) (s : Session) → kindOf (asked .number) ≡ Settle
     → acceptedAnswer (asked .number) (settled G asked l s .answer) ≡ true → StepOk G (asked .number) l s (settled G asked l s)
@@ -252,8 +252,8 @@ unfolding kindOf
 not-login n k q z e = not-both (same k Settle) (ap (λ (j : Kind). same j Settle) (sym q ∙ ap kindOf e)) z
 
 -- image and map of a call that was carried out were good before, unless it is 13
-pub ready-good : {G : Geometry} {asked : Asked} {l : Lent} {s : Session} → Ready G asked l s → (asked .number ≡ 13 → ⊥) → Good G (l .image) (l .map)
-ready-good {G} {asked} {l} {s} r q = good-of G (l .image) (l .map) (r .fits .image-long) (r .fits .map-long) (r .image-right) (r .map-right q)
+pub ready-good : {G : Geometry} {asked : Asked} {l : Lent} {s : Session} → Ready G asked l s → (asked .number ≡ 13 → ⊥) → Good G (l .drive .image) (l .drive .map)
+ready-good {G} {asked} {l} {s} r q = good-of G (l .drive .image) (l .drive .map) (r .fits .image-long) (r .fits .map-long) (r .image-right) (r .map-right q)
 
 module _ {G : Geometry} (S : Sound G) (asked : Asked) (l : Lent) (s : Session) where
   pub carried-ok : CarriedOut G asked l s → StepOk G (asked .number) l s (step G asked l s)

@@ -51,9 +51,9 @@ currentCalls = 15 ∷ 16 ∷ 20 ∷ 21 ∷ 22 ∷ 33 ∷ 34 ∷ []
 -- the FCB of these buffers is current for the user
 pub record CurrentIn (G : Geometry) (user : ℕ) (l : Lent) : Type 0 where
   pub entry : ℕ
-  pub cur : Cur G (viewOf G (l .image) (l .map)) user (l .fcb) entry
+  pub cur : Cur G (viewOf G (l .drive .image) (l .drive .map)) user (l .fcb) entry
 
-module _ {G : Geometry} (S : Sound G) (argument : ℕ) (l : Lent) (s : Session) (f : Fits G l s) (g : Good G (l .image) (l .map)) where
+module _ {G : Geometry} (S : Sound G) (argument : ℕ) (l : Lent) (s : Session) (f : Fits G l s) (g : Good G (l .drive .image) (l .drive .map)) where
   -- 15
   opened-current : crOf (l .fcb) ≤ 128 → Opens G l s → CurrentIn G (s .user) (quietly (opened G s l) s l .lent)
   unfolding opened openedAt askedEntry
@@ -63,8 +63,8 @@ module _ {G : Geometry} (S : Sound G) (argument : ℕ) (l : Lent) (s : Session) 
       rw (o .entry .is)
       record {
         entry = e;
-        cur = entered-cur G (viewOf G (l .image) (l .map)) (s .user) (l .fcb) (rowsOf G l e) (exOf (l .fcb)) e (k .below) refl
-            (file-user G (s .user) (l .fcb) 1 (exOf (l .fcb)) (rowsOf G l e) (k .holds)) (f .fcb-long) (length-entryAt S (l .image) (g .image-long) e (k .below))
+        cur = entered-cur G (viewOf G (l .drive .image) (l .drive .map)) (s .user) (l .fcb) (rowsOf G l e) (exOf (l .fcb)) e (k .below) refl
+            (file-user G (s .user) (l .fcb) 1 (exOf (l .fcb)) (rowsOf G l e) (k .holds)) (f .fcb-long) (length-entryAt S (l .drive .image) (g .image-long) e (k .below))
             (g .inv .dir .fine e (k .below) (file-used G (s .user) (l .fcb) 1 (exOf (l .fcb)) (rowsOf G l e) (k .holds) (f .user-low)))
             (file-run G (s .user) (l .fcb) 1 (exOf (l .fcb)) (rowsOf G l e) (k .holds)) (let x = o .ex in omega arith) cr;
       }
@@ -77,19 +77,19 @@ module _ {G : Geometry} (S : Sound G) (argument : ℕ) (l : Lent) (s : Session) 
       rw (c .entry .is)
       record {
         entry = e;
-        cur = closed-cur S (l .image) (l .map) g (s .user) (f .user-low) (l .fcb) (f .fcb-long) e (present-cur S 16 l s g f e (c .entry .is) WritesNone);
+        cur = closed-cur S (l .drive .image) (l .drive .map) g (s .user) (f .user-low) (l .fcb) (f .fcb-long) e (present-cur S 16 l s g f e (c .entry .is) WritesNone);
       }
 
   -- 22
   pub created-cur : crOf (l .fcb) ≤ 128 → (m : Makes G l s)
-      → Cur G (viewOf G (createdAt G s l (m .entry .place) .lent .image) (l .map)) (s .user) (createdAt G s l (m .entry .place) .lent .fcb) (m .entry .place)
+      → Cur G (viewOf G (createdAt G s l (m .entry .place) .lent .drive .image) (l .drive .map)) (s .user) (createdAt G s l (m .entry .place) .lent .fcb) (m .entry .place)
   unfolding createdAt
   created-cur cr m =
       let t : ℕ = m .entry .place in
       let row : Bytes = madeRow (s .user) (l .fcb) in
       let found = empty-says G (rowsOf G l) t (m .entry .is) in
-      copied-cur G (viewOf G (createdAt G s l t .lent .image) (l .map)) (s .user) (l .fcb) row t (found .below)
-      (entry-stored S (l .image) (g .image-long) t (found .below) row (length-madeRow (s .user) (l .fcb))) (user-made (s .user) (l .fcb)) (f .fcb-long)
+      copied-cur G (viewOf G (createdAt G s l t .lent .drive .image) (l .drive .map)) (s .user) (l .fcb) row t (found .below)
+      (entry-stored S (l .drive .image) (g .image-long) t (found .below) row (length-madeRow (s .user) (l .fcb))) (user-made (s .user) (l .fcb)) (f .fcb-long)
       (length-madeRow (s .user) (l .fcb)) (fine-made G (s .user) (l .fcb) (f .user-low) (m .name) (m .ex)) cr
 
   created-current : crOf (l .fcb) ≤ 128 → Makes G l s → CurrentIn G (s .user) (created G s l .lent)
@@ -138,7 +138,7 @@ module _ {G : Geometry} (S : Sound G) (d : Disk) (q : Request) (accepted : accep
       let o = outcomeOf G d q .lent in
       record {
         place = k .entry;
-        is = subst (λ (x : ℕ). current G (entryAt G (o .image)) (o .map) x (o .fcb) ≡ At (k .entry))
+        is = subst (λ (x : ℕ). current G (entryAt G (o .drive .image)) (o .drive .map) x (o .fcb) ≡ At (k .entry))
             (sym (user-stays G d q (at-one (λ (n : ℕ). kindOf n ≡ User → ⊥) (q .asked .number) currentCalls call (no-user Quiet refl & no-user Close refl & no-user Read refl & no-user Write refl & no-user Create refl & no-user Read refl & no-user Write refl & tt))))
-            (cur-current G (o .image) (o .map) (d .session .user) (o .fcb) (k .entry) (good .inv .dir) (c .facts .ready .fits .user-low) (k .cur));
+            (cur-current G (o .drive .image) (o .drive .map) (d .session .user) (o .fcb) (k .entry) (good .inv .dir) (c .facts .ready .fits .user-low) (k .cur));
       }

@@ -47,9 +47,9 @@ use Rattle.effects.specs.Entered.{entered-cur}
 
 -- the call, given l, has come to `there` and entry t, with the book changed by B; it may write the records that W allows
 pub record CameTo (G : Geometry) (n user : ℕ) (l there : Lent) (t : ℕ) (W : ℕ → Type 0) (B : Book → Book) : Type 0 where
-  pub change : Change G (byName user (l .fcb)) W B (l .image) (l .map) (there .image) (there .map)
-  pub cur : Cur G (viewOf G (there .image) (there .map)) user (there .fcb) t
-  pub mine : byName user (l .fcb) (entryAt G (there .image) t) ≡ true
+  pub change : Change G (byName user (l .fcb)) W B (l .drive .image) (l .drive .map) (there .drive .image) (there .drive .map)
+  pub cur : Cur G (viewOf G (there .drive .image) (there .drive .map)) user (there .fcb) t
+  pub mine : byName user (l .fcb) (entryAt G (there .drive .image) t) ≡ true
   pub extent : extentOf (there .fcb) ≡ targetExtent n (l .fcb)
   pub long : length (there .fcb) ≡ fcbBytes
   pub first : getD (there .fcb) 0 0 ≡ getD (l .fcb) 0 0
@@ -57,23 +57,23 @@ pub record CameTo (G : Geometry) (n user : ℕ) (l there : Lent) (t : ℕ) (W : 
   pub buffer : there .buffer ≡ l .buffer
   -- the block in the target's slot, whose it was, and that free blocks are free still
   pub slot : slotOf G (there .fcb) (targetSlot G n (l .fcb)) ≡ blockThere G n user l
-  pub theirs : (blockThere G n user l ≡ 0 → ⊥) → Theirs G (l .image) (l .map) (byName user (l .fcb)) (blockThere G n user l)
-  pub free : (b : ℕ) → b < G .blocks → noteAt (l .map) b ≡ freeNote → noteAt (there .map) b ≡ freeNote
+  pub theirs : (blockThere G n user l ≡ 0 → ⊥) → Theirs G (l .drive .image) (l .drive .map) (byName user (l .fcb)) (blockThere G n user l)
+  pub free : (b : ℕ) → b < G .blocks → noteAt (l .drive .map) b ≡ freeNote → noteAt (there .drive .map) b ≡ freeNote
   -- the book's change, as the calls tell it
   pub book : (u : Book) → movedBook G n user l u ≡ B u
 
-module _ {G : Geometry} (S : Sound G) (n : ℕ) (l : Lent) (s : Session) (g : Good G (l .image) (l .map)) (f : Fits G l s) (e : ℕ)
+module _ {G : Geometry} (S : Sound G) (n : ℕ) (l : Lent) (s : Session) (g : Good G (l .drive .image) (l .drive .map)) (f : Fits G l s) (e : ℕ)
     (at : presentEntry G (s .user) l ≡ At e) (W : ℕ → Type 0) where
-  pub present-cur : Cur G (viewOf G (l .image) (l .map)) (s .user) (l .fcb) e
+  pub present-cur : Cur G (viewOf G (l .drive .image) (l .drive .map)) (s .user) (l .fcb) e
   unfolding presentEntry
-  present-cur = current-cur G (l .image) (l .map) (s .user) (l .fcb) e (f .map-long) at
+  present-cur = current-cur G (l .drive .image) (l .drive .map) (s .user) (l .fcb) e (f .map-long) at
 
   pub present-named : byName (s .user) (l .fcb) (rowsOf G l e) ≡ true
   present-named = file-named G (s .user) (l .fcb) 1 (extentOf (l .fcb)) (rowsOf G l e) (present-cur .file)
 
   pub present-before : entryBefore G n (s .user) l ≡ e
   unfolding entryBefore presentEntry
-  present-before = ap (numberOf (G .entries)) (current-says G (rowsOf G l) (l .map) (s .user) (l .fcb) e at .found)
+  present-before = ap (numberOf (G .entries)) (current-says G (rowsOf G l) (l .drive .map) (s .user) (l .fcb) e at .found)
 
   place : targetSlot G n (l .fcb) < slotCount
   place = slot-below S n l s g f e at
@@ -88,7 +88,7 @@ module _ {G : Geometry} (S : Sound G) (n : ℕ) (l : Lent) (s : Session) (g : Go
 
   pub stay-came : stays n (l .fcb) ≡ true → CameTo G n (s .user) l l e W asItWas
   stay-came t = record {
-    change = no-change G (byName (s .user) (l .fcb)) W (l .image) (l .map) g;
+    change = no-change G (byName (s .user) (l .fcb)) W (l .drive .image) (l .drive .map) g;
     cur = present-cur;
     mine = present-named;
     extent = sym (stays-extent n (l .fcb) t);
@@ -98,18 +98,18 @@ module _ {G : Geometry} (S : Sound G) (n : ℕ) (l : Lent) (s : Session) (g : Go
     buffer = refl;
     slot = stay-slot t;
     theirs = λ z. rw (← stay-slot t) (was-theirs e
-        (cur-mine G (viewOf G (l .image) (l .map)) (s .user) (f .user-low) (l .fcb) e present-cur (targetSlot G n (l .fcb)) place (λ y. z (sym (stay-slot t) ∙ y))) present-named);
+        (cur-mine G (viewOf G (l .drive .image) (l .drive .map)) (s .user) (f .user-low) (l .fcb) e present-cur (targetSlot G n (l .fcb)) place (λ y. z (sym (stay-slot t) ∙ y))) present-named);
     free = λ b h z. z;
     book = stay-book t;
   }
 
   -- ---- it moves to an entry of the file
-  closed-by : Change G (byName (s .user) (l .fcb)) W (settledBy G (rowsOf G l e) (l .fcb)) (l .image) (l .map)
-      (closedImage G (l .image) e (l .fcb)) (closedMap G (rowsOf G l e) (l .fcb) (l .map))
-  closed-by = closed-change S (l .image) (l .map) g (s .user) (f .user-low) (l .fcb) e present-cur W
+  closed-by : Change G (byName (s .user) (l .fcb)) W (settledBy G (rowsOf G l e) (l .fcb)) (l .drive .image) (l .drive .map)
+      (closedImage G (l .drive .image) e (l .fcb)) (closedMap G (rowsOf G l e) (l .fcb) (l .drive .map))
+  closed-by = closed-change S (l .drive .image) (l .drive .map) g (s .user) (f .user-low) (l .fcb) e present-cur W
 
-  still-free : (b : ℕ) → b < G .blocks → noteAt (l .map) b ≡ freeNote → noteAt (closedMap G (rowsOf G l e) (l .fcb) (l .map)) b ≡ freeNote
-  still-free = closed-free S (l .image) (l .map) g (s .user) (f .user-low) (l .fcb) e (present-current S n l s g f e at)
+  still-free : (b : ℕ) → b < G .blocks → noteAt (l .drive .map) b ≡ freeNote → noteAt (closedMap G (rowsOf G l e) (l .fcb) (l .drive .map)) b ≡ freeNote
+  still-free = closed-free S (l .drive .image) (l .drive .map) g (s .user) (f .user-low) (l .fcb) e (present-current S n l s g f e at)
 
   move-book : stays n (l .fcb) ≡ false → (u : Book) → movedBook G n (s .user) l u ≡ settledBy G (rowsOf G l e) (l .fcb) u
   unfolding movedBook closedBook
@@ -133,11 +133,11 @@ module _ {G : Geometry} (S : Sound G) (n : ℕ) (l : Lent) (s : Session) (g : Go
 
     -- its row once the present entry is closed, which may be the same
     arrived : Bytes
-    arrived = entryAt G (closedImage G (l .image) e (l .fcb)) t
+    arrived = entryAt G (closedImage G (l .drive .image) e (l .fcb)) t
 
     arrived-like : SameFile G arrived (rowsOf G l t)
     unfolding arrived
-    arrived-like = closed-file S (l .image) (l .map) g (s .user) (f .user-low) (l .fcb) e (present-current S n l s g f e at) t below
+    arrived-like = closed-file S (l .drive .image) (l .drive .map) g (s .user) (f .user-low) (l .fcb) e (present-current S n l s g f e at) t below
 
     arrived-file : isFile G (s .user) (l .fcb) 1 (targetExtent n (l .fcb)) arrived ≡ true
     arrived-file = isFile-cong G (s .user) (l .fcb) 1 (targetExtent n (l .fcb)) arrived (rowsOf G l t) arrived-like ∙ file
@@ -147,7 +147,7 @@ module _ {G : Geometry} (S : Sound G) (n : ℕ) (l : Lent) (s : Session) (g : Go
 
     arrived-long : length arrived ≡ entryBytes
     unfolding arrived
-    arrived-long = length-entryAt S (closedImage G (l .image) e (l .fcb)) (closed-by .good .image-long) t below
+    arrived-long = length-entryAt S (closedImage G (l .drive .image) e (l .fcb)) (closed-by .good .image-long) t below
 
     arrived-fine : Fine G arrived
     unfolding arrived
@@ -158,11 +158,11 @@ module _ {G : Geometry} (S : Sound G) (n : ℕ) (l : Lent) (s : Session) (g : Go
     move-slot = sym (move-block S n l s g f e at t target)
 
     -- the block there was the FCB's, where its entry is the target's, or the target's
-    move-theirs : (blockThere G n (s .user) l ≡ 0 → ⊥) → Theirs G (l .image) (l .map) (byName (s .user) (l .fcb)) (blockThere G n (s .user) l)
+    move-theirs : (blockThere G n (s .user) l ≡ 0 → ⊥) → Theirs G (l .drive .image) (l .drive .map) (byName (s .user) (l .fcb)) (blockThere G n (s .user) l)
     move-theirs z =
         split (bool-cases (within G n (l .fcb)))
         (λ w. let q = within-block G n (s .user) l w in rw q (was-theirs e
-        (cur-mine G (viewOf G (l .image) (l .map)) (s .user) (f .user-low) (l .fcb) e present-cur (targetSlot G n (l .fcb)) place (λ y. z (q ∙ y))) present-named))
+        (cur-mine G (viewOf G (l .drive .image) (l .drive .map)) (s .user) (f .user-low) (l .fcb) e present-cur (targetSlot G n (l .fcb)) place (λ y. z (q ∙ y))) present-named))
         (λ w. was-theirs t (listed (targetSlot G n (l .fcb)) record { entry = below; place = place; uses = uses; is = sym (beyond-block G n (s .user) l t w target); real = z })
         (file-named G (s .user) (l .fcb) 1 (targetExtent n (l .fcb)) (rowsOf G l t) file))
 
@@ -174,7 +174,7 @@ module _ {G : Geometry} (S : Sound G) (n : ℕ) (l : Lent) (s : Session) (g : Go
         let hf : 32 ≤ length (l .fcb) = (let q : length (l .fcb) ≡ 36 = f .fcb-long in omega arith) in
         record {
           change = closed-by;
-          cur = entered-cur G (viewOf G (closedImage G (l .image) e (l .fcb)) (closedMap G (rowsOf G l e) (l .fcb) (l .map))) (s .user) (l .fcb) arrived ext t below refl
+          cur = entered-cur G (viewOf G (closedImage G (l .drive .image) e (l .fcb)) (closedMap G (rowsOf G l e) (l .fcb) (l .drive .map))) (s .user) (l .fcb) arrived ext t below refl
               (file-user G (s .user) (l .fcb) 1 ext arrived arrived-file) (f .fcb-long) arrived-long arrived-fine
               (file-run G (s .user) (l .fcb) 1 ext arrived arrived-file) low (fcb-says (l .fcb) (present-cur .right) .cr);
           mine = arrived-named;
@@ -198,10 +198,10 @@ module _ {G : Geometry} (S : Sound G) (n : ℕ) (l : Lent) (s : Session) (g : Go
     elsewhere : t ≡ e → ⊥
     elsewhere =
         empty-elsewhere (rowsOf G l) t e (empty-says G (rowsOf G l) t room .holds)
-        (cur-uses G (viewOf G (l .image) (l .map)) (s .user) (f .user-low) (l .fcb) e present-cur)
+        (cur-uses G (viewOf G (l .drive .image) (l .drive .map)) (s .user) (f .user-low) (l .fcb) e present-cur)
 
     long : length (rowsOf G l e) ≡ entryBytes
-    long = length-entryAt S (l .image) (g .image-long) e (present-cur .low)
+    long = length-entryAt S (l .drive .image) (g .image-long) e (present-cur .low)
 
     -- the new row
     next : Bytes
@@ -228,19 +228,19 @@ module _ {G : Geometry} (S : Sound G) (n : ℕ) (l : Lent) (s : Session) (g : Go
     unfolding next
     next-fine =
         fine-next G (rowsOf G l e) (targetExtent n (l .fcb)) long
-        (g .inv .dir .fine e (present-cur .low) (cur-uses G (viewOf G (l .image) (l .map)) (s .user) (f .user-low) (l .fcb) e present-cur)) low
+        (g .inv .dir .fine e (present-cur .low) (cur-uses G (viewOf G (l .drive .image) (l .drive .map)) (s .user) (f .user-low) (l .fcb) e present-cur)) low
 
     -- after the close
     mid : Bytes
-    mid = closedImage G (l .image) e (l .fcb)
+    mid = closedImage G (l .drive .image) e (l .fcb)
 
     mid-map : Bytes
-    mid-map = closedMap G (rowsOf G l e) (l .fcb) (l .map)
+    mid-map = closedMap G (rowsOf G l e) (l .fcb) (l .drive .map)
 
     void : empty (entryAt G mid t) ≡ true
     unfolding mid
     void =
-        ap empty (row-closedImage-other S (l .image) (g .image-long) e (present-cur .low) (l .fcb) t room-below elsewhere)
+        ap empty (row-closedImage-other S (l .drive .image) (g .image-long) e (present-cur .low) (l .fcb) t room-below elsewhere)
         ∙ empty-says G (rowsOf G l) t room .holds
 
     new : Bytes
@@ -258,10 +258,10 @@ module _ {G : Geometry} (S : Sound G) (n : ℕ) (l : Lent) (s : Session) (g : Go
     unfolding new
     next-here = made-here S (byName (s .user) (l .fcb)) mid mid-map mid-good t room-below void next whole next-named
 
-    closed-then-made : Change G (byName (s .user) (l .fcb)) W (settledBy G (rowsOf G l e) (l .fcb)) (l .image) (l .map) new mid-map
+    closed-then-made : Change G (byName (s .user) (l .fcb)) W (settledBy G (rowsOf G l e) (l .fcb)) (l .drive .image) (l .drive .map) new mid-map
     unfolding mid mid-map new
     closed-then-made =
-        then-change G (byName (s .user) (l .fcb)) W (settledBy G (rowsOf G l e) (l .fcb)) asItWas (l .image) (l .map) mid mid-map new mid-map (g .inv .dir) closed-by
+        then-change G (byName (s .user) (l .fcb)) W (settledBy G (rowsOf G l e) (l .fcb)) asItWas (l .drive .image) (l .drive .map) mid mid-map new mid-map (g .inv .dir) closed-by
         (made-change S (byName (s .user) (l .fcb)) mid mid-map mid-good t room-below void next whole next-named new-good W)
         (made-names-stay S (byName (s .user) (l .fcb)) mid mid-map mid-good t room-below void next whole next-named)
 

@@ -47,21 +47,21 @@ pub record HandedBack (n : ℕ) (l left : Lent) : Type 0 where
 -- the one record of a write: that of the target, in the block that the FCB handed back has for it
 abbrev pub OneOf : Geometry → ℕ → ℕ → Lent → Lent → ℕ → Type 0
 OneOf G n user l left d =
-    OneRecord G (l .image) (l .map) (byName user (l .fcb)) (slotOf G (left .fcb) (targetSlot G n (l .fcb))) (targetRecord n (l .fcb)) d
+    OneRecord G (l .drive .image) (l .drive .map) (byName user (l .fcb)) (slotOf G (left .fcb) (targetSlot G n (l .fcb))) (targetRecord n (l .fcb)) d
 
 pub record WriteOk (G : Geometry) (n user : ℕ) (l left : Lent) : Type 0 where
-  pub change : Change G (byName user (l .fcb)) (OneOf G n user l left) (writtenBook G n user l left) (l .image) (l .map) (left .image) (left .map)
+  pub change : Change G (byName user (l .fcb)) (OneOf G n user l left) (writtenBook G n user l left) (l .drive .image) (l .drive .map) (left .drive .image) (left .drive .map)
   pub fcb : HandedBack n l left
   pub entry : ℕ
-  pub holds : Holds G (viewOf G (left .image) (left .map)) user (left .fcb) entry (targetRecord n (l .fcb)) (l .buffer)
+  pub holds : Holds G (viewOf G (left .drive .image) (left .drive .map)) user (left .fcb) entry (targetRecord n (l .fcb)) (l .buffer)
 
 pub record ReadOk (G : Geometry) (n user : ℕ) (l left : Lent) : Type 0 where
-  pub change : Change G (byName user (l .fcb)) WritesNone (movedBook G n user l) (l .image) (l .map) (left .image) (left .map)
+  pub change : Change G (byName user (l .fcb)) WritesNone (movedBook G n user l) (l .drive .image) (l .drive .map) (left .drive .image) (left .drive .map)
   pub fcb : HandedBack n l left
   pub entry : ℕ
-  pub cur : Cur G (viewOf G (left .image) (left .map)) user (left .fcb) entry
+  pub cur : Cur G (viewOf G (left .drive .image) (left .drive .map)) user (left .fcb) entry
 
-module _ {G : Geometry} (S : Sound G) (n : ℕ) (l : Lent) (s : Session) (g : Good G (l .image) (l .map)) (f : Fits G l s) (cr : crOf (l .fcb) ≤ 128) where
+module _ {G : Geometry} (S : Sound G) (n : ℕ) (l : Lent) (s : Session) (g : Good G (l .drive .image) (l .drive .map)) (f : Fits G l s) (cr : crOf (l .fcb) ≤ 128) where
   j : ℕ
   j = targetSlot G n (l .fcb)
 
@@ -81,45 +81,45 @@ module _ {G : Geometry} (S : Sound G) (n : ℕ) (l : Lent) (s : Session) (g : Go
 
   -- ---- a write, wherever the call came to
   module _ (there : Lent) (t b : ℕ) (B : Book → Book)
-      (came : CameTo G n (s .user) l there t (OneRecord G (l .image) (l .map) (byName (s .user) (l .fcb)) b (targetRecord n (l .fcb))) B)
+      (came : CameTo G n (s .user) l there t (OneRecord G (l .drive .image) (l .drive .map) (byName (s .user) (l .fcb)) b (targetRecord n (l .fcb))) B)
       (block : Block G n (s .user) l b) where
     left : Lent
     left = haveWritten G t (targetSlot G n (l .fcb)) b (targetRecord n (l .fcb)) (crAfter n (l .fcb)) there
 
     -- what the entry counts in the extent come to
     count : ℕ
-    count = countIn (entryAt G (there .image) t) (extentOf (there .fcb))
+    count = countIn (entryAt G (there .drive .image) t) (extentOf (there .fcb))
 
     slot-is : j ≡ slotFor G (extentOf (there .fcb)) r
     unfolding j r targetSlot
     slot-is = ap (λ (x : ℕ). slotFor G x (targetRecord n (l .fcb))) (sym (came .extent))
 
-    here-good : Good G (there .image) (there .map)
+    here-good : Good G (there .drive .image) (there .drive .map)
     here-good = came .change .good
 
-    for-slot : ForSlot G (there .map) (slotOf G (there .fcb) j) b
+    for-slot : ForSlot G (there .drive .map) (slotOf G (there .fcb) j) b
     unfolding j
     for-slot = go block
       where
-        go : Block G n (s .user) l b → ForSlot G (there .map) (slotOf G (there .fcb) (targetSlot G n (l .fcb))) b
+        go : Block G n (s .user) l b → ForSlot G (there .drive .map) (slotOf G (there .fcb) (targetSlot G n (l .fcb))) b
         go (Plans.there q real) =
             let own : slotOf G (there .fcb) (targetSlot G n (l .fcb)) ≡ b = came .slot ∙ q in
             record {
-              below = rw (← own) (mine-high G (viewOf G (there .image) (there .map)) (here-good .inv) (slotOf G (there .fcb) (targetSlot G n (l .fcb))) t
-                  (cur-mine G (viewOf G (there .image) (there .map)) (s .user) (f .user-low) (there .fcb) t (came .cur) (targetSlot G n (l .fcb)) j-below (λ z. real (sym own ∙ z))));
+              below = rw (← own) (mine-high G (viewOf G (there .drive .image) (there .drive .map)) (here-good .inv) (slotOf G (there .fcb) (targetSlot G n (l .fcb))) t
+                  (cur-mine G (viewOf G (there .drive .image) (there .drive .map)) (s .user) (f .user-low) (there .fcb) t (came .cur) (targetSlot G n (l .fcb)) j-below (λ z. real (sym own ∙ z))));
               free = λ z. absurd (real (sym own ∙ z));
               own = λ z. own;
             }
         go (Plans.free z q) =
-            let h = free-is G (l .map) b q in
+            let h = free-is G (l .drive .map) b q in
             record { below = h .below; free = λ y. came .free b (h .below) (h .free); own = λ y. absurd (y (came .slot ∙ z)) }
 
-    theirs : Theirs G (l .image) (l .map) (byName (s .user) (l .fcb)) b
+    theirs : Theirs G (l .drive .image) (l .drive .map) (byName (s .user) (l .fcb)) b
     theirs = go block
       where
-        go : Block G n (s .user) l b → Theirs G (l .image) (l .map) (byName (s .user) (l .fcb)) b
-        go (Plans.there q real) = subst (Theirs G (l .image) (l .map) (byName (s .user) (l .fcb))) q (came .theirs (λ z. real (sym q ∙ z)))
-        go (Plans.free z q) = was-free (free-is G (l .map) b q .free)
+        go : Block G n (s .user) l b → Theirs G (l .drive .image) (l .drive .map) (byName (s .user) (l .fcb)) b
+        go (Plans.there q real) = subst (Theirs G (l .drive .image) (l .drive .map) (byName (s .user) (l .fcb))) q (came .theirs (λ z. real (sym q ∙ z)))
+        go (Plans.free z q) = was-free (free-is G (l .drive .map) b q .free)
 
     full : length (there .buffer) ≡ recordBytes
     full = ap length (came .buffer) ∙ f .buffer-long
@@ -128,28 +128,28 @@ module _ {G : Geometry} (S : Sound G) (n : ℕ) (l : Lent) (s : Session) (g : Go
     unfolding count
     right =
         right-written G (there .fcb) count j b r (crAfter n (l .fcb)) (came .long) j-real
-        (count-high (entryAt G (there .image) t) (extentOf (there .fcb))
-        (here-good .inv .dir .fine t (came .cur .low) (cur-uses G (viewOf G (there .image) (there .map)) (s .user) (f .user-low) (there .fcb) t (came .cur)) .numbers .rc))
+        (count-high (entryAt G (there .drive .image) t) (extentOf (there .fcb))
+        (here-good .inv .dir .fine t (came .cur .low) (cur-uses G (viewOf G (there .drive .image) (there .drive .map)) (s .user) (f .user-low) (there .fcb) t (came .cur)) .numbers .rc))
         r-below (crAfter-high n (l .fcb) cr) (came .cur .right)
 
     One : ℕ → Type 0
-    One = OneRecord G (l .image) (l .map) (byName (s .user) (l .fcb)) b (targetRecord n (l .fcb))
+    One = OneRecord G (l .drive .image) (l .drive .map) (byName (s .user) (l .fcb)) b (targetRecord n (l .fcb))
 
-    whole : Change G (byName (s .user) (l .fcb)) One (λ (u : Book). putBook G (there .fcb) t j b (B u)) (l .image) (l .map)
-        (withRecord G (there .image) (placeIn G b r) (there .buffer)) (writtenMap G (there .map) (there .fcb) t j b)
+    whole : Change G (byName (s .user) (l .fcb)) One (λ (u : Book). putBook G (there .fcb) t j b (B u)) (l .drive .image) (l .drive .map)
+        (withRecord G (there .drive .image) (placeIn G b r) (there .buffer)) (writtenMap G (there .drive .map) (there .fcb) t j b)
     unfolding One r
     whole =
-        then-change G (byName (s .user) (l .fcb)) One B (putBook G (there .fcb) t j b) (l .image) (l .map) (there .image) (there .map)
-        (withRecord G (there .image) (placeIn G b r) (there .buffer)) (writtenMap G (there .map) (there .fcb) t j b) (g .inv .dir) (came .change)
-        (put-change S (there .image) (there .map) here-good (s .user) (f .user-low) (there .fcb) (came .long) t (came .cur) r r-below j slot-is b for-slot
+        then-change G (byName (s .user) (l .fcb)) One B (putBook G (there .fcb) t j b) (l .drive .image) (l .drive .map) (there .drive .image) (there .drive .map)
+        (withRecord G (there .drive .image) (placeIn G b r) (there .buffer)) (writtenMap G (there .drive .map) (there .fcb) t j b) (g .inv .dir) (came .change)
+        (put-change S (there .drive .image) (there .drive .map) here-good (s .user) (f .user-low) (there .fcb) (came .long) t (came .cur) r r-below j slot-is b for-slot
         (there .buffer) full (byName (s .user) (l .fcb)) (came .mine) One record { is = refl; below = for-slot .below; theirs = theirs })
-        (put-stay S (there .image) (there .map) here-good (s .user) (f .user-low) (there .fcb) (came .long) t (came .cur) r r-below j slot-is b for-slot
+        (put-stay S (there .drive .image) (there .drive .map) here-good (s .user) (f .user-low) (there .fcb) (came .long) t (came .cur) r r-below j slot-is b for-slot
         (there .buffer) full (byName (s .user) (l .fcb)) (came .mine))
 
-    held : Holds G (viewOf G (withRecord G (there .image) (placeIn G b r) (there .buffer)) (writtenMap G (there .map) (there .fcb) t j b)) (s .user)
+    held : Holds G (viewOf G (withRecord G (there .drive .image) (placeIn G b r) (there .buffer)) (writtenMap G (there .drive .map) (there .fcb) t j b)) (s .user)
         (writtenFcb G (there .fcb) count j b r (crAfter n (l .fcb))) t r (there .buffer)
     held =
-        put-holds S (there .image) (there .map) here-good (s .user) (f .user-low) (there .fcb) (came .long) t (came .cur) r r-below j slot-is b for-slot
+        put-holds S (there .drive .image) (there .drive .map) here-good (s .user) (f .user-low) (there .fcb) (came .long) t (came .cur) r r-below j slot-is b for-slot
         (there .buffer) full count (crAfter n (l .fcb)) right
 
     new-slot : slotOf G (writtenFcb G (there .fcb) count j b r (crAfter n (l .fcb))) j ≡ b
@@ -159,7 +159,7 @@ module _ {G : Geometry} (S : Sound G) (n : ℕ) (l : Lent) (s : Session) (g : Go
     unfolding entryAfter left haveWritten count j r
     after =
         ap (numberOf (G .entries))
-        (file-found G (entryAt G (withRecord G (there .image) (placeIn G b r) (there .buffer))) (s .user) (f .user-low)
+        (file-found G (entryAt G (withRecord G (there .drive .image) (placeIn G b r) (there .buffer))) (s .user) (f .user-low)
         (writtenFcb G (there .fcb) count j b r (crAfter n (l .fcb))) 1
         (extentOf (writtenFcb G (there .fcb) count j b r (crAfter n (l .fcb)))) t (came .cur .low) (held .cur .file) (whole .good .inv .dir))
 
@@ -175,8 +175,8 @@ module _ {G : Geometry} (S : Sound G) (n : ℕ) (l : Lent) (s : Session) (g : Go
     unfolding left haveWritten count j r One
     wrote-ok = record {
       change = as-change G (byName (s .user) (l .fcb)) (byName (s .user) (l .fcb)) One (OneOf G n (s .user) l left) (λ (u : Book). putBook G (there .fcb) t j b (B u))
-          (writtenBook G n (s .user) l left) (l .image) (l .map) (left .image) (left .map) (λ x h. h)
-          (λ d w. subst (λ (x : ℕ). OneRecord G (l .image) (l .map) (byName (s .user) (l .fcb)) x (targetRecord n (l .fcb)) d) (sym left-slot) w)
+          (writtenBook G n (s .user) l left) (l .drive .image) (l .drive .map) (left .drive .image) (left .drive .map) (λ x h. h)
+          (λ d w. subst (λ (x : ℕ). OneRecord G (l .drive .image) (l .drive .map) (byName (s .user) (l .fcb)) x (targetRecord n (l .fcb)) d) (sym left-slot) w)
           (λ u x h. ap (λ (v : Book). v x) (same-book u)) whole;
       fcb = record {
         long = length-writtenFcb G (there .fcb) count j b r (crAfter n (l .fcb)) ∙ came .long;
@@ -185,7 +185,7 @@ module _ {G : Geometry} (S : Sound G) (n : ℕ) (l : Lent) (s : Session) (g : Go
         extent = extent-written G (there .fcb) count j b r (crAfter n (l .fcb)) j-real ∙ came .extent;
       };
       entry = t;
-      holds = subst (Holds G (viewOf G (left .image) (left .map)) (s .user) (left .fcb) t (targetRecord n (l .fcb))) (came .buffer) held;
+      holds = subst (Holds G (viewOf G (left .drive .image) (left .drive .map)) (s .user) (left .fcb) t (targetRecord n (l .fcb))) (came .buffer) held;
     }
 
   -- ---- a read
@@ -193,7 +193,7 @@ module _ {G : Geometry} (S : Sound G) (n : ℕ) (l : Lent) (s : Session) (g : Go
       → ReadOk G n (s .user) l (haveRead G b (targetRecord n (l .fcb)) (crAfter n (l .fcb)) there)
   unfolding haveRead
   read-ok there t b B came = record {
-    change = as-change G (byName (s .user) (l .fcb)) (byName (s .user) (l .fcb)) WritesNone WritesNone B (movedBook G n (s .user) l) (l .image) (l .map) (there .image) (there .map)
+    change = as-change G (byName (s .user) (l .fcb)) (byName (s .user) (l .fcb)) WritesNone WritesNone B (movedBook G n (s .user) l) (l .drive .image) (l .drive .map) (there .drive .image) (there .drive .map)
         (λ x h. h) (λ d w. w) (λ u x h. ap (λ (v : Book). v x) (came .book u)) (came .change);
     fcb = record {
       long = length-set (there .fcb) 32 (crAfter n (l .fcb)) ∙ came .long;
@@ -202,11 +202,11 @@ module _ {G : Geometry} (S : Sound G) (n : ℕ) (l : Lent) (s : Session) (g : Go
       extent = extent-read (there .fcb) (crAfter n (l .fcb)) ∙ came .extent;
     };
     entry = t;
-    cur = set-cur G (viewOf G (there .image) (there .map)) (s .user) (there .fcb) (crAfter n (l .fcb)) t (came .long) (crAfter-high n (l .fcb) cr) (came .cur);
+    cur = set-cur G (viewOf G (there .drive .image) (there .drive .map)) (s .user) (there .fcb) (crAfter n (l .fcb)) t (came .long) (crAfter-high n (l .fcb) cr) (came .cur);
   }
 
 -- ---- every plan
-module _ {G : Geometry} (S : Sound G) (n : ℕ) (l : Lent) (s : Session) (g : Good G (l .image) (l .map)) (f : Fits G l s) where
+module _ {G : Geometry} (S : Sound G) (n : ℕ) (l : Lent) (s : Session) (g : Good G (l .drive .image) (l .drive .map)) (f : Fits G l s) where
   current-cr : (e : ℕ) → presentEntry G (s .user) l ≡ At e → crOf (l .fcb) ≤ 128
   current-cr e at = fcb-says (l .fcb) (present-cur S n l s g f e at WritesNone .right) .cr
 
@@ -214,13 +214,13 @@ module _ {G : Geometry} (S : Sound G) (n : ℕ) (l : Lent) (s : Session) (g : Go
     write-plan : (p : Plan) → Planned G n (s .user) l (Block G n (s .user) l) p → WriteOk G n (s .user) l (writing G s l n p .lent)
     unfolding writtenAt
     write-plan p (stay e b at t target k) =
-        wrote-ok S n l s g f (current-cr e at) l e b _ (stay-came S n l s g f e at (OneRecord G (l .image) (l .map) (byName (s .user) (l .fcb)) b (targetRecord n (l .fcb))) t) k
+        wrote-ok S n l s g f (current-cr e at) l e b _ (stay-came S n l s g f e at (OneRecord G (l .drive .image) (l .drive .map) (byName (s .user) (l .fcb)) b (targetRecord n (l .fcb))) t) k
     write-plan p (move e t b at go target k) =
         wrote-ok S n l s g f (current-cr e at) (moved G (targetExtent n (l .fcb)) l e t) t b _
-        (move-came S n l s g f e at (OneRecord G (l .image) (l .map) (byName (s .user) (l .fcb)) b (targetRecord n (l .fcb))) go t target low) k
+        (move-came S n l s g f e at (OneRecord G (l .drive .image) (l .drive .map) (byName (s .user) (l .fcb)) b (targetRecord n (l .fcb))) go t target low) k
     write-plan p (make e t b at go none room k) =
         wrote-ok S n l s g f (current-cr e at) (made G (targetExtent n (l .fcb)) l e t) t b _
-        (make-came S n l s g f e at (OneRecord G (l .image) (l .map) (byName (s .user) (l .fcb)) b (targetRecord n (l .fcb))) go t room none low) k
+        (make-came S n l s g f e at (OneRecord G (l .drive .image) (l .drive .map) (byName (s .user) (l .fcb)) b (targetRecord n (l .fcb))) go t room none low) k
 
     read-plan : (B : ℕ → Type 0) (p : Plan) → Planned G n (s .user) l B p → ReadOk G n (s .user) l (reading G s l n p .lent)
     unfolding readAt

@@ -119,7 +119,7 @@ next G asked o = step G asked (o .lent) (o .answer .session)
 pub record SpaceIs (G : Geometry) (img : Bytes) (bytes : Bytes) (map fcb buffer : Bytes) (s : Session) (x y : ℕ) : Type 0 where
   pub login-a : step G (ask 13 x) (lend img map fcb buffer) s .answer .a ≡ 0
   pub login-h : step G (ask 13 x) (lend img map fcb buffer) s .answer .h ≡ 0
-  pub login-map : step G (ask 13 x) (lend img map fcb buffer) s .lent .map ≡ freshMap G (entryAt G img)
+  pub login-map : step G (ask 13 x) (lend img map fcb buffer) s .lent .drive .map ≡ freshMap G (entryAt G img)
   pub space-a : next G (ask 46 y) (step G (ask 13 x) (lend img map fcb buffer) s) .answer .a ≡ 0
   pub space-h : next G (ask 46 y) (step G (ask 13 x) (lend img map fcb buffer) s) .answer .h ≡ 0
   pub space-bytes : part (next G (ask 46 y) (step G (ask 13 x) (lend img map fcb buffer) s) .lent .buffer) 0 3 ≡ bytes

@@ -38,7 +38,7 @@ pub record Gives (G : Geometry) (n argument : ℕ) (l : Lent) (s : Session) (byt
   pub is-random : part (step G (ask n argument) l s .lent .fcb) 33 3 ≡ bytes
 
 gives-three : (G : Geometry) (n argument : ℕ) (l : Lent) (s : Session) (value : ℕ) → length (l .fcb) ≡ 36
-    → step G (ask n argument) l s ≡ done 0 s (lend (l .image) (l .map) (splice (l .fcb) 33 (threeBytes value)) (l .buffer))
+    → step G (ask n argument) l s ≡ done 0 s (lend (l .drive .image) (l .drive .map) (splice (l .fcb) 33 (threeBytes value)) (l .buffer))
     → Gives G n argument l s (threeBytes value)
 gives-three G n argument l s value long q =
     record { is-a = rw q; is-h = rw q; is-random = rw q (part-splice-same (l .fcb) 33 (threeBytes value) (omega arith)) }
@@ -63,7 +63,7 @@ position-256 G argument l s ready ext cr =
 -- ---- 35: the largest of 128 × extent + rc over the name's entries
 pub size-step : (G : Geometry) (argument : ℕ) (l : Lent) (s : Session) → Ready G (ask 35 argument) l s → Sizes G l s
     → step G (ask 35 argument) l s
-    ≡ done 0 s (lend (l .image) (l .map) (splice (l .fcb) 33 (threeBytes (fileSize G (rowsOf G l) (named false (s .user) (l .fcb) 1)))) (l .buffer))
+    ≡ done 0 s (lend (l .drive .image) (l .drive .map) (splice (l .fcb) 33 (threeBytes (fileSize G (rowsOf G l) (named false (s .user) (l .fcb) 1)))) (l .buffer))
 unfolding sized effect told isCall kindOf
 size-step G argument l s ready p = step-carried G (ask 35 argument) l s refl ready (sizes-right G argument l s p)
 
@@ -86,7 +86,7 @@ some-entry G l s ext count h =
     (λ f. not-both _ (h .mine) (none-says (λ (e : ℕ). named false (s .user) (l .fcb) 1 (rowsOf G l e)) 0 (G .entries) (not-found _ f) (h .entry) (omega arith) (h .below)))
 
 -- no entry of a consistent image is larger than 262,144 records
-entry-high : (G : Geometry) (l : Lent) (s : Session) → consistent G (l .image) ≡ true → s .user ≤ 15
+entry-high : (G : Geometry) (l : Lent) (s : Session) → consistent G (l .drive .image) ≡ true → s .user ≤ 15
     → (e : ℕ) → e < G .entries → named false (s .user) (l .fcb) 1 (rowsOf G l e) ≡ true → endOf (rowsOf G l e) ≤ 262144
 unfolding consistent consistentRows named
 entry-high G l s right low e below mine =

@@ -204,4 +204,4 @@ module _ (img : Bytes) (erased : ErasedDisk eightInch img) (r : ℕ) (low : r �
       record { entry = 0; below = omega arith; mine = rw (zero-user, one-row) (file-asked r); extent = rw one-row (file-run r); counted = rw one-row (file-count r) } in
       let size : fileSize eightInch (rowsOf eightInch l) (named false (s .user) fileFcb 1) ≡ r = rw zero-user one-size in
       size-step eightInch x l (ended s) ready record { name = fcb-name; some = some-entry eightInch l (ended s) 0 r has }
-      ∙ ap (λ (k : ℕ). done 0 s (lend (l .image) (l .map) (splice fileFcb 33 (threeBytes k)) buffer)) size
+      ∙ ap (λ (k : ℕ). done 0 s (lend (l .drive .image) (l .drive .map) (splice fileFcb 33 (threeBytes k)) buffer)) size

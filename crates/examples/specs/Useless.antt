@@ -52,7 +52,7 @@ pub record Forgets (b : Build) : Type 0 where
   pub taken-h : b place (ask 21 0) lent session .answer .h ≡ 0
   pub same-extent : targetExtent 33 (b place (ask 21 0) lent session .lent .fcb) ≡ targetExtent 21 (lent .fcb)
   pub same-record : targetRecord 33 (b place (ask 21 0) lent session .lent .fcb) ≡ targetRecord 21 (lent .fcb)
-  pub lost : b (suc place) (ask 33 0) (lend (b place (ask 21 0) lent session .lent .image) (b place (ask 21 0) lent session .lent .map)
+  pub lost : b (suc place) (ask 33 0) (lend (b place (ask 21 0) lent session .lent .drive .image) (b place (ask 21 0) lent session .lent .drive .map)
       (b place (ask 21 0) lent session .lent .fcb) empty) (b place (ask 21 0) lent session .answer .session) .lent .buffer ≡ lent .buffer → ⊥
 
 -- ---- what the builds are run on: user 0 with no search, an empty buffer, an FCB of file A, and any map

@@ -51,14 +51,14 @@ module _ (G : Geometry) (single : (x : ℕ) → runOf G x ≡ x) (n : ℕ) (fcb 
       (λ w. w ∙ sym (ne-eqb (targetExtent n fcb) (extentOf fcb) (λ q. not-both _ (eq-eqb _ _ (ap (runOf G) (sym q))) w)))
 
 -- the present extent is closed, then the FCB takes bytes 1 to 31 of the target's entry
-pub moved-own : (ext : ℕ) (l : Lent) (e t : ℕ) → Long eightInch (l .image) → e < eightInch .entries → t < eightInch .entries → (t ≡ e → ⊥)
+pub moved-own : (ext : ℕ) (l : Lent) (e t : ℕ) → Long eightInch (l .drive .image) → e < eightInch .entries → t < eightInch .entries → (t ≡ e → ⊥)
     → covers eightInch (rowsOf eightInch l t) ext ≡ true
     → moved eightInch ext l e t
-    ≡ lend (closedImage eightInch (l .image) e (l .fcb)) (closedMap eightInch (rowsOf eightInch l e) (l .fcb) (l .map))
+    ≡ lend (closedImage eightInch (l .drive .image) e (l .fcb)) (closedMap eightInch (rowsOf eightInch l e) (l .fcb) (l .drive .map))
     (copied (l .fcb) (interfaceCleared (rowsOf eightInch l t))) (l .buffer)
 unfolding moved
 moved-own ext l e t long he ht other h =
-    rw (row-closedImage-other eight-sound (l .image) long e he (l .fcb) t ht other, entered-own (l .fcb) (rowsOf eightInch l t) ext h)
+    rw (row-closedImage-other eight-sound (l .drive .image) long e he (l .fcb) t ht other, entered-own (l .fcb) (rowsOf eightInch l t) ext h)
 
 -- ---- a close
 -- each slot where the entry has 0 and the FCB doesn't takes the FCB's block

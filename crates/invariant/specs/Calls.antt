@@ -31,23 +31,23 @@ use Rattle.invariant.specs.RecordCalls.{good-present, good-read, good-wr
 
 -- image and map of an outcome are good
 abbrev pub GoodOutcome : Geometry → Outcome → Type 0
-GoodOutcome G o = Good G (o .lent .image) (o .lent .map)
+GoodOutcome G o = Good G (o .lent .drive .image) (o .lent .drive .map)
 
 module _ {G : Geometry} (S : Sound G) (l : Lent) (s : Session) (f : Fits G l s) where
   -- ---- call by call
   -- 13 asks no more than a consistent image
-  pub logged-in-good : consistent G (l .image) ≡ true → GoodOutcome G (loggedIn G s l)
+  pub logged-in-good : consistent G (l .drive .image) ≡ true → GoodOutcome G (loggedIn G s l)
   unfolding loggedIn
-  logged-in-good t = good-fresh G (l .image) (f .image-long) t
+  logged-in-good t = good-fresh G (l .drive .image) (f .image-long) t
 
-  module _ (g : Good G (l .image) (l .map)) where
+  module _ (g : Good G (l .drive .image) (l .drive .map)) where
     closed-good : Closes G l s → GoodOutcome G (closed G s l)
     unfolding closed closedAt
     closed-good c = rw (c .entry .is) (good-present S 16 l s g f (c .entry .place) (c .entry .is))
 
     deleted-good : GoodOutcome G (deleted G s l)
     unfolding deleted
-    deleted-good = good-erased S (l .image) (l .map) g (deletes G s l)
+    deleted-good = good-erased S (l .drive .image) (l .drive .map) g (deletes G s l)
 
     created-good : Makes G l s → GoodOutcome G (created G s l)
     unfolding created createdAt askedEntry
@@ -56,7 +56,7 @@ module _ {G : Geometry} (S : Sound G) (l : Lent) (s : Session) (f : Fits G l s) 
         let row : Bytes = madeRow (s .user) (l .fcb) in
         let found = empty-says G (rowsOf G l) t (m .entry .is) in
         rw (m .entry .is)
-        (good-made S (l .image) (l .map) g t (found .below) (found .holds) row (length-madeRow (s .user) (l .fcb))
+        (good-made S (l .drive .image) (l .drive .map) g t (found .below) (found .holds) row (length-madeRow (s .user) (l .fcb))
         (fine-made G (s .user) (l .fcb) (f .user-low) (m .name) (m .ex)) (λ j h. slot-made (s .user) (l .fcb) G j) (s .user) (l .fcb) 1 (exOf (l .fcb))
         (file-intro G (s .user) (l .fcb) 1 (exOf (l .fcb)) row
         (named-intro false (s .user) (l .fcb) 1 row (user-made (s .user) (l .fcb)) (like-intro (l .fcb) 1 row 1 (λ i b. sym (name-made (s .user) (l .fcb) i b))))
@@ -65,7 +65,7 @@ module _ {G : Geometry} (S : Sound G) (l : Lent) (s : Session) (f : Fits G l s) 
 
     renamed-good : Renames G l s → GoodOutcome G (renamed G s l)
     unfolding renamed
-    renamed-good r = good-renamed S (l .image) (l .map) g (s .user) (f .user-low) (l .fcb) (r .new-name) (r .new)
+    renamed-good r = good-renamed S (l .drive .image) (l .drive .map) g (s .user) (f .user-low) (l .fcb) (r .new-name) (r .new)
 
     user-good : (argument : ℕ) → GoodOutcome G (userSet G s l argument)
     unfolding userSet
@@ -75,7 +75,7 @@ module _ {G : Geometry} (S : Sound G) (l : Lent) (s : Session) (f : Fits G l s) 
     unfolding settled freed
     settled-good asked =
         split (bool-cases (eqb (asked .number) 13))
-        (λ t. rw t (logged-in-good (good-consistent G (l .image) (l .map) g))) (λ t. rw t (good-freed G (l .image) (l .map) g))
+        (λ t. rw t (logged-in-good (good-consistent G (l .drive .image) (l .drive .map) g))) (λ t. rw t (good-freed G (l .drive .image) (l .drive .map) g))
 
     pub carried-good : (asked : Asked) → AcceptedCall G asked l s → (k : Kind) → kindOf (asked .number) ≡ k → GoodOutcome G (does G asked l s k)
     unfolding searched foundAt

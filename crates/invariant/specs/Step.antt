@@ -27,22 +27,22 @@ module _ {G : Geometry} (S : Sound G) where
       split (eq-or-ne (asked .number) 13)
       (λ q. subst (λ (k : ℕ). GoodOutcome G (effect G (ask k (asked .argument)) l s)) (sym q) (logged-in-good S l s (a .ready .fits) (a .ready .image-right)))
       (λ q. carried-good S l s (a .ready .fits)
-      (good-of G (l .image) (l .map) (a .ready .fits .image-long) (a .ready .fits .map-long) (a .ready .image-right) (a .ready .map-right q)) asked a (kindOf (asked .number)) refl)
+      (good-of G (l .drive .image) (l .drive .map) (a .ready .fits .image-long) (a .ready .fits .map-long) (a .ready .image-right) (a .ready .map-right q)) asked a (kindOf (asked .number)) refl)
 
   module _ (asked : Asked) (l : Lent) (s : Session) where
     pub step-accepted : CarriedOut G asked l s → GoodOutcome G (step G asked l s)
     step-accepted c = subst (GoodOutcome G) (sym (c .is)) (accepted-good asked l s (c .facts))
 
     -- ---- every call
-    pub step-good : Good G (l .image) (l .map) → GoodOutcome G (step G asked l s)
+    pub step-good : Good G (l .drive .image) (l .drive .map) → GoodOutcome G (step G asked l s)
     step-good g =
-        split (total G asked l s) (λ r. subst (λ (t : Lent). Good G (t .image) (t .map)) (sym (r .1 .kept)) g) (λ c. step-accepted c)
+        split (total G asked l s) (λ r. subst (λ (t : Lent). Good G (t .drive .image) (t .drive .map)) (sym (r .1 .kept)) g) (λ c. step-accepted c)
 
 -- ---- 255, 1
-pub good-never-one : (G : Geometry) (asked : Asked) (l : Lent) (s : Session) → Good G (l .image) (l .map) → step G asked l s .answer .h ≡ 1 → ⊥
+pub good-never-one : (G : Geometry) (asked : Asked) (l : Lent) (s : Session) → Good G (l .drive .image) (l .drive .map) → step G asked l s .answer .h ≡ 1 → ⊥
 unfolding verdict
 good-never-one G asked l s g q =
     split (total G asked l s)
-    (λ r. never-bad-disk G asked l s (r .0) (sym (r .1 .is-h) ∙ q) (good-consistent G (l .image) (l .map) g) (good-right G (l .image) (l .map) g)
+    (λ r. never-bad-disk G asked l s (r .0) (sym (r .1 .is-h) ∙ q) (good-consistent G (l .drive .image) (l .drive .map) g) (good-right G (l .drive .image) (l .drive .map) g)
     (decides-refused (r .0) (table G asked l s) (r .1 .row)))
     (λ c. let z : 0 ≡ 1 = sym (c .done .no-error) ∙ q in omega arith)

@@ -40,7 +40,7 @@ abbrev pub tell : ℕ → Bytes → Bytes → Told
 tell e f b = record { entry = e; fcb = f; buffer = b }
 
 abbrev pub quietly : Told → Session → Lent → Outcome
-quietly t s l = done (entryNumber (t .entry)) s (lend (l .image) (l .map) (t .fcb) (t .buffer))
+quietly t s l = done (entryNumber (t .entry)) s (lend (l .drive .image) (l .drive .map) (t .fcb) (t .buffer))
 
 -- ---- rows that a test picks are changed, one after the other
 unfoldable pub changedRow : Geometry → (Bytes → Bool) → (Bytes → Bytes) → Bytes → ℕ → Bytes
@@ -63,11 +63,11 @@ fileSize G d picks = foldBelow (largerSize d picks) 0 (G .entries)
 module _ (G : Geometry) (s : Session) (l : Lent) where
   -- 13: the map becomes the fresh map
   unfoldable pub loggedIn : Outcome
-  loggedIn = done 0 s (lend (l .image) (freshMap G (rowsOf G l)) (l .fcb) (l .buffer))
+  loggedIn = done 0 s (lend (l .drive .image) (freshMap G (rowsOf G l)) (l .fcb) (l .buffer))
 
   -- 98: every pending note becomes 0
   unfoldable pub freed : Outcome
-  freed = done 0 s (lend (l .image) (freedMap G (l .map)) (l .fcb) (l .buffer))
+  freed = done 0 s (lend (l .drive .image) (freedMap G (l .drive .map)) (l .fcb) (l .buffer))
 
   -- 32: argument 255 returns the user in A; otherwise sets it
   unfoldable pub userSet : ℕ → Outcome
@@ -84,7 +84,7 @@ module _ (G : Geometry) (s : Session) (l : Lent) where
   unfoldable pub closedAt : ℕ → Outcome
   closedAt e =
       done (entryNumber e) s
-      (lend (closedImage G (l .image) e (l .fcb)) (closedMap G (rowsOf G l e) (l .fcb) (l .map)) (closedFcb (l .fcb)) (l .buffer))
+      (lend (closedImage G (l .drive .image) e (l .fcb)) (closedMap G (rowsOf G l e) (l .fcb) (l .drive .map)) (closedFcb (l .fcb)) (l .buffer))
 
   unfoldable pub closed : Outcome
   closed = closedAt (numberOf (G .entries) (presentEntry G (s .user) l))
@@ -93,7 +93,7 @@ module _ (G : Geometry) (s : Session) (l : Lent) where
   unfoldable pub foundAt : Bytes → ℕ → Outcome
   foundAt pattern e =
       ends (Accepted (entryNumber e)) (searching s pattern (e + 1))
-      (lend (l .image) (l .map) (l .fcb) (recordAt G (l .image) (e / entriesPerRecord)))
+      (lend (l .drive .image) (l .drive .map) (l .fcb) (recordAt G (l .drive .image) (e / entriesPerRecord)))
 
   unfoldable pub searched : Bytes → ℕ → Outcome
   searched pattern place = foundAt pattern (numberOf (G .entries) (findHit G (rowsOf G l) (s .user) pattern place))
@@ -105,21 +105,21 @@ module _ (G : Geometry) (s : Session) (l : Lent) where
   unfoldable pub deleted : Outcome
   deleted =
       done 0 s
-      (lend (changedRows G deletes erasedRow (l .image)) (releasedMap G (rowsOf G l) (λ (e : ℕ). deletes (rowsOf G l e)) (l .map))
+      (lend (changedRows G deletes erasedRow (l .drive .image)) (releasedMap G (rowsOf G l) (λ (e : ℕ). deletes (rowsOf G l e)) (l .drive .map))
       (l .fcb) (l .buffer))
 
   -- 22: the first empty entry becomes the new file's; FCB bytes 1 to 31 become the same
   unfoldable pub createdAt : ℕ → Outcome
   createdAt e =
       done (entryNumber e) s
-      (lend (withEntry G (l .image) e (madeRow (s .user) (l .fcb))) (l .map) (copied (l .fcb) (madeRow (s .user) (l .fcb))) (l .buffer))
+      (lend (withEntry G (l .drive .image) e (madeRow (s .user) (l .fcb))) (l .drive .map) (copied (l .fcb) (madeRow (s .user) (l .fcb))) (l .buffer))
 
   unfoldable pub created : Outcome
   created = createdAt (numberOf (G .entries) (findEmpty G (rowsOf G l)))
 
   -- 23: in every extent the name becomes FCB bytes 17 to 27
   unfoldable pub renamed : Outcome
-  renamed = done 0 s (lend (changedRows G (named false (s .user) (l .fcb) 1) (renamedRow (l .fcb)) (l .image)) (l .map) (l .fcb) (l .buffer))
+  renamed = done 0 s (lend (changedRows G (named false (s .user) (l .fcb) 1) (renamedRow (l .fcb)) (l .drive .image)) (l .drive .map) (l .fcb) (l .buffer))
 
   -- 20, 33: the FCB comes to the target's extent; the buffer gets the record
   unfoldable pub readAt : ℕ → ℕ → Lent → Outcome
@@ -156,4 +156,4 @@ module _ (G : Geometry) (s : Session) (l : Lent) where
 
   -- 46: the records of the free blocks, lowest byte first
   unfoldable pub space : Told
-  space = tell 0 (l .fcb) (splice (l .buffer) 0 (threeBytes (G .perBlock * freeCount G (l .map))))
+  space = tell 0 (l .fcb) (splice (l .buffer) 0 (threeBytes (G .perBlock * freeCount G (l .drive .map))))

@@ -9,19 +9,23 @@ use Rattle.model.specs.declared.Answer.{Answer}
 use Rattle.model.specs.declared.Code.{Code}
 use Rattle.model.specs.Codes.{aOf, hOf}
 
--- the four buffers
-pub record Lent : Type 0 where
+-- a diskette in its drive: the image and its map
+pub record Drive : Type 0 where
   pub image : Bytes
   pub map : Bytes
+
+-- the four buffers
+pub record Lent : Type 0 where
+  pub drive : Drive
   pub fcb : Bytes
   pub buffer : Bytes
 
 abbrev pub lend : Bytes → Bytes → Bytes → Bytes → Lent
-lend i m f b = record { image = i; map = m; fcb = f; buffer = b }
+lend i m f b = record { drive = record { image = i; map = m }; fcb = f; buffer = b }
 
 -- the rows of the directory, as they were lent
 abbrev pub rowsOf : Geometry → Lent → Rows
-rowsOf G l = entryAt G (l .image)
+rowsOf G l = entryAt G (l .drive .image)
 
 -- what a call leaves: A, H, the session and the four buffers
 pub record Outcome : Type 0 where

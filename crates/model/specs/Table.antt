@@ -30,7 +30,7 @@ use Rattle.model.specs.Search.{patternOf, findHit}
 module _ (G : Geometry) (l : Lent) where
   unfoldable pub lengthsRight : Bool
   lengthsRight =
-      isLong G (l .image) and eqb (length (l .map)) (G .blocks) and eqb (length (l .fcb)) fcbBytes
+      isLong G (l .drive .image) and eqb (length (l .drive .map)) (G .blocks) and eqb (length (l .fcb)) fcbBytes
       and eqb (length (l .buffer)) recordBytes
 
   -- a length, the session's user or place, or byte 0 of an FCB that is used
@@ -39,7 +39,7 @@ module _ (G : Geometry) (l : Lent) where
       lengthsRight and leb (s .user) 15 and leb (s .place) (G .entries) and (not (usesFcb (asked .number)) or leb (getD (l .fcb) 0 0) 1)
 
   unfoldable pub diskRight : Asked → Bool
-  diskRight asked = consistent G (l .image) and (eqb (asked .number) 13 or mapRight G (rowsOf G l) (l .map))
+  diskRight asked = consistent G (l .drive .image) and (eqb (asked .number) 13 or mapRight G (rowsOf G l) (l .drive .map))
 
   -- some extent of the name in the FCB at q is there
   unfoldable pub anyNamed : Bool → ℕ → ℕ → Bool
@@ -131,7 +131,7 @@ module _ (G : Geometry) (asked : Asked) (l : Lent) (s : Session) where
       ∷ row (21 ∷ []) (not (isFound (targetEntry G (asked .number) (s .user) l)) and not (isFound (findEmpty G (rowsOf G l)))) NoRecord
       ∷ row (34 ∷ []) (not (isFound (targetEntry G (asked .number) (s .user) l)) and not (isFound (findEmpty G (rowsOf G l)))) NoEntry
       -- 2, 0
-      ∷ row (21 ∷ 34 ∷ []) (eqb (blockThere G (asked .number) (s .user) l) 0 and not (isFound (findFree G (l .map)))) DiskFull
+      ∷ row (21 ∷ 34 ∷ []) (eqb (blockThere G (asked .number) (s .user) l) 0 and not (isFound (findFree G (l .drive .map)))) DiskFull
       ∷ []
 
   -- those of this call

@@ -33,7 +33,7 @@ crAfter n fcb = cond (isRandom n) (targetRecord n fcb) (targetRecord n fcb + 1)
 
 -- the FCB's own entry
 unfoldable pub presentEntry : Geometry → ℕ → Lent → Found
-presentEntry G user l = current G (rowsOf G l) (l .map) user (l .fcb)
+presentEntry G user l = current G (rowsOf G l) (l .drive .map) user (l .fcb)
 
 -- the target's extent is the FCB's: no move
 unfoldable pub stays : ℕ → Bytes → Bool
@@ -79,7 +79,7 @@ module _ (G : Geometry) (n user : ℕ) (l : Lent) where
 
   -- a slot of 0 takes the first free block
   unfoldable pub targetBlock : ℕ
-  targetBlock = cond (eqb blockThere 0) (numberOf (G .blocks) (findFree G (l .map))) blockThere
+  targetBlock = cond (eqb blockThere 0) (numberOf (G .blocks) (findFree G (l .drive .map))) blockThere
 
   -- t1' in the FCB's entry or in the target's
   unfoldable pub readOnlyThere : Bool
@@ -101,21 +101,21 @@ module _ (G : Geometry) (n user : ℕ) (l : Lent) where
 -- attributes
 unfoldable pub moved : Geometry → ℕ → Lent → ℕ → ℕ → Lent
 moved G ext l e t =
-    let img = closedImage G (l .image) e (l .fcb) in
-    lend img (closedMap G (rowsOf G l e) (l .fcb) (l .map)) (entered (l .fcb) (entryAt G img t) ext) (l .buffer)
+    let img = closedImage G (l .drive .image) e (l .fcb) in
+    lend img (closedMap G (rowsOf G l e) (l .fcb) (l .drive .map)) (entered (l .fcb) (entryAt G img t) ext) (l .buffer)
 
 -- ext is the new entry's extent
 unfoldable pub made : Geometry → ℕ → Lent → ℕ → ℕ → Lent
 made G ext l e t =
     let next = nextRow (rowsOf G l e) ext in
-    lend (withEntry G (closedImage G (l .image) e (l .fcb)) t next) (closedMap G (rowsOf G l e) (l .fcb) (l .map)) (entered (l .fcb) next ext) (l .buffer)
+    lend (withEntry G (closedImage G (l .drive .image) e (l .fcb)) t next) (closedMap G (rowsOf G l e) (l .fcb) (l .drive .map)) (entered (l .fcb) next ext) (l .buffer)
 
 -- ---- reading and writing record r of an extent, in block b, with the FCB come to that extent; cr afterwards is given
 unfoldable pub placeIn : Geometry → ℕ → ℕ → ℕ
 placeIn G b r = diskRecord G b (r % G .perBlock)
 
 unfoldable pub haveRead : Geometry → ℕ → ℕ → ℕ → Lent → Lent
-haveRead G b r cr l = lend (l .image) (l .map) (set (l .fcb) 32 cr) (recordAt G (l .image) (placeIn G b r))
+haveRead G b r cr l = lend (l .drive .image) (l .drive .map) (set (l .fcb) 32 cr) (recordAt G (l .drive .image) (placeIn G b r))
 
 -- the FCB's rc becomes the largest of its own, the entry's and target + 1; the entry's is handed in
 unfoldable pub writtenCount : Bytes → ℕ → ℕ → ℕ
@@ -131,5 +131,5 @@ writtenMap G map fcb t j b = cond (eqb (slotOf G fcb j) 0) (withNote map b (pend
 -- record r goes to block b, in slot j of entry t
 unfoldable pub haveWritten : Geometry → ℕ → ℕ → ℕ → ℕ → ℕ → Lent → Lent
 haveWritten G t j b r cr l =
-    lend (withRecord G (l .image) (placeIn G b r) (l .buffer)) (writtenMap G (l .map) (l .fcb) t j b)
-    (writtenFcb G (l .fcb) (countIn (entryAt G (l .image) t) (extentOf (l .fcb))) j b r cr) (l .buffer)
+    lend (withRecord G (l .drive .image) (placeIn G b r) (l .buffer)) (writtenMap G (l .drive .map) (l .fcb) t j b)
+    (writtenFcb G (l .fcb) (countIn (entryAt G (l .drive .image) t) (extentOf (l .fcb))) j b r cr) (l .buffer)

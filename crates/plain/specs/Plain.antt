@@ -27,20 +27,20 @@ use Rattle.table.specs.OwnStep.{ownStep, carries-own}
 module _ (G : Geometry) (argument : ℕ) (l : Lent) (s : Session) where
   -- ---- 13
   pub logged-in : (r : Answer) (map : Bytes) → r ≡ answerOf (Accepted 0) (ended s) → map ≡ freshMap G (rowsOf G l)
-      → outcome r (l .image) map (l .fcb) (l .buffer) ≡ ownStep G (ask 13 argument) l s
+      → outcome r (l .drive .image) map (l .fcb) (l .buffer) ≡ ownStep G (ask 13 argument) l s
   unfolding loggedIn effect kindOf settled
   logged-in r map a m = carries-own G (ask 13 argument) l s _ tt (rw (a, m))
 
   -- ---- 98
-  pub pending-freed : (r : Answer) (map : Bytes) → r ≡ answerOf (Accepted 0) (ended s) → map ≡ freedMap G (l .map)
-      → outcome r (l .image) map (l .fcb) (l .buffer) ≡ ownStep G (ask 98 argument) l s
+  pub pending-freed : (r : Answer) (map : Bytes) → r ≡ answerOf (Accepted 0) (ended s) → map ≡ freedMap G (l .drive .map)
+      → outcome r (l .drive .image) map (l .fcb) (l .buffer) ≡ ownStep G (ask 98 argument) l s
   unfolding freed effect kindOf settled
   pending-freed r map a m = carries-own G (ask 98 argument) l s _ tt (rw (a, m))
 
   -- ---- 46
   pub space-told : (r : Answer) (buffer : Bytes) → r ≡ answerOf (Accepted 0) (ended s)
-      → buffer ≡ splice (l .buffer) 0 (threeBytes (G .perBlock * freeCount G (l .map)))
-      → outcome r (l .image) (l .map) (l .fcb) buffer ≡ ownStep G (ask 46 argument) l s
+      → buffer ≡ splice (l .buffer) 0 (threeBytes (G .perBlock * freeCount G (l .drive .map)))
+      → outcome r (l .drive .image) (l .drive .map) (l .fcb) buffer ≡ ownStep G (ask 46 argument) l s
   unfolding space effect kindOf told
   space-told r buffer a b = carries-own G (ask 46 argument) l s _ tt (rw (a, b))
 
@@ -50,13 +50,13 @@ module _ (G : Geometry) (argument : ℕ) (l : Lent) (s : Session) where
 
   pub position-told : (r : Answer) (fcb : Bytes) → positionRight (l .fcb) ≡ true → r ≡ answerOf (Accepted 0) (ended s)
       → fcb ≡ splice (l .fcb) 33 (threeBytes (extentRecords * extentOf (l .fcb) + crOf (l .fcb)))
-      → outcome r (l .image) (l .map) fcb (l .buffer) ≡ ownStep G (ask 36 argument) l s
+      → outcome r (l .drive .image) (l .drive .map) fcb (l .buffer) ≡ ownStep G (ask 36 argument) l s
   unfolding positioned effect kindOf told
   position-told r fcb h a f = carries-own G (ask 36 argument) l s _ (ap not h, tt) (rw (a, f))
 
   -- ---- 32: the user is asked for, refused, set
   pub user-told : (r : Answer) → argument ≡ 255 → r ≡ answerOf (Accepted (s .user)) (ended s)
-      → outcome r (l .image) (l .map) (l .fcb) (l .buffer) ≡ ownStep G (ask 32 argument) l s
+      → outcome r (l .drive .image) (l .drive .map) (l .fcb) (l .buffer) ≡ ownStep G (ask 32 argument) l s
   unfolding userSet effect kindOf
   user-told r h a =
       let t : eqb argument 255 ≡ true = eq-eqb _ _ h in
@@ -66,7 +66,7 @@ module _ (G : Geometry) (argument : ℕ) (l : Lent) (s : Session) where
   user-refused n h = here (ap not (or-then _ _ (ne-eqb _ _ n) ∙ lt-leb argument 15 h)) refl
 
   pub user-set : (r : Answer) (t : Session) → (argument ≡ 255 → ⊥) → argument ≤ 15 → r ≡ answerOf (Accepted 0) (ended t) → t ≡ withUser s argument
-      → outcome r (l .image) (l .map) (l .fcb) (l .buffer) ≡ ownStep G (ask 32 argument) l s
+      → outcome r (l .drive .image) (l .drive .map) (l .fcb) (l .buffer) ≡ ownStep G (ask 32 argument) l s
   unfolding userSet effect kindOf
   user-set r t n h a q =
       let f : eqb argument 255 ≡ false = ne-eqb _ _ n in

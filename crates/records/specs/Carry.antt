@@ -74,20 +74,20 @@ block-on-disk G (Move e t b) w = w .2
 block-on-disk G (Make e t b) w = w .2
 
 -- the FCB has the extent of the entry that it has come to
-pub arrived-own : {G : Geometry} (S : Sound G) (ext : ℕ) (l : Lent) (p : Plan) → Long G (l .image) → length (l .fcb) ≡ fcbBytes → OnDisk G p
-    → OwnExtent G (l .image) (l .fcb) ext p → extentOf (arrived G ext l p .fcb) ≡ extentOf (entryAt G (arrived G ext l p .image) (entryOf p))
+pub arrived-own : {G : Geometry} (S : Sound G) (ext : ℕ) (l : Lent) (p : Plan) → Long G (l .drive .image) → length (l .fcb) ≡ fcbBytes → OnDisk G p
+    → OwnExtent G (l .drive .image) (l .fcb) ext p → extentOf (arrived G ext l p .fcb) ≡ extentOf (entryAt G (arrived G ext l p .drive .image) (entryOf p))
 unfolding moved made
 arrived-own {G} S ext l (Stay e b) long hf w own = sym own
 arrived-own {G} S ext l (Move e t b) long hf w own =
-    let shut : Bytes = closedImage G (l .image) e (l .fcb) in
-    let kept : Long G shut = long-on G (length-closedImage S (l .image) long e (w .0) (l .fcb)) long in
+    let shut : Bytes = closedImage G (l .drive .image) e (l .fcb) in
+    let kept : Long G shut = long-on G (length-closedImage S (l .drive .image) long e (w .0) (l .fcb)) long in
     let whole = length-entryAt S shut kept t (w .1) in
     extent-entered (l .fcb) (entryAt G shut t) ext (omega arith) (omega arith) ∙ sym own
 arrived-own {G} S ext l (Make e t b) long hf w own =
-    let shut : Bytes = closedImage G (l .image) e (l .fcb) in
-    let kept : Long G shut = long-on G (length-closedImage S (l .image) long e (w .0) (l .fcb)) long in
-    let row : Bytes = entryAt G (l .image) e in
-    let whole = length-entryAt S (l .image) long e (w .0) in
+    let shut : Bytes = closedImage G (l .drive .image) e (l .fcb) in
+    let kept : Long G shut = long-on G (length-closedImage S (l .drive .image) long e (w .0) (l .fcb)) long in
+    let row : Bytes = entryAt G (l .drive .image) e in
+    let whole = length-entryAt S (l .drive .image) long e (w .0) in
     let next : Bytes = nextRow row ext in
     let full : length next ≡ entryBytes = length-nextRow row ext whole in
     extent-entered (l .fcb) next ext (omega arith) (omega arith) ∙ sym (extent-next row ext whole)

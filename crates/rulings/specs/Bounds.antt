@@ -71,23 +71,23 @@ follow-plan : (v : Verdict) (q p : Plan) → rulingOf v q ≡ Follow p → q ≡
 follow-plan Passed q p h = cc
 follow-plan (Refused code) q p h = absurd (let z : _≡_ {A = ℕ} 0 1 = cc in omega arith)
 
-module _ {G : Geometry} (S : Sound G) (single : (x : ℕ) → runOf G x ≡ x) (n : ℕ) (l : Lent) (s : Session) (image-long : Long G (l .image))
-    (map-long : length (l .map) ≡ G .blocks) (right : consistent G (l .image) ≡ true) (low : s .user ≤ 15) where
+module _ {G : Geometry} (S : Sound G) (single : (x : ℕ) → runOf G x ≡ x) (n : ℕ) (l : Lent) (s : Session) (image-long : Long G (l .drive .image))
+    (map-long : length (l .drive .map) ≡ G .blocks) (right : consistent G (l .drive .image) ≡ true) (low : s .user ≤ 15) where
   -- the entry of a file that was found: a block in a slot of it
   row-block : (name : Bytes) (q ext t j b : ℕ) → findFile G (rowsOf G l) (s .user) name q ext ≡ At t → j < slotCount → slotOf G (rowsOf G l t) j ≡ b
       → (b ≡ 0 → ⊥) → b < G .blocks
   row-block name q ext t j b found h is real =
       let first = file-says G (rowsOf G l) (s .user) name q ext t found in
-      let fine = image-facts G (l .image) right .fine t (first .below) (file-used G (s .user) name q ext (rowsOf G l t) (first .holds) low) in
+      let fine = image-facts G (l .drive .image) right .fine t (first .below) (file-used G (s .user) name q ext (rowsOf G l t) (first .holds) low) in
       subst (λ (x : ℕ). x < G .blocks) is (fine .high j h (λ z. real (sym is ∙ z)))
 
   module _ (e : ℕ) (at : presentEntry G (s .user) l ≡ At e) where
-    present : Current G (rowsOf G l) (l .map) (s .user) (l .fcb) e
+    present : Current G (rowsOf G l) (l .drive .map) (s .user) (l .fcb) e
     unfolding presentEntry
-    present = current-says G (rowsOf G l) (l .map) (s .user) (l .fcb) e at
+    present = current-says G (rowsOf G l) (l .drive .map) (s .user) (l .fcb) e at
 
     e-below : e < G .entries
-    e-below = current-low G (rowsOf G l) (l .map) (s .user) (l .fcb) e present
+    e-below = current-low G (rowsOf G l) (l .drive .map) (s .user) (l .fcb) e present
 
     record-low : targetRecord n (l .fcb) < 128
     record-low = record-below n (l .fcb) (fcb-says (l .fcb) (present .right) .cr)
@@ -100,12 +100,12 @@ module _ {G : Geometry} (S : Sound G) (single : (x : ℕ) → runOf G x ≡ x) (
 
     -- a block in a slot of the FCB
     fcb-block : (j b : ℕ) → j < slotCount → slotOf G (l .fcb) j ≡ b → (b ≡ 0 → ⊥) → b < G .blocks
-    fcb-block j b h is real = fits (current-slot G (rowsOf G l) (l .map) (s .user) (l .fcb) e present j h)
+    fcb-block j b h is real = fits (current-slot G (rowsOf G l) (l .drive .map) (s .user) (l .fcb) e present j h)
       where
-        fits : SlotOk G (l .map) e (rowsOf G l e) (l .fcb) j → b < G .blocks
+        fits : SlotOk G (l .drive .map) e (rowsOf G l e) (l .fcb) j → b < G .blocks
         fits (slot-same q) = row-block (l .fcb) 1 _ e j b (present .found) h (sym q ∙ is) real
         fits (slot-pending z q) =
-            subst (λ (x : ℕ). b < x) map-long (pending-block (l .map) b e j (ap (noteAt (l .map)) (sym is) ∙ q))
+            subst (λ (x : ℕ). b < x) map-long (pending-block (l .drive .map) b e j (ap (noteAt (l .drive .map)) (sym is) ∙ q))
 
     -- the block that is there, and the one that is used
     block-low : (b : ℕ) → blockThere G n (s .user) l ≡ b → (b ≡ 0 → ⊥) → b < G .blocks
@@ -123,7 +123,7 @@ module _ {G : Geometry} (S : Sound G) (single : (x : ℕ) → runOf G x ≡ x) (
 
   some-block : (e : ℕ) → presentEntry G (s .user) l ≡ At e → (b : ℕ) → Block G n (s .user) l b → b < G .blocks
   some-block e at b (there q real) = block-low e at b q real
-  some-block e at b (free z q) = free-is G (l .map) b q .below
+  some-block e at b (free z q) = free-is G (l .drive .map) b q .below
 
   -- a plan whose block is one of the disk's
   plan-on-disk : (B : ℕ → Type 0) → ((e : ℕ) → presentEntry G (s .user) l ≡ At e → (b : ℕ) → B b → b < G .blocks)
@@ -138,21 +138,21 @@ module _ {G : Geometry} (S : Sound G) (single : (x : ℕ) → runOf G x ≡ x) (
   present-own : (e : ℕ) → presentEntry G (s .user) l ≡ At e → extentOf (rowsOf G l e) ≡ extentOf (l .fcb)
   present-own e at = found-own G (rowsOf G l) (s .user) (l .fcb) 1 (extentOf (l .fcb)) single e (present e at .found)
 
-  plan-own : (B : ℕ → Type 0) → (p : Plan) → Planned G n (s .user) l B p → OwnExtent G (l .image) (l .fcb) (targetExtent n (l .fcb)) p
+  plan-own : (B : ℕ → Type 0) → (p : Plan) → Planned G n (s .user) l B p → OwnExtent G (l .drive .image) (l .fcb) (targetExtent n (l .fcb)) p
   unfolding targetEntry stays
   plan-own B p (stay e b at y target x) = present-own e at
   plan-own B p (move e t b at y target x) =
       let ext : ℕ = targetExtent n (l .fcb) in
       let own = found-own G (rowsOf G l) (s .user) (l .fcb) 1 ext single t target in
       let other : t ≡ e → ⊥ = λ q. eqb-false ext (extentOf (l .fcb)) y (sym own ∙ ap (λ (k : ℕ). extentOf (rowsOf G l k)) q ∙ present-own e at) in
-      ap extentOf (row-closedImage-other S (l .image) image-long e (e-below e at) (l .fcb) t
+      ap extentOf (row-closedImage-other S (l .drive .image) image-long e (e-below e at) (l .fcb) t
       (file-says G (rowsOf G l) (s .user) (l .fcb) 1 ext t target .below) other) ∙ own
   plan-own B p (make e t b at y target room x) = tt
 
   -- ---- the two rulings
   sure : (B : ℕ → Type 0) → ((e : ℕ) → presentEntry G (s .user) l ≡ At e → (b : ℕ) → B b → b < G .blocks)
       → Planned G n (s .user) l B (plan G n (s .user) l) → FoundAt (presentEntry G (s .user) l) → targetExtent n (l .fcb) < extents
-      → (p : Plan) → plan G n (s .user) l ≡ p → Sure G n (l .image) (l .fcb) p
+      → (p : Plan) → plan G n (s .user) l ≡ p → Sure G n (l .drive .image) (l .fcb) p
   sure B k planned entry below p q = record {
     on-disk = rw (← q) (plan-on-disk B k (plan G n (s .user) l) planned);
     own = rw (← q) (plan-own B (plan G n (s .user) l) planned);
@@ -161,18 +161,18 @@ module _ {G : Geometry} (S : Sound G) (single : (x : ℕ) → runOf G x ≡ x) (
     after = after-low (entry .place) (entry .is);
   }
 
-  pub read-sure : (p : Plan) → readRuling G n (s .user) l ≡ Follow p → Sure G n (l .image) (l .fcb) p
+  pub read-sure : (p : Plan) → readRuling G n (s .user) l ≡ Follow p → Sure G n (l .drive .image) (l .fcb) p
   unfolding readRuling readRows targetEntry
   read-sure p h =
       let v : Verdict = firstRow (readRows G n (s .user) l) in
       let none = passed-none (readRows G n (s .user) l) (follow-passed v (plan G n (s .user) l) p h) in
       let entry = found _ (none .1 .0) in
       let target = found _ (none .1 .1 .0) in
-      let below = file-extent-below G (l .image) (s .user) (l .fcb) 1 (targetExtent n (l .fcb)) (target .place) right low (target .is) in
+      let below = file-extent-below G (l .drive .image) (s .user) (l .fcb) 1 (targetExtent n (l .fcb)) (target .place) right low (target .is) in
       let reads : Reads G l s n = record { entry = entry; target = target; extent = below; there = not-false _ (none .1 .1 .1 .0) } in
       sure (There G n (s .user) l) there-block (planned-read G n l s reads) entry below p (follow-plan v (plan G n (s .user) l) p h)
 
-  pub write-sure : (p : Plan) → writeRuling G n (s .user) l ≡ Follow p → Sure G n (l .image) (l .fcb) p
+  pub write-sure : (p : Plan) → writeRuling G n (s .user) l ≡ Follow p → Sure G n (l .drive .image) (l .fcb) p
   unfolding writeRuling writeRows
   write-sure p h =
       let v : Verdict = firstRow (writeRows G n (s .user) l) in

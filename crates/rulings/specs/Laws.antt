@@ -84,7 +84,7 @@ module _ (G : Geometry) (n user : ℕ) (l : Lent) where
   unfolding targetBlock
   block-there z = rw z
 
-  block-free : (b : ℕ) → eqb (blockThere G n user l) 0 ≡ true → findFree G (l .map) ≡ At b → targetBlock G n user l ≡ b
+  block-free : (b : ℕ) → eqb (blockThere G n user l) 0 ≡ true → findFree G (l .drive .map) ≡ At b → targetBlock G n user l ≡ b
   unfolding targetBlock
   block-free b z q = rw (z, q)
 
@@ -148,31 +148,31 @@ module _ (G : Geometry) (n user : ℕ) (l : Lent) where
         module _ (below : leb extents (targetExtent n (l .fcb)) ≡ false) (single : (x : ℕ) → runOf G x ≡ x) where
           -- the rows that are left are those of the entry and of the block
           write-there : (t : ℕ) → targetEntry G n user l ≡ At t
-              → writeRuling G n user l ≡ withBlock (goTo e t) (blockFor G (l .map) (arrivedSlot G (rowsOf G l) (l .fcb) e t (targetSlot G n (l .fcb))))
+              → writeRuling G n user l ≡ withBlock (goTo e t) (blockFor G (l .drive .map) (arrivedSlot G (rowsOf G l) (l .fcb) e t (targetSlot G n (l .fcb))))
           unfolding writeRuling writeRows blockFor
           write-there t q =
               let block : Found → Ruling = withBlock (goTo e t) in
               rw (← block-by G n user l e at t q)
               (split (bool-cases (eqb (blockThere G n user l) 0))
-              (λ z. let want : blockFor G (l .map) (blockThere G n user l) ≡ findFree G (l .map) = rw z in
-              found-cases (findFree G (l .map))
+              (λ z. let want : blockFor G (l .drive .map) (blockThere G n user l) ≡ findFree G (l .drive .map) = rw z in
+              found-cases (findFree G (l .drive .map))
               (λ b f. follows _ _ _
               (in-range & found-row _ at & (guarded-is ∙ writable) & below & and-fails-left _ _ (found-row _ q) & and-fails-right _ _ (found-row _ f) & tt)
               (plan-by G n user l e at t q single b (block-free G n user l b z f)) ∙ sym (ap block (want ∙ f)))
               (λ f. refuses DiskFull _ _
               (later in-range (later (found-row _ at) (later (guarded-is ∙ writable) (later below (later (and-fails-left _ _ (found-row _ q))
               (here (and-both _ _ z (missed-row _ f)) refl)))))) ∙ sym (ap block (want ∙ f))))
-              (λ z. let kept : blockFor G (l .map) (blockThere G n user l) ≡ At (blockThere G n user l) = rw z in
+              (λ z. let kept : blockFor G (l .drive .map) (blockThere G n user l) ≡ At (blockThere G n user l) = rw z in
               follows _ _ _
               (in-range & found-row _ at & (guarded-is ∙ writable) & below & and-fails-left _ _ (found-row _ q) & and-fails-left _ _ z & tt)
               (plan-by G n user l e at t q single (blockThere G n user l) (block-there G n user l z)) ∙ sym (ap block kept)))
 
-          write-made : targetEntry G n user l ≡ Nothing → writeRuling G n user l ≡ writeNew G (rowsOf G l) (l .map) (missingCode n NoEntry) e
+          write-made : targetEntry G n user l ≡ Nothing → writeRuling G n user l ≡ writeNew G (rowsOf G l) (l .drive .map) (missingCode n NoEntry) e
           unfolding writeRuling writeRows writeNew
           write-made q =
               let z : eqb (blockThere G n user l) 0 ≡ true = eq-eqb _ _ (make-block G n user l e at q) in
               found-cases (findEmpty G (rowsOf G l))
-              (λ t m. found-cases (findFree G (l .map))
+              (λ t m. found-cases (findFree G (l .drive .map))
               (λ b f. follows _ _ _
               (in-range & found-row _ at & (guarded-is ∙ writable) & below & and-fails-right _ _ (found-row _ m) & and-fails-right _ _ (found-row _ f) & tt)
               (plan-new G n user l e at t b q m (block-free G n user l b z f)) ∙ sym (rw (m, f)))
@@ -183,7 +183,7 @@ module _ (G : Geometry) (n user : ℕ) (l : Lent) where
               (later in-range (later (found-row _ at) (later (guarded-is ∙ writable) (later below (here (and-both _ _ (missed-row _ q) (missed-row _ m)) refl))))) ∙ sym (rw m))
 
           pub write-found : writeRuling G n user l
-              ≡ writeTo G (rowsOf G l) (l .map) (l .fcb) (missingCode n NoEntry) e (targetSlot G n (l .fcb)) (targetEntry G n user l)
+              ≡ writeTo G (rowsOf G l) (l .drive .map) (l .fcb) (missingCode n NoEntry) e (targetSlot G n (l .fcb)) (targetEntry G n user l)
           write-found = found-cases (targetEntry G n user l) (λ t q. write-there t q ∙ rw q) (λ q. write-made q ∙ rw q)
 
 -- ---- what code needs of the FCB's entry before it goes on

@@ -48,7 +48,7 @@ module _ (G : Geometry) (n user : ℕ) (l : Lent) where
       ∷ when (readOnlyThere G n user l) ReadOnly
       ∷ when (leb extents (targetExtent n (l .fcb))) NoRecord
       ∷ when (not (isFound (targetEntry G n user l)) and not (isFound (findEmpty G (rowsOf G l)))) (missingCode n NoEntry)
-      ∷ when (eqb (blockThere G n user l) 0 and not (isFound (findFree G (l .map)))) DiskFull
+      ∷ when (eqb (blockThere G n user l) 0 and not (isFound (findFree G (l .drive .map)))) DiskFull
       ∷ []
 
   unfoldable pub readRuling : Ruling

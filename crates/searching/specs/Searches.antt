@@ -86,15 +86,15 @@ module _ (G : Geometry) (s : Session) (l : Lent) where
 
   -- nothing matches: an answer that changed nothing
   pub answers-over : (pattern : Bytes) (place : ℕ) (r : Answer) → findHit G (rowsOf G l) (s .user) pattern place ≡ Nothing
-      → r ≡ answerOf SearchOver (ended s) → outcome r (l .image) (l .map) (l .fcb) (l .buffer) ≡ searchedFrom pattern place
+      → r ≡ answerOf SearchOver (ended s) → outcome r (l .drive .image) (l .drive .map) (l .fcb) (l .buffer) ≡ searchedFrom pattern place
   answers-over pattern place r q a =
-      ap (λ (x : Answer). outcome x (l .image) (l .map) (l .fcb) (l .buffer)) a ∙ from-missing pattern place (ap isFound q)
+      ap (λ (x : Answer). outcome x (l .drive .image) (l .drive .map) (l .fcb) (l .buffer)) a ∙ from-missing pattern place (ap isFound q)
 
   -- the match at e, answered
   pub answers-found : (pattern : Bytes) (place e : ℕ) (r : Answer) (after : Session) (buffer : Bytes)
       → findHit G (rowsOf G l) (s .user) pattern place ≡ At e
-      → r ≡ answerOf (Accepted (entryNumber e)) after → after ≡ searching s pattern (e + 1) → buffer ≡ recordAt G (l .image) (e / entriesPerRecord)
-      → outcome r (l .image) (l .map) (l .fcb) buffer ≡ searchedFrom pattern place
+      → r ≡ answerOf (Accepted (entryNumber e)) after → after ≡ searching s pattern (e + 1) → buffer ≡ recordAt G (l .drive .image) (e / entriesPerRecord)
+      → outcome r (l .drive .image) (l .drive .map) (l .fcb) buffer ≡ searchedFrom pattern place
   unfolding searched foundAt
   answers-found pattern place e r after buffer q a n b =
       rw (a, n, b) (ap (λ (f : Found). foundAt G s l pattern (numberOf (G .entries) f)) (sym q) ∙ from-found pattern place (ap isFound q))

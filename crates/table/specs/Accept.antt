@@ -47,7 +47,7 @@ random-low n fcb r h = le-ltb lastRecord (randomOf fcb) (random-most n fcb r h)
 
 module _ (G : Geometry) (l : Lent) (s : Session) where
   -- ---- from the rows to the facts
-  read-of : (n : ℕ) → consistent G (l .image) ≡ true → s .user ≤ 15
+  read-of : (n : ℕ) → consistent G (l .drive .image) ≡ true → s .user ≤ 15
       → not (isFound (presentEntry G (s .user) l)) ≡ false → not (recordThere G n (s .user) l) ≡ false → Reads G l s n
   unfolding targetEntry
   read-of n right low p t =
@@ -57,13 +57,13 @@ module _ (G : Geometry) (l : Lent) (s : Session) where
       record {
         entry = entry;
         target = target;
-        extent = file-extent-below G (l .image) (s .user) (l .fcb) 1 (targetExtent n (l .fcb)) (target .place) right low (target .is);
+        extent = file-extent-below G (l .drive .image) (s .user) (l .fcb) 1 (targetExtent n (l .fcb)) (target .place) right low (target .is);
         there = there;
       }
 
   writes-of : (n : ℕ) → not (isFound (presentEntry G (s .user) l)) ≡ false → readOnlyThere G n (s .user) l ≡ false → targetExtent n (l .fcb) < extents
       → (not (isFound (targetEntry G n (s .user) l)) and not (isFound (findEmpty G (rowsOf G l)))) ≡ false
-      → (eqb (blockThere G n (s .user) l) 0 and not (isFound (findFree G (l .map)))) ≡ false → Writes G l s n
+      → (eqb (blockThere G n (s .user) l) 0 and not (isFound (findFree G (l .drive .map)))) ≡ false → Writes G l s n
   writes-of n p w x r b =
       record {
         entry = found _ p;
@@ -73,8 +73,8 @@ module _ (G : Geometry) (l : Lent) (s : Session) where
         block = λ z. found _ (second-fails _ _ b (eq-eqb _ _ z));
       }
 
-  block-right : (n : ℕ) → (blockThere G n (s .user) l ≡ 0 → FoundAt (findFree G (l .map)))
-      → (eqb (blockThere G n (s .user) l) 0 and not (isFound (findFree G (l .map)))) ≡ false
+  block-right : (n : ℕ) → (blockThere G n (s .user) l ≡ 0 → FoundAt (findFree G (l .drive .map)))
+      → (eqb (blockThere G n (s .user) l) 0 and not (isFound (findFree G (l .drive .map)))) ≡ false
   block-right n f =
       split (eq-or-ne (blockThere G n (s .user) l) 0) (λ z. and-fails-right _ _ (missed _ (f z))) (λ z. and-fails-left _ _ (ne-eqb _ _ z))
 
@@ -114,7 +114,7 @@ module _ (G : Geometry) (asked : Asked) (l : Lent) (s : Session) (none : NoneHol
       by-rows (λ (n : ℕ). FoundAt (findHit G (rowsOf G l) (s .user) (pattern G (ask n (asked .argument)) l s) (place G (ask n (asked .argument)) l s))) Search refl
       ((λ h. found _ (h .1 .1 .0)) & (λ h. found _ (h .1 .0)) & tt)
 
-  pub reads-of : consistent G (l .image) ≡ true → s .user ≤ 15 → kindOf (asked .number) ≡ Read → Reads G l s (asked .number)
+  pub reads-of : consistent G (l .drive .image) ≡ true → s .user ≤ 15 → kindOf (asked .number) ≡ Read → Reads G l s (asked .number)
   reads-of right low =
       by-rows (Reads G l s) Read refl
       ((λ h. read-of G l s 20 right low (h .0) (h .1 .1 .0)) & (λ h. read-of G l s 33 right low (h .1 .0) (h .1 .1 .1 .1 .0)) & tt)

@@ -18,21 +18,21 @@ use Rattle.table.specs.Own.{verdict-rows, verdict-unlisted}
 module _ (G : Geometry) (asked : Asked) (l : Lent) (s : Session) where
   -- an answer that changed nothing
   pub refuses-step : (code : Code) (r : Answer) → verdict G asked l s ≡ Refused code
-      → r ≡ answerOf code (refusedSession code s) → outcome r (l .image) (l .map) (l .fcb) (l .buffer) ≡ step G asked l s
+      → r ≡ answerOf code (refusedSession code s) → outcome r (l .drive .image) (l .drive .map) (l .fcb) (l .buffer) ≡ step G asked l s
   unfolding step
   refuses-step code r v q = rw (v, q)
 
   -- ---- each of the three, in their order
   pub unlisted-step : (r : Answer) → isCall (asked .number) ≡ false → r ≡ answerOf NotListed (refusedSession NotListed s)
-      → outcome r (l .image) (l .map) (l .fcb) (l .buffer) ≡ step G asked l s
+      → outcome r (l .drive .image) (l .drive .map) (l .fcb) (l .buffer) ≡ step G asked l s
   unlisted-step r h = refuses-step NotListed r (verdict-unlisted G asked l s h)
 
   pub parameter-step : (r : Answer) → isCall (asked .number) ≡ true → parametersRight G l asked s ≡ false
-      → r ≡ answerOf BadParameter (refusedSession BadParameter s) → outcome r (l .image) (l .map) (l .fcb) (l .buffer) ≡ step G asked l s
+      → r ≡ answerOf BadParameter (refusedSession BadParameter s) → outcome r (l .drive .image) (l .drive .map) (l .fcb) (l .buffer) ≡ step G asked l s
   parameter-step r t h =
       refuses-step BadParameter r (verdict-rows G asked l s t ∙ first-holds _ _ (ap not h))
 
   pub disk-step : (r : Answer) → isCall (asked .number) ≡ true → parametersRight G l asked s ≡ true → diskRight G l asked ≡ false
-      → r ≡ answerOf BadDisk (refusedSession BadDisk s) → outcome r (l .image) (l .map) (l .fcb) (l .buffer) ≡ step G asked l s
+      → r ≡ answerOf BadDisk (refusedSession BadDisk s) → outcome r (l .drive .image) (l .drive .map) (l .fcb) (l .buffer) ≡ step G asked l s
   disk-step r t p h =
       refuses-step BadDisk r (verdict-rows G asked l s t ∙ first-passes _ _ (ap not p) ∙ first-holds _ _ (ap not h))

@@ -23,8 +23,8 @@ use Rattle.table.specs.First.{NoneHolds}
 
 -- the lengths, the user and the search place are right
 pub record Fits (G : Geometry) (l : Lent) (s : Session) : Type 0 where
-  pub image-long : Long G (l .image)
-  pub map-long : length (l .map) ≡ G .blocks
+  pub image-long : Long G (l .drive .image)
+  pub map-long : length (l .drive .map) ≡ G .blocks
   pub fcb-long : length (l .fcb) ≡ fcbBytes
   pub buffer-long : length (l .buffer) ≡ recordBytes
   pub user-low : s .user ≤ 15
@@ -91,14 +91,14 @@ module _ (G : Geometry) (l : Lent) (s : Session) where
     pub writable : readOnlyThere G n (s .user) l ≡ false
     pub extent : targetExtent n (l .fcb) < extents
     pub room : targetEntry G n (s .user) l ≡ Nothing → FoundAt (findEmpty G (rowsOf G l))
-    pub block : blockThere G n (s .user) l ≡ 0 → FoundAt (findFree G (l .map))
+    pub block : blockThere G n (s .user) l ≡ 0 → FoundAt (findFree G (l .drive .map))
 
 -- what the first three rows say of every call that they pass
 pub record Ready (G : Geometry) (asked : Asked) (l : Lent) (s : Session) : Type 0 where
   pub fits : Fits G l s
   pub drive : usesFcb (asked .number) ≡ true → getD (l .fcb) 0 0 ≤ 1
-  pub image-right : consistent G (l .image) ≡ true
-  pub map-right : (asked .number ≡ 13 → ⊥) → mapRight G (rowsOf G l) (l .map) ≡ true
+  pub image-right : consistent G (l .drive .image) ≡ true
+  pub map-right : (asked .number ≡ 13 → ⊥) → mapRight G (rowsOf G l) (l .drive .map) ≡ true
 
 -- what the whole table says: the call is listed, and no row holds
 pub record AcceptedCall (G : Geometry) (asked : Asked) (l : Lent) (s : Session) : Type 0 where

@@ -29,9 +29,9 @@ module _ (G : Geometry) (asked : Asked) (l : Lent) (s : Session) where
 
   -- an answer that changed nothing
   pub refuses-own : (code : Code) (r : Answer) → Decides code (ownRows G asked l s)
-      → r ≡ answerOf code (refusedSession code s) → outcome r (l .image) (l .map) (l .fcb) (l .buffer) ≡ ownStep
+      → r ≡ answerOf code (refusedSession code s) → outcome r (l .drive .image) (l .drive .map) (l .fcb) (l .buffer) ≡ ownStep
   refuses-own code r d q =
-      ap (λ (x : Answer). outcome x (l .image) (l .map) (l .fcb) (l .buffer)) q ∙ sym (own-refused code d)
+      ap (λ (x : Answer). outcome x (l .drive .image) (l .drive .map) (l .fcb) (l .buffer)) q ∙ sym (own-refused code d)
 
   -- ---- carried out where none of them holds
   pub own-carried : NoneHolds (ownRows G asked l s) → ownStep ≡ effect G asked l s

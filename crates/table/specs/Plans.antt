@@ -24,7 +24,7 @@ module _ (G : Geometry) (n user : ℕ) (l : Lent) where
   -- the target's block: the one in its slot, or the first free one
   pub data Block (b : ℕ) : Type 0 where
     there : blockThere G n user l ≡ b → (b ≡ 0 → ⊥) → Block b
-    free : blockThere G n user l ≡ 0 → findFree G (l .map) ≡ At b → Block b
+    free : blockThere G n user l ≡ 0 → findFree G (l .drive .map) ≡ At b → Block b
 
   -- where the target is: in the present extent, in another one, or in one to be made
   pub data Planned (B : ℕ → Type 0) : Plan → Type 0 where
@@ -48,7 +48,7 @@ module _ (G : Geometry) (n user : ℕ) (l : Lent) where
         (λ t. rw t (stay e (targetBlock G n user l) at t (target-present G n user l e at (stays-within G n user l t)) block))
         (λ f. rw f (planned-to f (targetEntry G n user l) refl)))
 
-  pub target-block : (blockThere G n user l ≡ 0 → FoundAt (findFree G (l .map))) → Block (targetBlock G n user l)
+  pub target-block : (blockThere G n user l ≡ 0 → FoundAt (findFree G (l .drive .map))) → Block (targetBlock G n user l)
   unfolding targetBlock
   target-block f =
       split (eq-or-ne (blockThere G n user l) 0)

@@ -58,7 +58,7 @@ module _ (G : Geometry) (n user : ℕ) (l : Lent) where
   unfolding presentEntry within covers targetEntry
   target-present e at t =
       find-run G (rowsOf G l) user (l .fcb) 1 (targetExtent n (l .fcb)) (extentOf (l .fcb)) (sym (eqb-true _ _ t))
-      ∙ current-says G (rowsOf G l) (l .map) user (l .fcb) e at .found
+      ∙ current-says G (rowsOf G l) (l .drive .map) user (l .fcb) e at .found
 
   -- the target's entry is the FCB's where that covers the target's extent, and else another one
   module _ (e : ℕ) (at : presentEntry G user l ≡ At e) (t : ℕ) (target : targetEntry G n user l ≡ At t) where
@@ -71,7 +71,7 @@ module _ (G : Geometry) (n user : ℕ) (l : Lent) where
         let run : (ext k : ℕ) → findFile G (rowsOf G l) user (l .fcb) 1 ext ≡ At k → runOf G (extentOf (rowsOf G l k)) ≡ runOf G ext =
         λ ext k h. file-run G user (l .fcb) 1 ext (rowsOf G l k) (file-says G (rowsOf G l) user (l .fcb) 1 ext k h .holds) in
         eqb-false _ _ w
-        (sym (run (extentOf (l .fcb)) e (current-says G (rowsOf G l) (l .map) user (l .fcb) e at .found)) ∙ ap (λ (x : ℕ). runOf G (extentOf (rowsOf G l x))) (sym q)
+        (sym (run (extentOf (l .fcb)) e (current-says G (rowsOf G l) (l .drive .map) user (l .fcb) e at .found)) ∙ ap (λ (x : ℕ). runOf G (extentOf (rowsOf G l x))) (sym q)
         ∙ run (targetExtent n (l .fcb)) t target)
 
   -- an extent without an entry is not covered by the FCB's

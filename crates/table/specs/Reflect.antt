@@ -64,7 +64,7 @@ module _ (G : Geometry) (asked : Asked) (l : Lent) (s : Session) where
       let p = and-left _ _ h in
       let t = and-right _ _ h in
       record {
-        image-long = long-says G (l .image) (and-left _ _ p);
+        image-long = long-says G (l .drive .image) (and-left _ _ p);
         map-long = eqb-true _ _ (and-left _ _ (and-right _ _ p));
         fcb-long = eqb-true _ _ (and-left _ _ (and-right _ _ (and-right _ _ p)));
         buffer-long = eqb-true _ _ (and-right _ _ (and-right _ _ (and-right _ _ p)));
@@ -83,22 +83,22 @@ module _ (G : Geometry) (asked : Asked) (l : Lent) (s : Session) where
   unfolding parametersRight lengthsRight
   parameters-right f d =
       and-both _ _
-      (and-both _ _ (long-is G (l .image) (f .image-long)) (and-both _ _ (eq-eqb _ _ (f .map-long)) (and-both _ _ (eq-eqb _ _ (f .fcb-long)) (eq-eqb _ _ (f .buffer-long)))))
+      (and-both _ _ (long-is G (l .drive .image) (f .image-long)) (and-both _ _ (eq-eqb _ _ (f .map-long)) (and-both _ _ (eq-eqb _ _ (f .fcb-long)) (eq-eqb _ _ (f .buffer-long)))))
       (and-both _ _ (le-leb _ _ (f .user-low)) (and-both _ _ (le-leb _ _ (f .place-low)) (drive-right d)))
 
   -- ---- the image and the map
-  pub image-of : diskRight G l asked ≡ true → consistent G (l .image) ≡ true
+  pub image-of : diskRight G l asked ≡ true → consistent G (l .drive .image) ≡ true
   unfolding diskRight
   image-of h = and-left _ _ h
 
-  pub map-of : diskRight G l asked ≡ true → (asked .number ≡ 13 → ⊥) → mapRight G (rowsOf G l) (l .map) ≡ true
+  pub map-of : diskRight G l asked ≡ true → (asked .number ≡ 13 → ⊥) → mapRight G (rowsOf G l) (l .drive .map) ≡ true
   unfolding diskRight
   map-of h ne = sym (or-then _ _ (ne-eqb (asked .number) 13 ne)) ∙ and-right _ _ h
 
-  map-right : ((asked .number ≡ 13 → ⊥) → mapRight G (rowsOf G l) (l .map) ≡ true) → (eqb (asked .number) 13 or mapRight G (rowsOf G l) (l .map)) ≡ true
+  map-right : ((asked .number ≡ 13 → ⊥) → mapRight G (rowsOf G l) (l .drive .map) ≡ true) → (eqb (asked .number) 13 or mapRight G (rowsOf G l) (l .drive .map)) ≡ true
   map-right m = split (eq-or-ne (asked .number) 13) (λ q. or-left _ _ (eq-eqb _ _ q)) (λ q. or-right _ _ (m q))
 
-  pub disk-right : consistent G (l .image) ≡ true → ((asked .number ≡ 13 → ⊥) → mapRight G (rowsOf G l) (l .map) ≡ true) → diskRight G l asked ≡ true
+  pub disk-right : consistent G (l .drive .image) ≡ true → ((asked .number ≡ 13 → ⊥) → mapRight G (rowsOf G l) (l .drive .map) ≡ true) → diskRight G l asked ≡ true
   unfolding diskRight
   disk-right c m = and-both _ _ c (map-right m)
 
@@ -107,7 +107,7 @@ module _ (G : Geometry) (asked : Asked) (l : Lent) (s : Session) where
   ready-of p d = record { fits = fits-of p; drive = drive-of p; image-right = image-of d; map-right = map-of d }
 
 -- a log-in takes any map, and no FCB
-pub login-ready : (G : Geometry) (argument : ℕ) (l : Lent) (s : Session) → Fits G l s → consistent G (l .image) ≡ true → Ready G (ask 13 argument) l s
+pub login-ready : (G : Geometry) (argument : ℕ) (l : Lent) (s : Session) → Fits G l s → consistent G (l .drive .image) ≡ true → Ready G (ask 13 argument) l s
 unfolding usesFcb
 login-ready G argument l s f c = record { fits = f; drive = λ u. clash (sym u); image-right = c; map-right = λ ne. absurd (ne refl) }
 

@@ -156,7 +156,7 @@ module _ (G : Geometry) (asked : Asked) (l : Lent) (s : Session) where
       not-both (eqb (hOf code) 1) h
       (not-true _ (row-of (λ (cs : List ℕ) (c : Code). not (eqb (hOf c) 1)) (asked .number) code (callRows G asked l s) refl d .passes))
 
-  pub never-bad-disk : (code : Code) → hOf code ≡ 1 → consistent G (l .image) ≡ true → mapRight G (rowsOf G l) (l .map) ≡ true
+  pub never-bad-disk : (code : Code) → hOf code ≡ 1 → consistent G (l .drive .image) ≡ true → mapRight G (rowsOf G l) (l .drive .map) ≡ true
       → verdict G asked l s ≡ Refused code → ⊥
   never-bad-disk code h right map q =
       not-both (diskRight G l asked) (disk-right G asked l s right (λ z. map)) (bad-disk code (eq-eqb _ _ h) (refuses code q))

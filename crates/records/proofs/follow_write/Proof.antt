@@ -34,7 +34,7 @@ write-at-requires c κs =
     let o : extentOf (came .last .1 .1 .0) ≡ extentOf (entryAt eightInch (came .last .0) (c .before .entry-of .result)) =
     ap (λ (l : Lent). extentOf (l .fcb)) q
     ∙ arrived-own eight-sound (s .args .target .extent) (lend (s .args .image .now) (s .args .map .now) (s .args .fcb .now) []) (s .args .plan) (s .pre .0) (s .pre .2) (s .pre .7) (s .pre .8)
-    ∙ sym (ap (λ (l : Lent). extentOf (entryAt eightInch (l .image) (entryOf (s .args .plan)))) q) ∙ rw (c .before .entry-of .ensures) in
+    ∙ sym (ap (λ (l : Lent). extentOf (entryAt eightInch (l .drive .image) (entryOf (s .args .plan)))) q) ∙ rw (c .before .entry-of .ensures) in
     search needs
 
 same-length : tie.Need-same-length
