@@ -36,7 +36,7 @@ request asked fcb buffer = record { asked = asked; fcb = fcb; buffer = buffer }
 
 -- the log-in that a run begins with: its FCB and its buffer are zeros
 unfoldable pub logIn : Request
-logIn = request (ask 13 0) (copies fcbBytes 0) (copies recordBytes 0)
+logIn = request (ask 13) (copies fcbBytes 0) (copies recordBytes 0)
 
 -- the book of the calls that follow a log-in
 abbrev pub bookFrom : Disk → Request → List Request → Book
@@ -53,7 +53,7 @@ targetSet fcb x r = splice fcb 33 (threeBytes (extentRecords * x + r))
 -- what call 33 comes to after a write and the calls that follow, through the FCB that the write handed back
 unfoldable pub readAfter : Disk → Request → List Request → Bytes → Outcome
 readAfter d w qs empty =
-    outcomeOf eightInch (run eightInch (after eightInch d w) qs) (request (ask 33 0) (readFcb eightInch d w) empty)
+    outcomeOf eightInch (run eightInch (after eightInch d w) qs) (request (ask 33) (readFcb eightInch d w) empty)
 
 -- ---- demand 1: an outcome is a refusal with the code of the first row of the table that holds, or the call was carried out
 pub data Told (asked : Asked) (l : Lent) (s : Session) (o : Outcome) : Type 0 where
@@ -125,11 +125,11 @@ module _ (d : Disk) (w : Request) (writes : kindOf (w .asked .number) ≡ Write)
   -- call 33 on the disk after the calls
   module _ (o : Outcome) (met : o ≡ outcomeOf eightInch d w) (qs : List Request) (e : Disk) (made : e ≡ run eightInch (after eightInch d w) qs)
       (x r : ℕ) (ext : x ≡ targetExtent (w .asked .number) (w .fcb)) (rec : r ≡ targetRecord (w .asked .number) (w .fcb)) (empty : Bytes) (p : Outcome)
-      (last : p ≡ step eightInch (ask 33 0) (lend (e .drive .image) (e .drive .map) (targetSet (o .lent .fcb) x r) empty) (e .session)) where
+      (last : p ≡ step eightInch (ask 33) (lend (e .drive .image) (e .drive .map) (targetSet (o .lent .fcb) x r) empty) (e .session)) where
     pub read-last : p ≡ readAfter d w qs empty
     unfolding readAfter readFcb atRecord outcomeOf
     read-last = last ∙ rw (made, ext, rec, met)
 
     pub reads-again : length empty ≡ recordBytes → LeftAlone d w qs → Gives p (w .buffer)
     unfolding readAfter
-    reads-again long alone = subst (λ (y : Outcome). Gives y (w .buffer)) (sym read-last) (eight-read-back d w writes accepted qs alone (ask 33 0) refl empty long)
+    reads-again long alone = subst (λ (y : Outcome). Gives y (w .buffer)) (sym read-last) (eight-read-back d w writes accepted qs alone (ask 33) refl empty long)

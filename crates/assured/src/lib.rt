@@ -173,7 +173,7 @@ fn read_again(
 ) -> Answer
     requires { ⌜ (length (now fcb) ≡ fcbBytes) × (target .extent < extents) × (target .at < extentRecords) ⌝ }
     ensures { λ r. ⌜ outcome r (now (image .exit)) (now (map .exit)) (now (fcb .exit)) (now (back .exit))
-        ≡ step eightInch (ask 33 0) (lend (now (image .entry)) (now (map .entry)) (targetSet (now (fcb .entry)) (target .extent) (target .at))
+        ≡ step eightInch (ask 33) (lend (now (image .entry)) (now (map .entry)) (targetSet (now (fcb .entry)) (target .extent) (target .at))
         (now (back .entry))) session ⌝ }
 {
     let at = format::EXTENT_RECORDS * target.extent + target.at;

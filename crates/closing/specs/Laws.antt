@@ -15,6 +15,7 @@ use Rattle.format.specs.Fcb.{current}
 use Rattle.facts.specs.Found.{found-row, missed-row}
 use Rattle.format.specs.declared.Found.{Found}
 use Rattle.format.specs.declared.Found.the-variants.{At, Nothing}
+use Rattle.model.specs.declared.Asked.{Asked}
 use Rattle.model.specs.declared.Session.{Session}
 use Rattle.model.specs.declared.Answer.{Answer}
 use Rattle.model.specs.declared.Code.the-variants.{Accepted, Failed}
@@ -25,7 +26,7 @@ use Rattle.model.specs.Calls.{entryNumber, closedAt, closed}
 use Rattle.model.specs.Kinds.{kindOf}
 use Rattle.model.specs.Step.{effect}
 use Rattle.table.specs.First.{_&_, here}
-use Rattle.table.specs.Own.{ask}
+use Rattle.table.specs.Own.{calling}
 use Rattle.rows.specs.Entries.{length-entryAt, entry-own}
 use Rattle.fields.specs.Closing.{takes-none, merged-same, later-stays}
 use Rattle.facts.specs.Counts.{end-none, end-some}
@@ -109,22 +110,22 @@ unfolding closedMap
 closed-map G img fcb row es fs map m e a b c d = rw (d, b, c, a)
 
 -- ---- call 16, by what the look-up of its FCB's entry answers
-module _ (G : Geometry) (argument : ℕ) (img map fcb : Bytes) (s : Session) (found : Found) (is : found ≡ current G (entryAt G img) map (s .user) fcb) where
+module _ (G : Geometry) (img map fcb : Bytes) (s : Session) (found : Found) (is : found ≡ current G (entryAt G img) map (s .user) fcb) where
   -- the FCB is not current
-  pub close-refused : (buffer : Bytes) (r : Answer) → found ≡ Nothing → r ≡ answerOf Failed s → outcome r img map fcb buffer ≡ ownStep G (ask 16 argument) (lend img map fcb buffer) s
+  pub close-refused : (asked : Asked) (buffer : Bytes) (r : Answer) → found ≡ Nothing → r ≡ answerOf Failed s → outcome r img map fcb buffer ≡ ownStep G (calling 16 asked) (lend img map fcb buffer) s
   unfolding presentEntry
-  close-refused buffer r q a =
-      refuses-own G (ask 16 argument) (lend img map fcb buffer) s Failed r (here (missed-row _ (sym is ∙ q)) refl) a
+  close-refused asked buffer r q a =
+      refuses-own G (calling 16 asked) (lend img map fcb buffer) s Failed r (here (missed-row _ (sym is ∙ q)) refl) a
 
   -- it is, and e is its entry
   pub close-low : (e : ℕ) → found ≡ At e → e < G .entries
   close-low e q =
       current-low G (entryAt G img) map (s .user) fcb e (current-says G (entryAt G img) map (s .user) fcb e (sym is ∙ q))
 
-  pub close-carried : (buffer : Bytes) (e : ℕ) (r : Answer) (i m f : Bytes) → found ≡ At e → r ≡ answerOf (Accepted (entryNumber e)) (ended s)
+  pub close-carried : (asked : Asked) (buffer : Bytes) (e : ℕ) (r : Answer) (i m f : Bytes) → found ≡ At e → r ≡ answerOf (Accepted (entryNumber e)) (ended s)
       → i ≡ closedImage G img e fcb → m ≡ closedMap G (entryAt G img e) fcb map → f ≡ closedFcb fcb
-      → outcome r i m f buffer ≡ ownStep G (ask 16 argument) (lend img map fcb buffer) s
+      → outcome r i m f buffer ≡ ownStep G (calling 16 asked) (lend img map fcb buffer) s
   unfolding presentEntry closed closedAt effect kindOf
-  close-carried buffer e r i m f q a b c d =
+  close-carried asked buffer e r i m f q a b c d =
       let p : current G (entryAt G img) map (s .user) fcb ≡ At e = sym is ∙ q in
-      carries-own G (ask 16 argument) (lend img map fcb buffer) s (outcome r i m f buffer) (found-row _ p & tt) (rw (p, a, b, c, d))
+      carries-own G (calling 16 asked) (lend img map fcb buffer) s (outcome r i m f buffer) (found-row _ p & tt) (rw (p, a, b, c, d))

@@ -8,10 +8,11 @@ ghost use Rattle.format.specs.Entries.{entryAt};
 ghost use Rattle.format.specs.Fcb.{fcbBytes};
 ghost use Rattle.model.specs.Lent.{lend, outcome};
 ghost use Rattle.model.specs.Closing.{takesSlot, mergedByte, mergedSlots, endsLater, laterEnd, closedRow, closedNote, closedMap, closedImage, closedFcb};
-ghost use Rattle.table.specs.Own.{ask};
+ghost use Rattle.table.specs.Own.{calling};
 ghost use Rattle.table.specs.OwnStep.{ownStep};
 ghost use Rattle.chains.specs.Chain.{Indexed};
 ghost use Rattle.closing.specs.Laws.{closeKeeps};
+ghost use Rattle.model.specs.declared.Asked.{Asked};
 use format::Found;
 use model::Answer;
 use model::Code;
@@ -163,8 +164,8 @@ pub fn close_file(
 ) -> Answer
     requires { ⌜ (length (now image) ≡ imageBytes eightInch) × (length (now fcb) ≡ fcbBytes) × (session .user ≤ 15)
         × Indexed eightInch (entryAt eightInch (now image)) (now chain) ⌝ }
-    ensures { λ r. ⌜ ((argument : ℕ) (buffer : Bytes) → outcome r (now (image .exit)) (now (map .exit)) (now (fcb .exit)) buffer
-        ≡ ownStep eightInch (ask 16 argument) (lend (now (image .entry)) (now (map .entry)) (now (fcb .entry)) buffer) session) ⌝ }
+    ensures { λ r. ⌜ ((asked : Asked) (buffer : Bytes) → outcome r (now (image .exit)) (now (map .exit)) (now (fcb .exit)) buffer
+        ≡ ownStep eightInch (calling 16 asked) (lend (now (image .entry)) (now (map .entry)) (now (fcb .entry)) buffer) session) ⌝ }
 {
     let Found::At(e) = current::current_entry(image, map, chain, session.user, fcb) else {
         return answers::refuse(Code::Failed, session);

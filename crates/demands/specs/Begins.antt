@@ -35,7 +35,7 @@ use Rattle.fields.specs.Entering.{length-copied, first-copied, rest-copied}
 use Rattle.consistency.specs.Naming.{file-used}
 use Rattle.fields.specs.Target.{extent-within}
 use Rattle.fields.specs.Erased.{ErasedDisk, erased-empty, erased-unused, erased-unlisted}
-use Rattle.table.specs.Own.{ask}
+use Rattle.table.specs.Own.{calling}
 use Rattle.table.specs.Facts.{Fits, Writes, Makes}
 use Rattle.table.specs.Accept.{passes, makes-of, makes-right, writes-right}
 use Rattle.table.specs.Present.{stays-within, target-present, numbers-extent}
@@ -88,8 +88,8 @@ module _ {G : Geometry} (S : Sound G) (asked : Asked) (number : asked .number �
   unfolding isCall kindOf
   write-accepted =
       total-accepted G asked l s
-      (ap (λ (n : ℕ). verdict G (ask n (asked .argument)) l s) number ∙ passes G (ask 21 (asked .argument)) l s refl
-      record { fits = fits; drive = λ u. drive; image-right = good-consistent G (l .drive .image) (l .drive .map) g; map-right = λ q. good-right G (l .drive .image) (l .drive .map) g } (writes-right G (asked .argument) l s writes))
+      (ap (λ (n : ℕ). verdict G (calling n asked) l s) number ∙ passes G (calling 21 asked) l s refl
+      record { fits = fits; drive = λ u. drive; image-right = good-consistent G (l .drive .image) (l .drive .map) g; map-right = λ q. good-right G (l .drive .image) (l .drive .map) g } (writes-right G asked l s writes))
 
 -- ---- a make, and a write through the FCB that it handed back
 module _ {G : Geometry} (S : Sound G) (d : Disk) (q : Request) (number : q .asked .number ≡ 22) (accepted : accepts G d q ≡ true) (cr : crOf (q .fcb) < 128) where
@@ -114,7 +114,7 @@ module _ {G : Geometry} (S : Sound G) (d : Disk) (q : Request) (number : q .aske
   made-is : outcomeOf G d q ≡ createdAt G (d .session) l t
   unfolding outcomeOf t created effect kindOf
   made-is =
-      carried .is ∙ ap (λ (n : ℕ). effect G (ask n (q .asked .argument)) l (d .session)) number
+      carried .is ∙ ap (λ (n : ℕ). effect G (calling n (q .asked)) l (d .session)) number
       ∙ ap (λ (r : Found). createdAt G (d .session) l (numberOf (G .entries) r)) (makes .entry .is)
 
   fits : Fits G l (d .session)
@@ -160,7 +160,7 @@ module _ {G : Geometry} (S : Sound G) (d : Disk) (q : Request) (number : q .aske
         place-low = omega arith;
       }
       (rw (fcb, first-copied (l .fcb) row hf hr) drive) t
-      (rw fcb (created-cur S (q .asked .argument) l (d .session) fits good (omega arith) makes))
+      (rw fcb (created-cur S (q .asked) l (d .session) fits good (omega arith) makes))
       (ap readOnly new-row ∙ readOnly-made (d .session .user) (l .fcb))
       (rw (fcb, rest-copied (l .fcb) row hf hr 36 32 (omega arith) (omega arith)) cr) (some-free b h z))
 
@@ -193,15 +193,15 @@ module _ {G : Geometry} (S : Sound G) (some : 0 < G .entries) where
   made-on d erased good range q a drive name ex =
       carried-says G (q .asked) (lentTo d q) (d .session)
       (total-accepted G (q .asked) (lentTo d q) (d .session)
-      (ap (λ (n : ℕ). verdict G (ask n (q .asked .argument)) (lentTo d q) (d .session)) (a .number)
-      ∙ passes G (ask 22 (q .asked .argument)) (lentTo d q) (d .session) refl
+      (ap (λ (n : ℕ). verdict G (calling n (q .asked)) (lentTo d q) (d .session)) (a .number)
+      ∙ passes G (calling 22 (q .asked)) (lentTo d q) (d .session) refl
       record {
         fits = record { image-long = good .image-long; map-long = good .map-long; fcb-long = a .fcb; buffer-long = a .buffer; user-low = range .user; place-low = range .place };
         drive = λ u. drive;
         image-right = good-consistent G (d .drive .image) (d .drive .map) good;
         map-right = λ z. good-right G (d .drive .image) (d .drive .map) good;
       }
-      (makes-right G (q .asked .argument) (lentTo d q) (d .session) record {
+      (makes-right G (q .asked) (lentTo d q) (d .session) record {
         name = name;
         ex = ex;
         new = no-file-is G (entryAt G (d .drive .image)) (d .session .user) (q .fcb) 1 (exOf (q .fcb)) (λ e h. none e h);

@@ -7,7 +7,7 @@ use Rattle.format.specs.Diskette.{Geometry, recordBytes}
 use Rattle.format.specs.Fcb.{fcbBytes}
 use Rattle.model.specs.Table.{verdict}
 use Rattle.fields.specs.Erased.{ErasedDisk, erased-consistent}
-use Rattle.table.specs.Own.{ask}
+use Rattle.table.specs.Own.{calling}
 use Rattle.model.specs.Kinds.{kindOf, isCall}
 use Rattle.table.specs.Facts.{Fits}
 use Rattle.table.specs.Reflect.{login-ready}
@@ -22,9 +22,9 @@ unfolding outcomeOf isCall kindOf
 erased-accepted G d q erased map range n fcb buffer =
     carried-says G (q .asked) (lentTo d q) (d .session)
     (total-accepted G (q .asked) (lentTo d q) (d .session)
-    (ap (λ (k : ℕ). verdict G (ask k (q .asked .argument)) (lentTo d q) (d .session)) n
-    ∙ passes G (ask 13 (q .asked .argument)) (lentTo d q) (d .session) refl
-    (login-ready G (q .asked .argument) (lentTo d q) (d .session) fits (erased-consistent G (d .drive .image) erased)) tt))
+    (ap (λ (k : ℕ). verdict G (calling k (q .asked)) (lentTo d q) (d .session)) n
+    ∙ passes G (calling 13 (q .asked)) (lentTo d q) (d .session) refl
+    (login-ready G (q .asked) (lentTo d q) (d .session) fits (erased-consistent G (d .drive .image) erased)) tt))
   where
     fits : Fits G (lentTo d q) (d .session)
     fits = record {

@@ -18,7 +18,7 @@ use Rattle.model.specs.Lent.{Lent, Outcome}
 use Rattle.model.specs.Calls.{loggedIn}
 use Rattle.model.specs.Naming.{names}
 use Rattle.model.specs.Step.{settled, effect}
-use Rattle.table.specs.Own.{ask}
+use Rattle.table.specs.Own.{calling}
 use Rattle.model.specs.Kinds.{kindOf}
 use Rattle.table.specs.Total.{InRange, step-range}
 use Rattle.invariant.specs.Good.{Good, good-consistent, good-right}
@@ -41,7 +41,7 @@ pub logged-in : (G : Geometry) (d : Disk) (q : Request) → q .asked .number ≡
 unfolding outcomeOf effect kindOf settled
 logged-in G d q n a =
     accepted-carried G (q .asked) (lentTo d q) (d .session) a .is
-    ∙ ap (λ (k : ℕ). effect G (ask k (q .asked .argument)) (lentTo d q) (d .session)) n
+    ∙ ap (λ (k : ℕ). effect G (calling k (q .asked)) (lentTo d q) (d .session)) n
 
 module _ {G : Geometry} (S : Sound G) where
   pub booked-after : (d : Disk) (q : Request) (u : Book) → Booked G d u → Booked G (after G d q) (bookAfter G d q u)

@@ -27,7 +27,7 @@ use Rattle.current.specs.Current.{fcb-says}
 use Rattle.fields.specs.Agree.{Agree, SameName, name-cong, slot-cong, extent-cong, count-cong}
 use Rattle.fields.specs.Numbers.{below-three, length-three, random-three}
 use Rattle.fields.specs.Target.{extent-random, record-random, stays-extent}
-use Rattle.table.specs.Own.{ask}
+use Rattle.table.specs.Own.{calling}
 use Rattle.model.specs.Kinds.{kindOf, isCall, isRandom}
 use Rattle.table.specs.Facts.{Fits, Reads, Ready}
 use Rattle.table.specs.Accept.{reads-right}
@@ -143,7 +143,7 @@ module _ {G : Geometry} (S : Sound G) (asked : Asked) (number : asked .number �
     there = there;
   }
 
-  ready : Ready G (ask 33 (asked .argument)) l s
+  ready : Ready G (calling 33 asked) l s
   ready = record {
     fits = fits;
     drive = λ u. drive;
@@ -163,8 +163,8 @@ module _ {G : Geometry} (S : Sound G) (asked : Asked) (number : asked .number �
   step-is : step G asked l s ≡ read G s l 33
   unfolding step effect isCall kindOf
   step-is =
-      ap (λ (n : ℕ). step G (ask n (asked .argument)) l s) number
-      ∙ step-carried G (ask 33 (asked .argument)) l s refl ready (reads-right G (asked .argument) l s reads)
+      ap (λ (n : ℕ). step G (calling n asked) l s) number
+      ∙ step-carried G (calling 33 asked) l s refl ready (reads-right G asked l s reads)
 
   pub reads-back : Gives (step G asked l s) v
   unfolding read

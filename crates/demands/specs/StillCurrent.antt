@@ -13,6 +13,7 @@ use Rattle.facts.specs.Found.{FoundAt}
 use Rattle.format.specs.declared.Found.the-variants.{At}
 use Rattle.rows.specs.Entries.{entry-stored, length-entryAt}
 use Rattle.facts.specs.Find.{file-says, empty-says}
+use Rattle.model.specs.declared.Asked.{Asked}
 use Rattle.model.specs.declared.Session.{Session}
 use Rattle.model.specs.Lent.{Lent, rowsOf, Outcome}
 use Rattle.model.specs.Entering.{madeRow}
@@ -27,7 +28,7 @@ use Rattle.fields.specs.Making.{length-madeRow, user-made}
 use Rattle.facts.specs.Naming.{file-user, file-run}
 use Rattle.consistency.specs.Naming.{file-used}
 use Rattle.table.specs.First.{_&_}
-use Rattle.table.specs.Own.{ask, at-one, told-apart, kinds-apart}
+use Rattle.table.specs.Own.{calling, at-one, told-apart, kinds-apart}
 use Rattle.table.specs.Accept.{opens-of, closes-of, makes-of, reads-of, writes-by}
 use Rattle.table.specs.Facts.{Fits, Opens, Closes, Makes, Reads, Writes, AcceptedCall}
 use Rattle.model.specs.Step.{told, effect}
@@ -53,7 +54,7 @@ pub record CurrentIn (G : Geometry) (user : ℕ) (l : Lent) : Type 0 where
   pub entry : ℕ
   pub cur : Cur G (viewOf G (l .drive .image) (l .drive .map)) user (l .fcb) entry
 
-module _ {G : Geometry} (S : Sound G) (argument : ℕ) (l : Lent) (s : Session) (f : Fits G l s) (g : Good G (l .drive .image) (l .drive .map)) where
+module _ {G : Geometry} (S : Sound G) (asked : Asked) (l : Lent) (s : Session) (f : Fits G l s) (g : Good G (l .drive .image) (l .drive .map)) where
   -- 15
   opened-current : crOf (l .fcb) ≤ 128 → Opens G l s → CurrentIn G (s .user) (quietly (opened G s l) s l .lent)
   unfolding opened openedAt askedEntry
@@ -107,17 +108,17 @@ module _ {G : Geometry} (S : Sound G) (argument : ℕ) (l : Lent) (s : Session) 
   -- by the number of the call
   abbrev LeavesCurrent : ℕ → Type 0
   LeavesCurrent n =
-      (oneOf n (15 ∷ 22 ∷ []) ≡ true → crOf (l .fcb) ≤ 128) → AcceptedCall G (ask n argument) l s → CurrentIn G (s .user) (effect G (ask n argument) l s .lent)
+      (oneOf n (15 ∷ 22 ∷ []) ≡ true → crOf (l .fcb) ≤ 128) → AcceptedCall G (calling n asked) l s → CurrentIn G (s .user) (effect G (calling n asked) l s .lent)
 
   current-in : (n : ℕ) → oneOf n currentCalls ≡ true → LeavesCurrent n
   unfolding effect kindOf told
   current-in n z =
       at-one LeavesCurrent n currentCalls z
-      ((λ cr o. opened-current (cr refl) (opens-of G argument l s (o .none))) & (λ cr o. closed-current (closes-of G (ask 16 argument) l s (o .none) refl))
-      & (λ cr o. read-current 20 (reads-of G (ask 20 argument) l s (o .none) (o .ready .image-right) (f .user-low) refl))
-      & (λ cr o. written-current 21 (writes-by G (ask 21 argument) l s (o .none) refl)) & (λ cr o. created-current (cr refl) (makes-of G (ask 22 argument) l s (o .none) refl))
-      & (λ cr o. read-current 33 (reads-of G (ask 33 argument) l s (o .none) (o .ready .image-right) (f .user-low) refl))
-      & (λ cr o. written-current 34 (writes-by G (ask 34 argument) l s (o .none) refl)) & tt)
+      ((λ cr o. opened-current (cr refl) (opens-of G asked l s (o .none))) & (λ cr o. closed-current (closes-of G (calling 16 asked) l s (o .none) refl))
+      & (λ cr o. read-current 20 (reads-of G (calling 20 asked) l s (o .none) (o .ready .image-right) (f .user-low) refl))
+      & (λ cr o. written-current 21 (writes-by G (calling 21 asked) l s (o .none) refl)) & (λ cr o. created-current (cr refl) (makes-of G (calling 22 asked) l s (o .none) refl))
+      & (λ cr o. read-current 33 (reads-of G (calling 33 asked) l s (o .none) (o .ready .image-right) (f .user-low) refl))
+      & (λ cr o. written-current 34 (writes-by G (calling 34 asked) l s (o .none) refl)) & tt)
 
 no-user : (k : Kind) → same k User ≡ false → k ≡ User → ⊥
 no-user k f q = kinds-apart k User f q
@@ -133,7 +134,7 @@ module _ {G : Geometry} (S : Sound G) (d : Disk) (q : Request) (accepted : accep
       let good = step-accepted S (q .asked) (lentTo d q) (d .session) c in
       let k : CurrentIn G (d .session .user) (outcomeOf G d q .lent) =
       subst (λ (o : Outcome). CurrentIn G (d .session .user) (o .lent)) (sym (c .is))
-      (current-in S (q .asked .argument) (lentTo d q) (d .session) (c .facts .ready .fits)
+      (current-in S (q .asked) (lentTo d q) (d .session) (c .facts .ready .fits)
       (ready-good (c .facts .ready) (told-apart _ 13 currentCalls call refl)) (q .asked .number) call cr (c .facts)) in
       let o = outcomeOf G d q .lent in
       record {

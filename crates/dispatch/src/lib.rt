@@ -7,7 +7,7 @@ ghost use Rattle.format.specs.Entries.{entryAt};
 ghost use Rattle.model.specs.Kinds.{kindOf, isCall};
 ghost use Rattle.model.specs.declared.Kind.the-variants.{Quiet, Search};
 ghost use Rattle.model.specs.Lent.{lend, outcome};
-ghost use Rattle.table.specs.Own.{ask};
+ghost use Rattle.table.specs.Own.{calling};
 ghost use Rattle.table.specs.Facts.{Fits, Ready};
 ghost use Rattle.table.specs.OwnStep.{ownStep};
 ghost use Rattle.chains.specs.Chain.{Indexed};
@@ -29,8 +29,8 @@ fn quiet_call(
 ) -> Answer
     requires { ⌜ (kindOf number ≡ Quiet) × Fits eightInch (lend (now image) (now map) (now fcb) (now buffer)) session
         × Indexed eightInch (entryAt eightInch (now image)) (now chain) ⌝ }
-    ensures { λ r. ⌜ ((argument : ℕ) → outcome r (now (image .entry)) (now (map .entry)) (now (fcb .exit)) (now (buffer .exit))
-        ≡ ownStep eightInch (ask number argument) (lend (now (image .entry)) (now (map .entry)) (now (fcb .entry)) (now (buffer .entry))) session) ⌝ }
+    ensures { λ r. ⌜ ((asked : Asked) → outcome r (now (image .entry)) (now (map .entry)) (now (fcb .exit)) (now (buffer .exit))
+        ≡ ownStep eightInch (calling number asked) (lend (now (image .entry)) (now (map .entry)) (now (fcb .entry)) (now (buffer .entry))) session) ⌝ }
 {
     if number == 15 {
         return files::open_file(image, fcb, session, chain);
@@ -54,8 +54,8 @@ fn search_call(
     session: Session,
 ) -> Answer
     requires { ⌜ (kindOf number ≡ Search) × Fits eightInch (lend (now image) (now map) (now fcb) (now buffer)) session ⌝ }
-    ensures { λ r. ⌜ ((argument : ℕ) → outcome r (now (image .entry)) (now (map .entry)) (now (fcb .entry)) (now (buffer .exit))
-        ≡ ownStep eightInch (ask number argument) (lend (now (image .entry)) (now (map .entry)) (now (fcb .entry)) (now (buffer .entry))) session) ⌝ }
+    ensures { λ r. ⌜ ((asked : Asked) → outcome r (now (image .entry)) (now (map .entry)) (now (fcb .entry)) (now (buffer .exit))
+        ≡ ownStep eightInch (calling number asked) (lend (now (image .entry)) (now (map .entry)) (now (fcb .entry)) (now (buffer .entry))) session) ⌝ }
 {
     if number == 17 {
         return searching::search_first(image, fcb, buffer, session);
@@ -84,7 +84,7 @@ pub fn own_call(
     match kind {
         Kind::Quiet => quiet_call(number, image, map, fcb, buffer, session, chain),
         Kind::Search => search_call(number, image, map, fcb, buffer, session),
-        Kind::User => plain::user_number(asked.argument, session),
+        Kind::User => plain::user_number(asked, session),
         Kind::Settle => plain::free_blocks(map, session),
         Kind::Close => closing::close_file(image, map, fcb, session, chain),
         Kind::Delete => families::delete_file(image, map, fcb, session),

@@ -10,7 +10,7 @@ use Rattle.lists.specs.Cases.{split, lt-or-le, clash}
 use Rattle.lists.specs.Tests.{_or_}
 use Rattle.lists.specs.Splice.{part, splice, part-splice-same}
 use Rattle.lists.specs.Count.{count-from}
-use Rattle.table.specs.Own.{ask}
+use Rattle.table.specs.Own.{calling}
 use Rattle.format.specs.Diskette.{Bytes, Geometry, Sound, recordBytes, eightInch, Long}
 use Rattle.format.specs.Entries.{Rows, entryAt}
 use Rattle.format.specs.Consistent.{consistent}
@@ -84,9 +84,9 @@ module _ (G : Geometry) (img : Bytes) (long : Long G img) (right : consistent G 
   }
 
   -- an image that is consistent can be logged in, whatever the map
-  pub login-step : (argument : ℕ) → step G (ask 13 argument) (lend img map fcb buffer) s ≡ done 0 s (lend img (freshMap G (entryAt G img)) fcb buffer)
+  pub login-step : (asked : Asked) → step G (calling 13 asked) (lend img map fcb buffer) s ≡ done 0 s (lend img (freshMap G (entryAt G img)) fcb buffer)
   unfolding loggedIn effect settled isCall kindOf
-  login-step argument = step-carried G (ask 13 argument) (lend img map fcb buffer) s refl (login-ready G argument (lend img map fcb buffer) s fits right) tt
+  login-step asked = step-carried G (calling 13 asked) (lend img map fcb buffer) s refl (login-ready G asked (lend img map fcb buffer) s fits right) tt
 
   -- after it every call finds image and map right
   pub logged-ready : (asked : Asked) → (usesFcb (asked .number) ≡ true → getD fcb 0 0 ≤ 1) → Ready G asked (lend img (freshMap G (entryAt G img)) fcb buffer) (ended s)
@@ -105,27 +105,27 @@ module _ (G : Geometry) (img : Bytes) (long : Long G img) (right : consistent G 
   }
 
   -- and 46 then answers eight times the free notes of the fresh map
-  pub space-step : (argument : ℕ) → step G (ask 46 argument) (lend img (freshMap G (entryAt G img)) fcb buffer) (ended s)
+  pub space-step : (asked : Asked) → step G (calling 46 asked) (lend img (freshMap G (entryAt G img)) fcb buffer) (ended s)
       ≡ done 0 s (lend img (freshMap G (entryAt G img)) fcb (splice buffer 0 (threeBytes (G .perBlock * freeCount G (freshMap G (entryAt G img))))))
   unfolding space usesFcb effect told isCall kindOf
-  space-step argument =
-      step-carried G (ask 46 argument) (lend img (freshMap G (entryAt G img)) fcb buffer) (ended s) refl (logged-ready (ask 46 argument) (λ u. clash (sym u))) tt
+  space-step asked =
+      step-carried G (calling 46 asked) (lend img (freshMap G (entryAt G img)) fcb buffer) (ended s) refl (logged-ready (calling 46 asked) (λ u. clash (sym u))) tt
 
 -- a call after another: on what that left, with the session that it left
 abbrev pub next : Geometry → Asked → Outcome → Outcome
 next G asked o = step G asked (o .lent) (o .answer .session)
 
 -- 13 is accepted and makes the map the fresh one, and 46, straight after it, answers 0 with these three bytes
-pub record SpaceIs (G : Geometry) (img : Bytes) (bytes : Bytes) (map fcb buffer : Bytes) (s : Session) (x y : ℕ) : Type 0 where
-  pub login-a : step G (ask 13 x) (lend img map fcb buffer) s .answer .a ≡ 0
-  pub login-h : step G (ask 13 x) (lend img map fcb buffer) s .answer .h ≡ 0
-  pub login-map : step G (ask 13 x) (lend img map fcb buffer) s .lent .drive .map ≡ freshMap G (entryAt G img)
-  pub space-a : next G (ask 46 y) (step G (ask 13 x) (lend img map fcb buffer) s) .answer .a ≡ 0
-  pub space-h : next G (ask 46 y) (step G (ask 13 x) (lend img map fcb buffer) s) .answer .h ≡ 0
-  pub space-bytes : part (next G (ask 46 y) (step G (ask 13 x) (lend img map fcb buffer) s) .lent .buffer) 0 3 ≡ bytes
+pub record SpaceIs (G : Geometry) (img : Bytes) (bytes : Bytes) (map fcb buffer : Bytes) (s : Session) (x y : Asked) : Type 0 where
+  pub login-a : step G (calling 13 x) (lend img map fcb buffer) s .answer .a ≡ 0
+  pub login-h : step G (calling 13 x) (lend img map fcb buffer) s .answer .h ≡ 0
+  pub login-map : step G (calling 13 x) (lend img map fcb buffer) s .lent .drive .map ≡ freshMap G (entryAt G img)
+  pub space-a : next G (calling 46 y) (step G (calling 13 x) (lend img map fcb buffer) s) .answer .a ≡ 0
+  pub space-h : next G (calling 46 y) (step G (calling 13 x) (lend img map fcb buffer) s) .answer .h ≡ 0
+  pub space-bytes : part (next G (calling 46 y) (step G (calling 13 x) (lend img map fcb buffer) s) .lent .buffer) 0 3 ≡ bytes
 
 pub space-is : (G : Geometry) (img : Bytes) → Long G img → consistent G img ≡ true
-    → (map fcb buffer : Bytes) (s : Session) → Fitting G map fcb buffer s → (x y : ℕ)
+    → (map fcb buffer : Bytes) (s : Session) → Fitting G map fcb buffer s → (x y : Asked)
     → SpaceIs G img (threeBytes (G .perBlock * freeCount G (freshMap G (entryAt G img)))) map fcb buffer s x y
 space-is G img long right map fcb buffer s fit x y =
     let one = login-step G img long right map fcb buffer s fit x in
@@ -142,7 +142,7 @@ space-is G img long right map fcb buffer s fit x y =
 
 -- on an erased disk: 88H 07H 00H
 pub erased-space : (img : Bytes) → ErasedDisk eightInch img
-    → (map fcb buffer : Bytes) (s : Session) → Fitting eightInch map fcb buffer s → (x y : ℕ)
+    → (map fcb buffer : Bytes) (s : Session) → Fitting eightInch map fcb buffer s → (x y : Asked)
     → SpaceIs eightInch img (136 ∷ 7 ∷ 0 ∷ []) map fcb buffer s x y
 erased-space img erased map fcb buffer s fit x y =
     let n : freeCount eightInch (freshMap eightInch (entryAt eightInch img)) ≡ 241 = erased-count eight-sound img erased in

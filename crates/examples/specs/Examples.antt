@@ -6,7 +6,7 @@ use mathlib.Core.List.{[], _∷_}
 use Prim.Native.Nat.{ℕ, _<_}
 use native.Mathlib.Omega.{arith}
 use lib.ListN.{length}
-use Rattle.table.specs.Own.{ask}
+use Rattle.table.specs.Own.{calling}
 use Rattle.format.specs.Diskette.{Bytes, eightInch, diskRecord, offsetOf, slotCount, slotsOn, Long}
 use Rattle.format.specs.Names.{nameRight}
 use Rattle.format.specs.Entries.{entryAt, userOf, exOf, used, extentOf, named}
@@ -14,6 +14,7 @@ use Rattle.format.specs.Consistent.{consistent}
 use Rattle.format.specs.Notes.{isListed}
 use Rattle.format.specs.Fcb.{fcbBytes, crOf}
 use Rattle.disk.specs.Eight.{eight-sound}
+use Rattle.model.specs.declared.Asked.{Asked}
 use Rattle.model.specs.declared.Session.{Session}
 use Rattle.model.specs.Lent.{Lent}
 use Rattle.model.specs.Search.{patternOf, extentHit, hit}
@@ -44,18 +45,18 @@ pub record Examples : Type 0 where
   pub d : offsetOf eightInch (diskRecord eightInch 242 7) ≡ 254336
   -- an empty disk, logged in: space bytes 88H 07H 00H, which is 1,928
   pub e-number : threeBytes 1928 ≡ 136 ∷ 7 ∷ 0 ∷ []
-  pub e : (img : Bytes) → ErasedDisk eightInch img → (map fcb buffer : Bytes) (s : Session) → Fitting eightInch map fcb buffer s → (x y : ℕ)
+  pub e : (img : Bytes) → ErasedDisk eightInch img → (map fcb buffer : Bytes) (s : Session) → Fitting eightInch map fcb buffer s → (x y : Asked)
       → SpaceIs eightInch img (136 ∷ 7 ∷ 0 ∷ []) map fcb buffer s x y
   -- R = 262,143 is extent 2,047, record 127; 262,144 gives 6
-  pub f-last : (n argument : ℕ) (l : Lent) (s : Session) → oneOf n (33 ∷ 34 ∷ []) ≡ true → RandomIs (l .fcb) 255 255 3 → Last eightInch n argument l s
-  pub f-over : (n argument : ℕ) (l : Lent) (s : Session) → oneOf n (33 ∷ 34 ∷ []) ≡ true → Ready eightInch (ask n argument) l s → RandomIs (l .fcb) 0 0 4
-      → Six eightInch n argument l s
+  pub f-last : (n : ℕ) (asked : Asked) (l : Lent) (s : Session) → oneOf n (33 ∷ 34 ∷ []) ≡ true → RandomIs (l .fcb) 255 255 3 → Last eightInch n asked l s
+  pub f-over : (n : ℕ) (asked : Asked) (l : Lent) (s : Session) → oneOf n (33 ∷ 34 ∷ []) ≡ true → Ready eightInch (calling n asked) l s → RandomIs (l .fcb) 0 0 4
+      → Six eightInch n asked l s
   -- an entry of extent 2,047 with rc 128: size bytes 00H 00H 04H
-  pub g : (argument : ℕ) (l : Lent) (s : Session) → Ready eightInch (ask 35 argument) l s → nameRight false (l .fcb) 1 ≡ true → HasEntry eightInch l s 2047 128
-      → Gives eightInch 35 argument l s (0 ∷ 0 ∷ 4 ∷ [])
+  pub g : (asked : Asked) (l : Lent) (s : Session) → Ready eightInch (calling 35 asked) l s → nameRight false (l .fcb) 1 ≡ true → HasEntry eightInch l s 2047 128
+      → Gives eightInch 35 asked l s (0 ∷ 0 ∷ 4 ∷ [])
   -- 36 at extent 1, cr 128: 256
-  pub h : (argument : ℕ) (l : Lent) (s : Session) → Ready eightInch (ask 36 argument) l s → extentOf (l .fcb) ≡ 1 → crOf (l .fcb) ≡ 128
-      → Gives eightInch 36 argument l s (threeBytes 256)
+  pub h : (asked : Asked) (l : Lent) (s : Session) → Ready eightInch (calling 36 asked) l s → extentOf (l .fcb) ≡ 1 → crOf (l .fcb) ≡ 128
+      → Gives eightInch 36 asked l s (threeBytes 256)
   -- eleven 3FH match any name: in the name test, and in the pattern that 17 takes from an FCB, where byte 12 alone decides
   pub i-name : (s : Bytes) (q : ℕ) → AllAny s q → (user : ℕ) (row : Bytes) → userOf row ≡ user → named true user s q row ≡ true
   pub i-pattern : (fcb : Bytes) → length fcb ≡ fcbBytes → AllAny fcb 1 → (user : ℕ) (row : Bytes) → userOf row ≡ user

@@ -10,7 +10,7 @@ use Rattle.lists.specs.Cases.{split, bool-cases, not-both}
 use Rattle.lists.specs.Tests.{and-left}
 use Rattle.lists.specs.Below.{all-at}
 use Rattle.lists.specs.Splice.{part, splice, part-splice-same}
-use Rattle.table.specs.Own.{ask}
+use Rattle.table.specs.Own.{calling}
 use Rattle.format.specs.Diskette.{Bytes, Geometry, extentRecords}
 use Rattle.format.specs.Names.{nameRight}
 use Rattle.format.specs.Entries.{countOf, userOf, extentOf, endOf, named, findNamed}
@@ -18,6 +18,7 @@ use Rattle.format.specs.Consistent.{consistentRows, consistent}
 use Rattle.format.specs.Fcb.{crOf}
 use Rattle.format.specs.Found.{isFound}
 use Rattle.facts.specs.Found.{FoundAt, is-found, not-found, none-says}
+use Rattle.model.specs.declared.Asked.{Asked}
 use Rattle.model.specs.declared.Session.{Session}
 use Rattle.model.specs.Codes.{aOf, hOf}
 use Rattle.model.specs.Lent.{Lent, lend, rowsOf}
@@ -32,40 +33,40 @@ use Rattle.table.specs.Facts.{Ready, Sizes, Positions}
 use Rattle.table.specs.Total.{step-carried}
 
 -- the call answers 0, 0, and r0 to r2 of the FCB that it leaves are these bytes
-pub record Gives (G : Geometry) (n argument : ℕ) (l : Lent) (s : Session) (bytes : Bytes) : Type 0 where
-  pub is-a : step G (ask n argument) l s .answer .a ≡ 0
-  pub is-h : step G (ask n argument) l s .answer .h ≡ 0
-  pub is-random : part (step G (ask n argument) l s .lent .fcb) 33 3 ≡ bytes
+pub record Gives (G : Geometry) (n : ℕ) (asked : Asked) (l : Lent) (s : Session) (bytes : Bytes) : Type 0 where
+  pub is-a : step G (calling n asked) l s .answer .a ≡ 0
+  pub is-h : step G (calling n asked) l s .answer .h ≡ 0
+  pub is-random : part (step G (calling n asked) l s .lent .fcb) 33 3 ≡ bytes
 
-gives-three : (G : Geometry) (n argument : ℕ) (l : Lent) (s : Session) (value : ℕ) → length (l .fcb) ≡ 36
-    → step G (ask n argument) l s ≡ done 0 s (lend (l .drive .image) (l .drive .map) (splice (l .fcb) 33 (threeBytes value)) (l .buffer))
-    → Gives G n argument l s (threeBytes value)
-gives-three G n argument l s value long q =
+gives-three : (G : Geometry) (n : ℕ) (asked : Asked) (l : Lent) (s : Session) (value : ℕ) → length (l .fcb) ≡ 36
+    → step G (calling n asked) l s ≡ done 0 s (lend (l .drive .image) (l .drive .map) (splice (l .fcb) 33 (threeBytes value)) (l .buffer))
+    → Gives G n asked l s (threeBytes value)
+gives-three G n asked l s value long q =
     record { is-a = rw q; is-h = rw q; is-random = rw q (part-splice-same (l .fcb) 33 (threeBytes value) (omega arith)) }
 
 -- ---- 36: 128 × extent + cr
-position-gives : (G : Geometry) (argument : ℕ) (l : Lent) (s : Session) → Ready G (ask 36 argument) l s → Positions G l s
-    → Gives G 36 argument l s (threeBytes (extentRecords * extentOf (l .fcb) + crOf (l .fcb)))
+position-gives : (G : Geometry) (asked : Asked) (l : Lent) (s : Session) → Ready G (calling 36 asked) l s → Positions G l s
+    → Gives G 36 asked l s (threeBytes (extentRecords * extentOf (l .fcb) + crOf (l .fcb)))
 unfolding positioned effect told isCall kindOf
-position-gives G argument l s ready p =
-    gives-three G 36 argument l s (extentRecords * extentOf (l .fcb) + crOf (l .fcb)) (ready .fits .fcb-long)
-    (step-carried G (ask 36 argument) l s refl ready (positions-none G argument l s p))
+position-gives G asked l s ready p =
+    gives-three G 36 asked l s (extentRecords * extentOf (l .fcb) + crOf (l .fcb)) (ready .fits .fcb-long)
+    (step-carried G (calling 36 asked) l s refl ready (positions-none G asked l s p))
 
 -- extent 1, cr 128
-pub position-256 : (G : Geometry) (argument : ℕ) (l : Lent) (s : Session) → Ready G (ask 36 argument) l s → extentOf (l .fcb) ≡ 1 → crOf (l .fcb) ≡ 128
-    → Gives G 36 argument l s (0 ∷ 1 ∷ 0 ∷ [])
+pub position-256 : (G : Geometry) (asked : Asked) (l : Lent) (s : Session) → Ready G (calling 36 asked) l s → extentOf (l .fcb) ≡ 1 → crOf (l .fcb) ≡ 128
+    → Gives G 36 asked l s (0 ∷ 1 ∷ 0 ∷ [])
 unfolding extentOf
-position-256 G argument l s ready ext cr =
+position-256 G asked l s ready ext cr =
     let q : extentRecords * extentOf (l .fcb) + crOf (l .fcb) ≡ 256 = omega arith in
-    subst (λ (k : ℕ). Gives G 36 argument l s (threeBytes k)) q
-    (position-gives G argument l s ready record { ex = omega arith; s2 = omega arith; cr = omega arith })
+    subst (λ (k : ℕ). Gives G 36 asked l s (threeBytes k)) q
+    (position-gives G asked l s ready record { ex = omega arith; s2 = omega arith; cr = omega arith })
 
 -- ---- 35: the largest of 128 × extent + rc over the name's entries
-pub size-step : (G : Geometry) (argument : ℕ) (l : Lent) (s : Session) → Ready G (ask 35 argument) l s → Sizes G l s
-    → step G (ask 35 argument) l s
+pub size-step : (G : Geometry) (asked : Asked) (l : Lent) (s : Session) → Ready G (calling 35 asked) l s → Sizes G l s
+    → step G (calling 35 asked) l s
     ≡ done 0 s (lend (l .drive .image) (l .drive .map) (splice (l .fcb) 33 (threeBytes (fileSize G (rowsOf G l) (named false (s .user) (l .fcb) 1)))) (l .buffer))
 unfolding sized effect told isCall kindOf
-size-step G argument l s ready p = step-carried G (ask 35 argument) l s refl ready (sizes-right G argument l s p)
+size-step G asked l s ready p = step-carried G (calling 35 asked) l s refl ready (sizes-right G asked l s p)
 
 -- an entry of the name, with this extent and count
 pub record HasEntry (G : Geometry) (l : Lent) (s : Session) (ext count : ℕ) : Type 0 where
@@ -94,13 +95,13 @@ entry-high G l s right low e below mine =
     end-high (rowsOf G l e) (user-numbers G (rowsOf G l e) (all-at _ (G .entries) (and-left _ _ right) e below) (omega arith))
 
 -- extent 2,047 with rc 128
-pub size-largest : (G : Geometry) (argument : ℕ) (l : Lent) (s : Session) → Ready G (ask 35 argument) l s → nameRight false (l .fcb) 1 ≡ true
-    → HasEntry G l s 2047 128 → Gives G 35 argument l s (0 ∷ 0 ∷ 4 ∷ [])
-size-largest G argument l s ready name h =
+pub size-largest : (G : Geometry) (asked : Asked) (l : Lent) (s : Session) → Ready G (calling 35 asked) l s → nameRight false (l .fcb) 1 ≡ true
+    → HasEntry G l s 2047 128 → Gives G 35 asked l s (0 ∷ 0 ∷ 4 ∷ [])
+size-largest G asked l s ready name h =
     let picks : Bytes → Bool = named false (s .user) (l .fcb) 1 in
     let least = size-covers G (rowsOf G l) picks (h .entry) (h .below) (h .mine) in
     let most = size-high G (rowsOf G l) picks 262144 (entry-high G l s (ready .image-right) (ready .fits .user-low)) in
     let q : fileSize G (rowsOf G l) (named false (s .user) (l .fcb) 1) ≡ 262144 = omega (arith, entry-size G l s 2047 128 h) in
-    subst (λ (k : ℕ). Gives G 35 argument l s (threeBytes k)) q
-    (gives-three G 35 argument l s (fileSize G (rowsOf G l) picks) (ready .fits .fcb-long)
-    (size-step G argument l s ready record { name = name; some = some-entry G l s 2047 128 h }))
+    subst (λ (k : ℕ). Gives G 35 asked l s (threeBytes k)) q
+    (gives-three G 35 asked l s (fileSize G (rowsOf G l) picks) (ready .fits .fcb-long)
+    (size-step G asked l s ready record { name = name; some = some-entry G l s 2047 128 h }))

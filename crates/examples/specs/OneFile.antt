@@ -30,7 +30,8 @@ use Rattle.model.specs.Step.{step}
 use Rattle.fields.specs.Erased.{ErasedDisk, erased-empty, erased-unused}
 use Rattle.fields.specs.Size.{size-covers, size-high}
 use Rattle.table.specs.Facts.{Ready}
-use Rattle.table.specs.Own.{ask}
+use Rattle.table.specs.Own.{calling}
+use Rattle.model.specs.declared.Asked.{Asked}
 use Rattle.examples.specs.Erased.{Fitting, fresh-count, logged-ready}
 use Rattle.examples.specs.Numbers.{size-step, HasEntry, some-entry}
 
@@ -192,14 +193,14 @@ module _ (img : Bytes) (erased : ErasedDisk eightInch img) (r : ℕ) (low : r �
       let most = size-high eightInch rows (named false 0 fileFcb 1) r (λ e h t. let q : e ≡ 0 = only-named e h t in rw q (omega arith)) in
       omega arith
 
-  pub one-sized : (map buffer : Bytes) (s : Session) → s .user ≡ 0 → Fitting eightInch map fileFcb buffer s → (x : ℕ)
-      → step eightInch (ask 35 x) (lend (oneFile img r) (freshMap eightInch (entryAt eightInch (oneFile img r))) fileFcb buffer) (ended s)
+  pub one-sized : (map buffer : Bytes) (s : Session) → s .user ≡ 0 → Fitting eightInch map fileFcb buffer s → (x : Asked)
+      → step eightInch (calling 35 x) (lend (oneFile img r) (freshMap eightInch (entryAt eightInch (oneFile img r))) fileFcb buffer) (ended s)
       ≡ done 0 s (lend (oneFile img r) (freshMap eightInch (entryAt eightInch (oneFile img r))) (splice fileFcb 33 (threeBytes r)) buffer)
   unfolding rows
   one-sized map buffer s zero-user fit x =
       let l : Lent = lend (oneFile img r) (freshMap eightInch (entryAt eightInch (oneFile img r))) fileFcb buffer in
-      let ready : Ready eightInch (ask 35 x) l (ended s) =
-      logged-ready eightInch (oneFile img r) one-long one-consistent map fileFcb buffer s fit (ask 35 x) (λ u. drive-low) in
+      let ready : Ready eightInch (calling 35 x) l (ended s) =
+      logged-ready eightInch (oneFile img r) one-long one-consistent map fileFcb buffer s fit (calling 35 x) (λ u. drive-low) in
       let has : HasEntry eightInch l (ended s) 0 r =
       record { entry = 0; below = omega arith; mine = rw (zero-user, one-row) (file-asked r); extent = rw one-row (file-run r); counted = rw one-row (file-count r) } in
       let size : fileSize eightInch (rowsOf eightInch l) (named false (s .user) fileFcb 1) ≡ r = rw zero-user one-size in

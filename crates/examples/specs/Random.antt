@@ -9,6 +9,7 @@ use borrow.Author.Tests.{lt-ltb}
 use Rattle.lists.specs.Tests.{_or_}
 use Rattle.format.specs.Diskette.{Bytes, Geometry, lastRecord}
 use Rattle.format.specs.Fcb.{randomOf}
+use Rattle.model.specs.declared.Asked.{Asked}
 use Rattle.model.specs.declared.Session.{Session}
 use Rattle.model.specs.declared.Code.the-variants.{BadRecord}
 use Rattle.model.specs.declared.Verdict.the-variants.{Refused}
@@ -20,7 +21,7 @@ use Rattle.model.specs.Kinds.{oneOf}
 use Rattle.model.specs.Table.{verdict}
 use Rattle.model.specs.Step.{refused, step}
 use Rattle.table.specs.First.{_&_, here}
-use Rattle.table.specs.Own.{ask, at-one}
+use Rattle.table.specs.Own.{calling, at-one}
 use Rattle.table.specs.Facts.{Ready}
 use Rattle.fields.specs.Target.{extent-random, record-random}
 use Rattle.table.specs.Refuse.{random-over}
@@ -37,42 +38,42 @@ unfolding randomOf
 random-is fcb r0 r1 r2 r = rw (r .low, r .middle, r .high)
 
 -- a call that the rows before its random record pass is refused with 6 and changes nothing
-pub record Six (G : Geometry) (n argument : ℕ) (l : Lent) (s : Session) : Type 0 where
+pub record Six (G : Geometry) (n : ℕ) (asked : Asked) (l : Lent) (s : Session) : Type 0 where
   pub is-number : randomOf (l .fcb) ≡ 262144
-  pub refuses : step G (ask n argument) l s ≡ refused BadRecord s l
-  pub is-a : step G (ask n argument) l s .answer .a ≡ 6
-  pub is-h : step G (ask n argument) l s .answer .h ≡ 0
+  pub refuses : step G (calling n asked) l s ≡ refused BadRecord s l
+  pub is-a : step G (calling n asked) l s .answer .a ≡ 6
+  pub is-h : step G (calling n asked) l s .answer .h ≡ 0
 
-six : (G : Geometry) (n argument : ℕ) (l : Lent) (s : Session) → randomOf (l .fcb) ≡ 262144 → step G (ask n argument) l s ≡ refused BadRecord s l
-    → Six G n argument l s
-six G n argument l s is q = record { is-number = is; refuses = q; is-a = rw q; is-h = rw q }
+six : (G : Geometry) (n : ℕ) (asked : Asked) (l : Lent) (s : Session) → randomOf (l .fcb) ≡ 262144 → step G (calling n asked) l s ≡ refused BadRecord s l
+    → Six G n asked l s
+six G n asked l s is q = record { is-number = is; refuses = q; is-a = rw q; is-h = rw q }
 
-pub random-six : (G : Geometry) (n argument : ℕ) (l : Lent) (s : Session) → oneOf n (33 ∷ 34 ∷ []) ≡ true → Ready G (ask n argument) l s
-    → RandomIs (l .fcb) 0 0 4 → Six G n argument l s
+pub random-six : (G : Geometry) (n : ℕ) (asked : Asked) (l : Lent) (s : Session) → oneOf n (33 ∷ 34 ∷ []) ≡ true → Ready G (calling n asked) l s
+    → RandomIs (l .fcb) 0 0 4 → Six G n asked l s
 unfolding isCall kindOf
-random-six G n argument l s which ready r =
+random-six G n asked l s which ready r =
     let over = lt-ltb lastRecord (randomOf (l .fcb)) (omega (arith, random-is (l .fcb) 0 0 4 r)) in
-    six G n argument l s (random-is (l .fcb) 0 0 4 r)
-    (at-one (λ (m : ℕ). Ready G (ask m argument) l s → step G (ask m argument) l s ≡ refused BadRecord s l) n (33 ∷ 34 ∷ []) which
-    ((λ p. step-refused G (ask 33 argument) l s BadRecord refl p (here over refl))
-    & (λ p. step-refused G (ask 34 argument) l s BadRecord refl p (here over refl)) & tt) ready)
+    six G n asked l s (random-is (l .fcb) 0 0 4 r)
+    (at-one (λ (m : ℕ). Ready G (calling m asked) l s → step G (calling m asked) l s ≡ refused BadRecord s l) n (33 ∷ 34 ∷ []) which
+    ((λ p. step-refused G (calling 33 asked) l s BadRecord refl p (here over refl))
+    & (λ p. step-refused G (calling 34 asked) l s BadRecord refl p (here over refl)) & tt) ready)
 
 -- 262,143 is the last that is taken: record 127 of extent 2,047
-pub record Last (G : Geometry) (n argument : ℕ) (l : Lent) (s : Session) : Type 0 where
+pub record Last (G : Geometry) (n : ℕ) (asked : Asked) (l : Lent) (s : Session) : Type 0 where
   pub is-number : randomOf (l .fcb) ≡ 262143
   pub extent : targetExtent n (l .fcb) ≡ 2047
   pub is-record : targetRecord n (l .fcb) ≡ 127
-  pub not-six : verdict G (ask n argument) l s ≡ Refused BadRecord → ⊥
+  pub not-six : verdict G (calling n asked) l s ≡ Refused BadRecord → ⊥
 
-pub random-last : (G : Geometry) (n argument : ℕ) (l : Lent) (s : Session) → oneOf n (33 ∷ 34 ∷ []) ≡ true → RandomIs (l .fcb) 255 255 3
-    → Last G n argument l s
+pub random-last : (G : Geometry) (n : ℕ) (asked : Asked) (l : Lent) (s : Session) → oneOf n (33 ∷ 34 ∷ []) ≡ true → RandomIs (l .fcb) 255 255 3
+    → Last G n asked l s
 unfolding isRandom
-random-last G n argument l s which r =
+random-last G n asked l s which r =
     let is : randomOf (l .fcb) ≡ lastRecord = random-is (l .fcb) 255 255 3 r in
     let random = at-one (λ (m : ℕ). isRandom m ≡ true) n (33 ∷ 34 ∷ []) which (refl & refl & tt) in
     record {
       is-number = is;
       extent = extent-random n (l .fcb) random ∙ rw is;
       is-record = record-random n (l .fcb) random ∙ rw is;
-      not-six = λ q. omega (arith, random-over G (ask n argument) l s q);
+      not-six = λ q. omega (arith, random-over G (calling n asked) l s q);
     }

@@ -48,12 +48,12 @@ pub record Forgets (b : Build) : Type 0 where
   pub lent : Lent
   pub session : Session
   pub empty : Bytes
-  pub taken-a : b place (ask 21 0) lent session .answer .a ≡ 0
-  pub taken-h : b place (ask 21 0) lent session .answer .h ≡ 0
-  pub same-extent : targetExtent 33 (b place (ask 21 0) lent session .lent .fcb) ≡ targetExtent 21 (lent .fcb)
-  pub same-record : targetRecord 33 (b place (ask 21 0) lent session .lent .fcb) ≡ targetRecord 21 (lent .fcb)
-  pub lost : b (suc place) (ask 33 0) (lend (b place (ask 21 0) lent session .lent .drive .image) (b place (ask 21 0) lent session .lent .drive .map)
-      (b place (ask 21 0) lent session .lent .fcb) empty) (b place (ask 21 0) lent session .answer .session) .lent .buffer ≡ lent .buffer → ⊥
+  pub taken-a : b place (ask 21) lent session .answer .a ≡ 0
+  pub taken-h : b place (ask 21) lent session .answer .h ≡ 0
+  pub same-extent : targetExtent 33 (b place (ask 21) lent session .lent .fcb) ≡ targetExtent 21 (lent .fcb)
+  pub same-record : targetRecord 33 (b place (ask 21) lent session .lent .fcb) ≡ targetRecord 21 (lent .fcb)
+  pub lost : b (suc place) (ask 33) (lend (b place (ask 21) lent session .lent .drive .image) (b place (ask 21) lent session .lent .drive .map)
+      (b place (ask 21) lent session .lent .fcb) empty) (b place (ask 21) lent session .answer .session) .lent .buffer ≡ lent .buffer → ⊥
 
 -- ---- what the builds are run on: user 0 with no search, an empty buffer, an FCB of file A, and any map
 abbrev start : Session
@@ -79,18 +79,18 @@ abbrev pub after : Bytes → Lent
 after img = lend img (freshMap eightInch (entryAt eightInch img)) fileFcb blank
 
 abbrev pub onLogged : ℕ → Bytes → Outcome
-onLogged n img = step eightInch (ask n 0) (after img) (ended start)
+onLogged n img = step eightInch (ask n) (after img) (ended start)
 
 module _ (img : Bytes) (long : Long eightInch img) (right : consistent eightInch img ≡ true) where
-  pub logged-is : step eightInch (ask 13 0) (lend img notes fileFcb blank) start ≡ done 0 start (after img)
-  logged-is = login-step eightInch img long right notes fileFcb blank start fitting 0
+  pub logged-is : step eightInch (ask 13) (lend img notes fileFcb blank) start ≡ done 0 start (after img)
+  logged-is = login-step eightInch img long right notes fileFcb blank start fitting (ask 0)
 
   space-answers : onLogged 46 img .answer .a ≡ 0
-  space-answers = let two = space-step eightInch img long right notes fileFcb blank start fitting 0 in rw two
+  space-answers = let two = space-step eightInch img long right notes fileFcb blank start fitting (ask 0) in rw two
 
   space-byte : (count : ℕ) → freeCount eightInch (freshMap eightInch (entryAt eightInch img)) ≡ count → getD (onLogged 46 img .lent .buffer) 0 0 ≡ 8 * count % 256
   unfolding splice
-  space-byte count q = let two = space-step eightInch img long right notes fileFcb blank start fitting 0 in rw (two, q)
+  space-byte count q = let two = space-step eightInch img long right notes fileFcb blank start fitting (ask 0) in rw (two, q)
 
 module _ (img : Bytes) (erased : ErasedDisk eightInch img) where
   -- the erased disk: 46 answers 0, and the first byte is 88H
@@ -107,7 +107,7 @@ module _ (img : Bytes) (erased : ErasedDisk eightInch img) where
   one-size : (r : ℕ) → r ≤ 128 → getD (onLogged 35 (oneFile img r) .lent .fcb) 33 0 ≡ r
   unfolding splice fileFcb
   one-size r h =
-      let two = one-sized img erased r h notes blank start refl fitting 0 in rw two (omega arith)
+      let two = one-sized img erased r h notes blank start refl fitting (ask 0) in rw two (omega arith)
 
 -- ---- one that refuses all, whatever the codes
 unfoldable pub isRefusal : Code → Bool
@@ -172,45 +172,45 @@ pub record SameBuffers (l m : Lent) : Type 0 where
 
 -- one that makes up free space, or sizes: its answer does not go by image and map
 abbrev pub MakesUpSpace : Build → Type 0
-MakesUpSpace b = (k : ℕ) (l m : Lent) (s : Session) → SameBuffers l m → b k (ask 46 0) l s .lent .buffer ≡ b k (ask 46 0) m s .lent .buffer
+MakesUpSpace b = (k : ℕ) (l m : Lent) (s : Session) → SameBuffers l m → b k (ask 46) l s .lent .buffer ≡ b k (ask 46) m s .lent .buffer
 
 abbrev pub MakesUpSizes : Build → Type 0
-MakesUpSizes b = (k : ℕ) (l m : Lent) (s : Session) → SameBuffers l m → b k (ask 35 0) l s .lent .fcb ≡ b k (ask 35 0) m s .lent .fcb
+MakesUpSizes b = (k : ℕ) (l m : Lent) (s : Session) → SameBuffers l m → b k (ask 35) l s .lent .fcb ≡ b k (ask 35) m s .lent .fcb
 
 -- ---- each falls
 module _ (img : Bytes) (erased : ErasedDisk eightInch img) where
   pub refuses-all-falls : (b : Build) → RefusesAll b → Falls b
   refuses-all-falls b r = record {
     place = 1;
-    asked = ask 46 0;
+    asked = ask 46;
     lent = after img;
     session = ended start;
-    differs = λ q. refusal-a _ (r .refusal 1 (ask 46 0) (after img) (ended start))
-        (ap (λ (o : Outcome). o .answer .a) (sym (r .is 1 (ask 46 0) (after img) (ended start)) ∙ q) ∙ erased-answers img erased);
+    differs = λ q. refusal-a _ (r .refusal 1 (ask 46) (after img) (ended start))
+        (ap (λ (o : Outcome). o .answer .a) (sym (r .is 1 (ask 46) (after img) (ended start)) ∙ q) ∙ erased-answers img erased);
   }
 
   -- call 0 is not listed
-  unlisted-answers : (l : Lent) (s : Session) → step eightInch (ask 0 0) l s .answer .a ≡ 255
+  unlisted-answers : (l : Lent) (s : Session) → step eightInch (ask 0) l s .answer .a ≡ 255
   unfolding isCall kindOf usesFcb
-  unlisted-answers l s = total-refused eightInch (ask 0 0) l s NotListed (verdict-unlisted eightInch (ask 0 0) l s refl) .is-a
+  unlisted-answers l s = total-refused eightInch (ask 0) l s NotListed (verdict-unlisted eightInch (ask 0) l s refl) .is-a
 
   pub fixed-falls : (a : ℕ) (b : Build) → AnswersFixed a b → Falls b
   fixed-falls a b f =
       split (eq-or-ne a 0)
       (λ z. record {
         place = 1;
-        asked = ask 0 0;
+        asked = ask 0;
         lent = after img;
         session = ended start;
-        differs = λ q. let w : a ≡ 255 = sym (f 1 (ask 0 0) (after img) (ended start)) ∙ ap (λ (o : Outcome). o .answer .a) q
+        differs = λ q. let w : a ≡ 255 = sym (f 1 (ask 0) (after img) (ended start)) ∙ ap (λ (o : Outcome). o .answer .a) q
             ∙ unlisted-answers (after img) (ended start) in omega arith;
       })
       (λ z. record {
         place = 1;
-        asked = ask 46 0;
+        asked = ask 46;
         lent = after img;
         session = ended start;
-        differs = λ q. z (sym (f 1 (ask 46 0) (after img) (ended start)) ∙ ap (λ (o : Outcome). o .answer .a) q ∙ erased-answers img erased);
+        differs = λ q. z (sym (f 1 (ask 46) (after img) (ended start)) ∙ ap (λ (o : Outcome). o .answer .a) q ∙ erased-answers img erased);
       })
 
   -- 46 must change the first byte of the buffer
@@ -220,10 +220,10 @@ module _ (img : Bytes) (erased : ErasedDisk eightInch img) where
       omega arith
 
   pub nothing-falls : (b : Build) → DoesNothing b → Falls b
-  nothing-falls b f = record { place = 1; asked = ask 46 0; lent = after img; session = ended start; differs = kept-falls _ (f 1 (ask 46 0) (after img) (ended start)) }
+  nothing-falls b f = record { place = 1; asked = ask 46; lent = after img; session = ended start; differs = kept-falls _ (f 1 (ask 46) (after img) (ended start)) }
 
   pub first-only-falls : Falls firstOnly
-  first-only-falls = record { place = 1; asked = ask 46 0; lent = after img; session = ended start; differs = kept-falls _ refl }
+  first-only-falls = record { place = 1; asked = ask 46; lent = after img; session = ended start; differs = kept-falls _ refl }
 
   -- what was written is not what is read: the buffer comes back as it was lent
   pub first-only-forgets : Forgets firstOnly
@@ -250,13 +250,13 @@ module _ (img : Bytes) (erased : ErasedDisk eightInch img) where
 
   pub space-falls : (b : Build) → MakesUpSpace b → Falls b
   space-falls b f =
-      one-of-two b (ask 46 0) (after img) (after (oneFile img 1)) (ended start) (λ (o : Outcome). getD (o .lent .buffer) 0 0)
+      one-of-two b (ask 46) (after img) (after (oneFile img 1)) (ended start) (λ (o : Outcome). getD (o .lent .buffer) 0 0)
       (ap (λ (l : Bytes). getD l 0 0) (f 1 (after img) (after (oneFile img 1)) (ended start) record { same-fcb = refl; same-buffer = refl }))
       (λ q. omega (arith, erased-byte img erased, one-byte img erased 1 (omega arith)))
 
   pub sizes-fall : (b : Build) → MakesUpSizes b → Falls b
   sizes-fall b f =
-      one-of-two b (ask 35 0) (after (oneFile img 1)) (after (oneFile img 2)) (ended start) (λ (o : Outcome). getD (o .lent .fcb) 33 0)
+      one-of-two b (ask 35) (after (oneFile img 1)) (after (oneFile img 2)) (ended start) (λ (o : Outcome). getD (o .lent .fcb) 33 0)
       (ap (λ (l : Bytes). getD l 33 0) (f 1 (after (oneFile img 1)) (after (oneFile img 2)) (ended start) record { same-fcb = refl; same-buffer = refl }))
       (λ q. omega (arith, one-size img erased 1 (omega arith), one-size img erased 2 (omega arith)))
 
@@ -266,7 +266,7 @@ pub record Useless : Type 0 where
   pub fixed : (a : ℕ) (b : Build) → AnswersFixed a b → Falls b
   pub nothing : (b : Build) → DoesNothing b → Falls b
   -- its first call, a log-in, is right, and leaves what its second is asked on
-  pub first-only-runs : (img : Bytes) → ErasedDisk eightInch img → firstOnly 0 (ask 13 0) (lend img notes fileFcb blank) start ≡ done 0 start (after img)
+  pub first-only-runs : (img : Bytes) → ErasedDisk eightInch img → firstOnly 0 (ask 13) (lend img notes fileFcb blank) start ≡ done 0 start (after img)
   pub first-only : Falls firstOnly
   pub first-only-write : Forgets firstOnly
   pub made-up-space : (b : Build) → MakesUpSpace b → Falls b

@@ -12,9 +12,10 @@ ghost use Rattle.model.specs.Lent.{lend, outcome};
 ghost use Rattle.model.specs.Table.{anyReadOnly};
 ghost use Rattle.model.specs.Entering.{renamedRow};
 ghost use Rattle.model.specs.Calls.{changedRow, changedRows, erasedRow};
-ghost use Rattle.table.specs.Own.{ask};
+ghost use Rattle.table.specs.Own.{calling};
 ghost use Rattle.table.specs.OwnStep.{ownStep};
 ghost use Rattle.families.specs.Erasing.{Erased};
+ghost use Rattle.model.specs.declared.Asked.{Asked};
 use format::ENTRIES;
 use format::Found;
 use model::Answer;
@@ -73,8 +74,8 @@ fn rename_entries(image: &mut [u8], user: u8, fcb: &[u8])
 // 23: every extent of the name in bytes 1 to 11 gets the name in bytes 17 to 27.
 pub fn rename_file(image: &mut [u8], fcb: &[u8], session: Session) -> Answer
     requires { ⌜ (length (now image) ≡ imageBytes eightInch) × (length (now fcb) ≡ fcbBytes) ⌝ }
-    ensures { λ r. ⌜ ((argument : ℕ) (map buffer : Bytes) → outcome r (now (image .exit)) map (now (fcb .entry)) buffer
-        ≡ ownStep eightInch (ask 23 argument) (lend (now (image .entry)) map (now (fcb .entry)) buffer) session) ⌝ }
+    ensures { λ r. ⌜ ((asked : Asked) (map buffer : Bytes) → outcome r (now (image .exit)) map (now (fcb .entry)) buffer
+        ≡ ownStep eightInch (calling 23 asked) (lend (now (image .entry)) map (now (fcb .entry)) buffer) session) ⌝ }
 {
     if !names::name_right(false, fcb, 1) {
         return answers::refuse(Code::BadName, session);
@@ -132,8 +133,8 @@ fn erase_entries(image: &mut [u8], map: &mut [u16], user: u8, fcb: &[u8])
 pub fn delete_file(image: &mut [u8], map: &mut [u16], fcb: &[u8], session: Session) -> Answer
     requires { ⌜ (length (now image) ≡ imageBytes eightInch) × (length (now map) ≡ eightInch .blocks) × (length (now fcb) ≡ fcbBytes)
         × (session .user ≤ 15) × (mapRight eightInch (entryAt eightInch (now image)) (now map) ≡ true) ⌝ }
-    ensures { λ r. ⌜ ((argument : ℕ) (buffer : Bytes) → outcome r (now (image .exit)) (now (map .exit)) (now (fcb .entry)) buffer
-        ≡ ownStep eightInch (ask 19 argument) (lend (now (image .entry)) (now (map .entry)) (now (fcb .entry)) buffer) session) ⌝ }
+    ensures { λ r. ⌜ ((asked : Asked) (buffer : Bytes) → outcome r (now (image .exit)) (now (map .exit)) (now (fcb .entry)) buffer
+        ≡ ownStep eightInch (calling 19 asked) (lend (now (image .entry)) (now (map .entry)) (now (fcb .entry)) buffer) session) ⌝ }
 {
     if !names::name_right(true, fcb, 1) {
         return answers::refuse(Code::BadName, session);

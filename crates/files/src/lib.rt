@@ -9,10 +9,11 @@ ghost use Rattle.format.specs.Fcb.{fcbBytes};
 ghost use Rattle.model.specs.Calls.{largerSize, fileSize};
 ghost use Rattle.model.specs.Lent.{lend, outcome};
 ghost use Rattle.model.specs.Table.{askedEntry};
-ghost use Rattle.table.specs.Own.{ask};
+ghost use Rattle.table.specs.Own.{calling};
 ghost use Rattle.table.specs.OwnStep.{ownStep};
 ghost use Rattle.chains.specs.Chain.{Indexed};
 ghost use Rattle.files.specs.Asked.{asksRight};
+ghost use Rattle.model.specs.declared.Asked.{Asked};
 use format::ENTRIES;
 use format::ENTRIES_PER_RECORD;
 use format::Found;
@@ -44,8 +45,8 @@ fn find_asked(image: &[u8], chain: &[u8], user: u8, fcb: &[u8]) -> Found
 pub fn open_file(image: &[u8], fcb: &mut [u8], session: Session, chain: &[u8]) -> Answer
     requires { ⌜ (length (now image) ≡ imageBytes eightInch) × (length (now fcb) ≡ fcbBytes) × (session .user ≤ 15)
         × Indexed eightInch (entryAt eightInch (now image)) (now chain) ⌝ }
-    ensures { λ r. ⌜ ((argument : ℕ) (map buffer : Bytes) → outcome r (now (image .entry)) map (now (fcb .exit)) buffer
-        ≡ ownStep eightInch (ask 15 argument) (lend (now (image .entry)) map (now (fcb .entry)) buffer) session) ⌝ }
+    ensures { λ r. ⌜ ((asked : Asked) (map buffer : Bytes) → outcome r (now (image .entry)) map (now (fcb .exit)) buffer
+        ≡ ownStep eightInch (calling 15 asked) (lend (now (image .entry)) map (now (fcb .entry)) buffer) session) ⌝ }
 {
     if !asks_right(fcb) {
         return answers::refuse(Code::BadName, session);
@@ -61,8 +62,8 @@ pub fn open_file(image: &[u8], fcb: &mut [u8], session: Session, chain: &[u8]) -
 pub fn make_file(image: &mut [u8], fcb: &mut [u8], session: Session, chain: &[u8]) -> Answer
     requires { ⌜ (length (now image) ≡ imageBytes eightInch) × (length (now fcb) ≡ fcbBytes) × (session .user ≤ 15)
         × Indexed eightInch (entryAt eightInch (now image)) (now chain) ⌝ }
-    ensures { λ r. ⌜ ((argument : ℕ) (map buffer : Bytes) → outcome r (now (image .exit)) map (now (fcb .exit)) buffer
-        ≡ ownStep eightInch (ask 22 argument) (lend (now (image .entry)) map (now (fcb .entry)) buffer) session) ⌝ }
+    ensures { λ r. ⌜ ((asked : Asked) (map buffer : Bytes) → outcome r (now (image .exit)) map (now (fcb .exit)) buffer
+        ≡ ownStep eightInch (calling 22 asked) (lend (now (image .entry)) map (now (fcb .entry)) buffer) session) ⌝ }
 {
     if !asks_right(fcb) {
         return answers::refuse(Code::BadName, session);
@@ -112,8 +113,8 @@ fn largest_size(image: &[u8], user: u8, fcb: &[u8]) -> usize
 // 35: the size of the file that the FCB names, in r0 to r2.
 pub fn file_size(image: &[u8], fcb: &mut [u8], session: Session) -> Answer
     requires { ⌜ (length (now image) ≡ imageBytes eightInch) × (length (now fcb) ≡ fcbBytes) ⌝ }
-    ensures { λ r. ⌜ ((argument : ℕ) (map buffer : Bytes) → outcome r (now (image .entry)) map (now (fcb .exit)) buffer
-        ≡ ownStep eightInch (ask 35 argument) (lend (now (image .entry)) map (now (fcb .entry)) buffer) session) ⌝ }
+    ensures { λ r. ⌜ ((asked : Asked) (map buffer : Bytes) → outcome r (now (image .entry)) map (now (fcb .exit)) buffer
+        ≡ ownStep eightInch (calling 35 asked) (lend (now (image .entry)) map (now (fcb .entry)) buffer) session) ⌝ }
 {
     if !names::name_right(false, fcb, 1) {
         return answers::refuse(Code::BadName, session);

@@ -12,7 +12,7 @@ use Rattle.model.specs.Lent.{Lent}
 use Rattle.model.specs.Table.{table, verdict}
 use Rattle.model.specs.Step.{settled, effect, step}
 use Rattle.table.specs.Facts.{AcceptedCall}
-use Rattle.table.specs.Own.{ask}
+use Rattle.table.specs.Own.{calling}
 use Rattle.table.specs.First.{decides-refused}
 use Rattle.table.specs.Refuse.{never-bad-disk}
 use Rattle.table.specs.Total.{CarriedOut, total}
@@ -25,7 +25,7 @@ module _ {G : Geometry} (S : Sound G) where
   unfolding effect kindOf settled
   accepted-good asked l s a =
       split (eq-or-ne (asked .number) 13)
-      (λ q. subst (λ (k : ℕ). GoodOutcome G (effect G (ask k (asked .argument)) l s)) (sym q) (logged-in-good S l s (a .ready .fits) (a .ready .image-right)))
+      (λ q. subst (λ (k : ℕ). GoodOutcome G (effect G (calling k asked) l s)) (sym q) (logged-in-good S l s (a .ready .fits) (a .ready .image-right)))
       (λ q. carried-good S l s (a .ready .fits)
       (good-of G (l .drive .image) (l .drive .map) (a .ready .fits .image-long) (a .ready .fits .map-long) (a .ready .image-right) (a .ready .map-right q)) asked a (kindOf (asked .number)) refl)
 

@@ -10,6 +10,7 @@ use Rattle.format.specs.Diskette.{Bytes, Geometry, extentRecords}
 use Rattle.format.specs.Entries.{extentOf}
 use Rattle.format.specs.Notes.{freshMap, freedMap, freeCount}
 use Rattle.format.specs.Fcb.{crOf}
+use Rattle.model.specs.declared.Asked.{Asked}
 use Rattle.model.specs.declared.Session.{Session}
 use Rattle.model.specs.declared.Answer.{Answer}
 use Rattle.model.specs.declared.Code.the-variants.{Accepted, Failed}
@@ -21,53 +22,53 @@ use Rattle.model.specs.Kinds.{kindOf}
 use Rattle.model.specs.Step.{effect, told, settled}
 use Rattle.table.specs.First.{Decides, here}
 use Rattle.model.specs.Table.{ownRows}
-use Rattle.table.specs.Own.{ask}
+use Rattle.table.specs.Own.{calling}
 use Rattle.table.specs.OwnStep.{ownStep, carries-own}
 
-module _ (G : Geometry) (argument : ℕ) (l : Lent) (s : Session) where
+module _ (G : Geometry) (asked : Asked) (l : Lent) (s : Session) where
   -- ---- 13
   pub logged-in : (r : Answer) (map : Bytes) → r ≡ answerOf (Accepted 0) (ended s) → map ≡ freshMap G (rowsOf G l)
-      → outcome r (l .drive .image) map (l .fcb) (l .buffer) ≡ ownStep G (ask 13 argument) l s
+      → outcome r (l .drive .image) map (l .fcb) (l .buffer) ≡ ownStep G (calling 13 asked) l s
   unfolding loggedIn effect kindOf settled
-  logged-in r map a m = carries-own G (ask 13 argument) l s _ tt (rw (a, m))
+  logged-in r map a m = carries-own G (calling 13 asked) l s _ tt (rw (a, m))
 
   -- ---- 98
   pub pending-freed : (r : Answer) (map : Bytes) → r ≡ answerOf (Accepted 0) (ended s) → map ≡ freedMap G (l .drive .map)
-      → outcome r (l .drive .image) map (l .fcb) (l .buffer) ≡ ownStep G (ask 98 argument) l s
+      → outcome r (l .drive .image) map (l .fcb) (l .buffer) ≡ ownStep G (calling 98 asked) l s
   unfolding freed effect kindOf settled
-  pending-freed r map a m = carries-own G (ask 98 argument) l s _ tt (rw (a, m))
+  pending-freed r map a m = carries-own G (calling 98 asked) l s _ tt (rw (a, m))
 
   -- ---- 46
   pub space-told : (r : Answer) (buffer : Bytes) → r ≡ answerOf (Accepted 0) (ended s)
       → buffer ≡ splice (l .buffer) 0 (threeBytes (G .perBlock * freeCount G (l .drive .map)))
-      → outcome r (l .drive .image) (l .drive .map) (l .fcb) buffer ≡ ownStep G (ask 46 argument) l s
+      → outcome r (l .drive .image) (l .drive .map) (l .fcb) buffer ≡ ownStep G (calling 46 asked) l s
   unfolding space effect kindOf told
-  space-told r buffer a b = carries-own G (ask 46 argument) l s _ tt (rw (a, b))
+  space-told r buffer a b = carries-own G (calling 46 asked) l s _ tt (rw (a, b))
 
   -- ---- 36
-  pub position-refused : positionRight (l .fcb) ≡ false → Decides Failed (ownRows G (ask 36 argument) l s)
+  pub position-refused : positionRight (l .fcb) ≡ false → Decides Failed (ownRows G (calling 36 asked) l s)
   position-refused h = here (ap not h) refl
 
   pub position-told : (r : Answer) (fcb : Bytes) → positionRight (l .fcb) ≡ true → r ≡ answerOf (Accepted 0) (ended s)
       → fcb ≡ splice (l .fcb) 33 (threeBytes (extentRecords * extentOf (l .fcb) + crOf (l .fcb)))
-      → outcome r (l .drive .image) (l .drive .map) fcb (l .buffer) ≡ ownStep G (ask 36 argument) l s
+      → outcome r (l .drive .image) (l .drive .map) fcb (l .buffer) ≡ ownStep G (calling 36 asked) l s
   unfolding positioned effect kindOf told
-  position-told r fcb h a f = carries-own G (ask 36 argument) l s _ (ap not h, tt) (rw (a, f))
+  position-told r fcb h a f = carries-own G (calling 36 asked) l s _ (ap not h, tt) (rw (a, f))
 
   -- ---- 32: the user is asked for, refused, set
-  pub user-told : (r : Answer) → argument ≡ 255 → r ≡ answerOf (Accepted (s .user)) (ended s)
-      → outcome r (l .drive .image) (l .drive .map) (l .fcb) (l .buffer) ≡ ownStep G (ask 32 argument) l s
+  pub user-told : (r : Answer) → asked .argument ≡ 255 → r ≡ answerOf (Accepted (s .user)) (ended s)
+      → outcome r (l .drive .image) (l .drive .map) (l .fcb) (l .buffer) ≡ ownStep G (calling 32 asked) l s
   unfolding userSet effect kindOf
   user-told r h a =
-      let t : eqb argument 255 ≡ true = eq-eqb _ _ h in
-      carries-own G (ask 32 argument) l s _ (ap not (or-left _ _ t), tt) (rw (a, t))
+      let t : eqb (asked .argument) 255 ≡ true = eq-eqb _ _ h in
+      carries-own G (calling 32 asked) l s _ (ap not (or-left _ _ t), tt) (rw (a, t))
 
-  pub user-refused : (argument ≡ 255 → ⊥) → 15 < argument → Decides Failed (ownRows G (ask 32 argument) l s)
-  user-refused n h = here (ap not (or-then _ _ (ne-eqb _ _ n) ∙ lt-leb argument 15 h)) refl
+  pub user-refused : (asked .argument ≡ 255 → ⊥) → 15 < asked .argument → Decides Failed (ownRows G (calling 32 asked) l s)
+  user-refused n h = here (ap not (or-then _ _ (ne-eqb _ _ n) ∙ lt-leb (asked .argument) 15 h)) refl
 
-  pub user-set : (r : Answer) (t : Session) → (argument ≡ 255 → ⊥) → argument ≤ 15 → r ≡ answerOf (Accepted 0) (ended t) → t ≡ withUser s argument
-      → outcome r (l .drive .image) (l .drive .map) (l .fcb) (l .buffer) ≡ ownStep G (ask 32 argument) l s
+  pub user-set : (r : Answer) (t : Session) → (asked .argument ≡ 255 → ⊥) → asked .argument ≤ 15 → r ≡ answerOf (Accepted 0) (ended t) → t ≡ withUser s (asked .argument)
+      → outcome r (l .drive .image) (l .drive .map) (l .fcb) (l .buffer) ≡ ownStep G (calling 32 asked) l s
   unfolding userSet effect kindOf
   user-set r t n h a q =
-      let f : eqb argument 255 ≡ false = ne-eqb _ _ n in
-      carries-own G (ask 32 argument) l s _ (ap not (or-right _ _ (le-leb argument 15 h)), tt) (rw (a, q, f))
+      let f : eqb (asked .argument) 255 ≡ false = ne-eqb _ _ n in
+      carries-own G (calling 32 asked) l s _ (ap not (or-right _ _ (le-leb (asked .argument) 15 h)), tt) (rw (a, q, f))

@@ -13,6 +13,7 @@ use Rattle.rows.specs.Entries.{length-entryAt, entry-stored}
 use Rattle.fields.specs.Images.{length-closedImage}
 use Rattle.fields.specs.Entering.{extent-entered}
 use Rattle.fields.specs.Making.{length-nextRow, extent-next}
+use Rattle.model.specs.declared.Asked.{Asked}
 use Rattle.model.specs.Closing.{closedImage}
 use Rattle.model.specs.Entering.{nextRow}
 use Rattle.model.specs.declared.Session.{Session}
@@ -27,7 +28,7 @@ use Rattle.model.specs.Kinds.{kindOf}
 use Rattle.model.specs.declared.Kind.the-variants.{Read, Write}
 use Rattle.model.specs.Calls.{readAt, reading, writtenAt, writing}
 use Rattle.model.specs.Step.{refusedSession}
-use Rattle.table.specs.Own.{ask}
+use Rattle.table.specs.Own.{calling}
 use Rattle.table.specs.OwnStep.{ownStep}
 use Rattle.rulings.specs.declared.Ruling.the-variants.{Refuse, Follow}
 use Rattle.rulings.specs.Ruling.{readRuling, writeRuling}
@@ -94,26 +95,26 @@ arrived-own {G} S ext l (Make e t b) long hf w own =
     ∙ ap extentOf (sym (entry-stored S shut kept t (w .1) next full))
 
 -- ---- the calls: refused with nothing changed, or the plan carried out
-module _ (G : Geometry) (argument n : ℕ) (l : Lent) (s : Session) (r : Answer) where
+module _ (G : Geometry) (asked : Asked) (n : ℕ) (l : Lent) (s : Session) (r : Answer) where
   module _ (which : kindOf n ≡ Read) where
     pub read-refused : (code : Code) → readRuling G n (s .user) l ≡ Refuse code → r ≡ answerOf code (refusedSession code s)
-        → record { answer = r; lent = l } ≡ ownStep G (ask n argument) l s
-    read-refused code q h = rw (own-read G argument l s n which, q, h)
+        → record { answer = r; lent = l } ≡ ownStep G (calling n asked) l s
+    read-refused code q h = rw (own-read G asked l s n which, q, h)
 
     pub read-carried : (p : Plan) (left : Lent) → readRuling G n (s .user) l ≡ Follow p → r ≡ answerOf (Accepted 0) (ended s)
         → left ≡ haveRead G (blockOf p) (targetRecord n (l .fcb)) (crAfter n (l .fcb)) (arrived G (targetExtent n (l .fcb)) l p)
-        → record { answer = r; lent = left } ≡ ownStep G (ask n argument) l s
+        → record { answer = r; lent = left } ≡ ownStep G (calling n asked) l s
     unfolding readAt
-    read-carried p left q h k = rw (own-read G argument l s n which, q, reading-by G s l n p, h, k)
+    read-carried p left q h k = rw (own-read G asked l s n which, q, reading-by G s l n p, h, k)
 
   module _ (which : kindOf n ≡ Write) where
     pub write-refused : (code : Code) → writeRuling G n (s .user) l ≡ Refuse code → r ≡ answerOf code (refusedSession code s)
-        → record { answer = r; lent = l } ≡ ownStep G (ask n argument) l s
-    write-refused code q h = rw (own-write G argument l s n which, q, h)
+        → record { answer = r; lent = l } ≡ ownStep G (calling n asked) l s
+    write-refused code q h = rw (own-write G asked l s n which, q, h)
 
     pub write-carried : (p : Plan) (left : Lent) → writeRuling G n (s .user) l ≡ Follow p → r ≡ answerOf (Accepted 0) (ended s)
         → left ≡ haveWritten G (entryOf p) (targetSlot G n (l .fcb)) (blockOf p) (targetRecord n (l .fcb)) (crAfter n (l .fcb))
         (arrived G (targetExtent n (l .fcb)) l p)
-        → record { answer = r; lent = left } ≡ ownStep G (ask n argument) l s
+        → record { answer = r; lent = left } ≡ ownStep G (calling n asked) l s
     unfolding writtenAt
-    write-carried p left q h k = rw (own-write G argument l s n which, q, writing-by G s l n p, h, k)
+    write-carried p left q h k = rw (own-write G asked l s n which, q, writing-by G s l n p, h, k)

@@ -13,10 +13,11 @@ ghost use Rattle.model.specs.Target.{moved, made, haveRead, haveWritten};
 ghost use Rattle.model.specs.Kinds.{kindOf};
 ghost use Rattle.model.specs.declared.Kind.the-variants.{Read, Write};
 ghost use Rattle.chains.specs.Chain.{Indexed};
-ghost use Rattle.table.specs.Own.{ask};
+ghost use Rattle.table.specs.Own.{calling};
 ghost use Rattle.table.specs.OwnStep.{ownStep};
 ghost use Rattle.rulings.specs.Bounds.{OnDisk, OwnExtent};
 ghost use Rattle.records.specs.Carry.{arrived, entryOf, blockOf};
+ghost use Rattle.model.specs.declared.Asked.{Asked};
 use model::Answer;
 use model::Plan;
 use model::Session;
@@ -147,8 +148,8 @@ pub fn read_call(
     requires { ⌜ (length (now image) ≡ imageBytes eightInch) × (length (now map) ≡ eightInch .blocks) × (length (now fcb) ≡ fcbBytes)
         × (length (now buffer) ≡ recordBytes) × (session .user ≤ 15) × (consistent eightInch (now image) ≡ true)
         × (kindOf number ≡ Read) × Indexed eightInch (entryAt eightInch (now image)) (now chain) ⌝ }
-    ensures { λ r. ⌜ ((argument : ℕ) → outcome r (now (image .exit)) (now (map .exit)) (now (fcb .exit)) (now (buffer .exit))
-        ≡ ownStep eightInch (ask number argument) (lend (now (image .entry)) (now (map .entry)) (now (fcb .entry)) (now (buffer .entry))) session) ⌝ }
+    ensures { λ r. ⌜ ((asked : Asked) → outcome r (now (image .exit)) (now (map .exit)) (now (fcb .exit)) (now (buffer .exit))
+        ≡ ownStep eightInch (calling number asked) (lend (now (image .entry)) (now (map .entry)) (now (fcb .entry)) (now (buffer .entry))) session) ⌝ }
 {
     let target = targets::target_of(number, fcb);
     match rulings::rule_read(number, target, image, map, chain, fcb, session.user) {
@@ -173,8 +174,8 @@ pub fn write_call(
     requires { ⌜ (length (now image) ≡ imageBytes eightInch) × (length (now map) ≡ eightInch .blocks) × (length (now fcb) ≡ fcbBytes)
         × (length (now buffer) ≡ recordBytes) × (session .user ≤ 15) × (consistent eightInch (now image) ≡ true)
         × (kindOf number ≡ Write) × Indexed eightInch (entryAt eightInch (now image)) (now chain) ⌝ }
-    ensures { λ r. ⌜ ((argument : ℕ) → outcome r (now (image .exit)) (now (map .exit)) (now (fcb .exit)) (now (buffer .entry))
-        ≡ ownStep eightInch (ask number argument) (lend (now (image .entry)) (now (map .entry)) (now (fcb .entry)) (now (buffer .entry))) session) ⌝ }
+    ensures { λ r. ⌜ ((asked : Asked) → outcome r (now (image .exit)) (now (map .exit)) (now (fcb .exit)) (now (buffer .entry))
+        ≡ ownStep eightInch (calling number asked) (lend (now (image .entry)) (now (map .entry)) (now (fcb .entry)) (now (buffer .entry))) session) ⌝ }
 {
     let target = targets::target_of(number, fcb);
     match rulings::rule_write(number, target, image, map, chain, fcb, session.user) {

@@ -11,6 +11,7 @@ use Rattle.lists.specs.Tests.{_or_, and-fails-left, and-fails-right, and-then}
 use Rattle.format.specs.Diskette.{Bytes, Geometry, extentRecords, extents, lastRecord}
 use Rattle.format.specs.Fcb.{randomOf}
 use Rattle.facts.specs.Found.{is-found, found-so}
+use Rattle.model.specs.declared.Asked.{Asked}
 use Rattle.model.specs.declared.Session.{Session}
 use Rattle.model.specs.declared.Code.{Code}
 use Rattle.model.specs.declared.Code.the-variants.{BadRecord, NotClosed, NoRecord}
@@ -25,9 +26,9 @@ use Rattle.model.specs.Table.{Row, when, firstRow, ownRows}
 use Rattle.model.specs.Calls.{reading, read, writing, written}
 use Rattle.model.specs.Step.{refused, carriedOut, effect}
 use Rattle.table.specs.First.{_&_, NoneHolds}
-use Rattle.table.specs.Own.{ask, at-kind}
+use Rattle.table.specs.Own.{calling, at-kind}
 use Rattle.table.specs.OwnStep.{ownStep}
-use Rattle.table.specs.Own.{ask, at-kind}
+use Rattle.table.specs.Own.{calling, at-kind}
 use Rattle.table.specs.OwnStep.{ownStep}
 use Rattle.fields.specs.Target.{extent-random}
 use Rattle.table.specs.Accept.{random-below}
@@ -71,26 +72,26 @@ same-code [] rs false false code h = refl
 same-code [] rs false true code h = clash (sym (h tt refl))
 same-code (x ∷ front) rs t r code h = past-row (x .holds) _ _ _ (λ f. same-code front rs t r code (λ k. h (f & k)))
 
-module _ (G : Geometry) (argument : ℕ) (l : Lent) (s : Session) where
+module _ (G : Geometry) (asked : Asked) (l : Lent) (s : Session) where
   -- ---- the rows: an FCB that is current can be closed, so that the row of code 3 may go; a record that is there has an entry
-  rows-20 : firstRow (ownRows G (ask 20 argument) l s) ≡ firstRow (readRows G 20 (s .user) l)
+  rows-20 : firstRow (ownRows G (calling 20 asked) l s) ≡ firstRow (readRows G 20 (s .user) l)
   unfolding readRows missingCode isRandom
   rows-20 =
       gone (_ ∷ []) _ _ NotClosed (λ h. and-fails-right _ _ (h .0))
       ∙ same-code (_ ∷ []) _ _ _ NoRecord (λ h r. found-so _ (there-target G 20 (s .user) l (is-found _ (not-false _ (h .0))) r))
       ∙ sym (gone [] _ _ BadRecord (λ h. over-sequential 20 _ refl))
 
-  rows-33 : firstRow (ownRows G (ask 33 argument) l s) ≡ firstRow (readRows G 33 (s .user) l)
+  rows-33 : firstRow (ownRows G (calling 33 asked) l s) ≡ firstRow (readRows G 33 (s .user) l)
   unfolding readRows missingCode isRandom
   rows-33 = rw (over-random 33 (l .fcb) refl) (gone (_ ∷ _ ∷ []) _ _ NotClosed (λ h. and-fails-right _ _ (h .1 .0)))
 
-  rows-21 : firstRow (ownRows G (ask 21 argument) l s) ≡ firstRow (writeRows G 21 (s .user) l)
+  rows-21 : firstRow (ownRows G (calling 21 asked) l s) ≡ firstRow (writeRows G 21 (s .user) l)
   unfolding writeRows missingCode isRandom
   rows-21 =
       gone (_ ∷ _ ∷ []) _ _ NotClosed (λ h. and-fails-right _ _ (h .0))
       ∙ sym (gone [] _ _ BadRecord (λ h. over-sequential 21 _ refl))
 
-  rows-34 : firstRow (ownRows G (ask 34 argument) l s) ≡ firstRow (writeRows G 34 (s .user) l)
+  rows-34 : firstRow (ownRows G (calling 34 asked) l s) ≡ firstRow (writeRows G 34 (s .user) l)
   unfolding writeRows missingCode isRandom
   rows-34 =
       rw (over-random 34 (l .fcb) refl)
@@ -103,27 +104,27 @@ module _ (G : Geometry) (argument : ℕ) (l : Lent) (s : Session) where
   ruled follow (Follow p) = follow p
 
   -- a step by its verdict is the same by its ruling
-  by-verdict : (n : ℕ) (v : Verdict) (follow : Plan → Outcome) → effect G (ask n argument) l s ≡ follow (plan G n (s .user) l)
-      → carriedOut G (ask n argument) l s v ≡ ruled follow (rulingOf v (plan G n (s .user) l))
+  by-verdict : (n : ℕ) (v : Verdict) (follow : Plan → Outcome) → effect G (calling n asked) l s ≡ follow (plan G n (s .user) l)
+      → carriedOut G (calling n asked) l s v ≡ ruled follow (rulingOf v (plan G n (s .user) l))
   by-verdict n Passed follow h = h
   by-verdict n (Refused code) follow h = refl
 
   -- rows that decide as the call's own do give its ruling
-  by-rows : (n : ℕ) (rows : List Row) (follow : Plan → Outcome) → firstRow (ownRows G (ask n argument) l s) ≡ firstRow rows
-      → effect G (ask n argument) l s ≡ follow (plan G n (s .user) l)
-      → ownStep G (ask n argument) l s ≡ ruled follow (rulingOf (firstRow rows) (plan G n (s .user) l))
+  by-rows : (n : ℕ) (rows : List Row) (follow : Plan → Outcome) → firstRow (ownRows G (calling n asked) l s) ≡ firstRow rows
+      → effect G (calling n asked) l s ≡ follow (plan G n (s .user) l)
+      → ownStep G (calling n asked) l s ≡ ruled follow (rulingOf (firstRow rows) (plan G n (s .user) l))
   unfolding ownStep
   by-rows n rows follow r e = rw r (by-verdict n (firstRow rows) follow e)
 
   -- ---- the numbers that have a chain in common
-  pub own-read : (n : ℕ) → kindOf n ≡ Read → ownStep G (ask n argument) l s ≡ ruled (reading G s l n) (readRuling G n (s .user) l)
+  pub own-read : (n : ℕ) → kindOf n ≡ Read → ownStep G (calling n asked) l s ≡ ruled (reading G s l n) (readRuling G n (s .user) l)
   unfolding read readRuling effect kindOf
   own-read n =
-      at-kind (λ (m : ℕ). ownStep G (ask m argument) l s ≡ ruled (reading G s l m) (readRuling G m (s .user) l)) Read n refl
+      at-kind (λ (m : ℕ). ownStep G (calling m asked) l s ≡ ruled (reading G s l m) (readRuling G m (s .user) l)) Read n refl
       (by-rows 20 _ (reading G s l 20) rows-20 refl & by-rows 33 _ (reading G s l 33) rows-33 refl & tt)
 
-  pub own-write : (n : ℕ) → kindOf n ≡ Write → ownStep G (ask n argument) l s ≡ ruled (writing G s l n) (writeRuling G n (s .user) l)
+  pub own-write : (n : ℕ) → kindOf n ≡ Write → ownStep G (calling n asked) l s ≡ ruled (writing G s l n) (writeRuling G n (s .user) l)
   unfolding written writeRuling effect kindOf
   own-write n =
-      at-kind (λ (m : ℕ). ownStep G (ask m argument) l s ≡ ruled (writing G s l m) (writeRuling G m (s .user) l)) Write n refl
+      at-kind (λ (m : ℕ). ownStep G (calling m asked) l s ≡ ruled (writing G s l m) (writeRuling G m (s .user) l)) Write n refl
       (by-rows 21 _ (writing G s l 21) rows-21 refl & by-rows 34 _ (writing G s l 34) rows-34 refl & tt)

@@ -16,6 +16,7 @@ use Rattle.facts.specs.Found.{FirstAt, first-says}
 use Rattle.facts.specs.Naming.{covers-own}
 use Rattle.format.specs.declared.Found.{Found}
 use Rattle.format.specs.declared.Found.the-variants.{At, Nothing}
+use Rattle.model.specs.declared.Asked.{Asked}
 use Rattle.model.specs.declared.Session.{Session}
 use Rattle.model.specs.declared.Answer.{Answer}
 use Rattle.model.specs.declared.Code.the-variants.{Accepted, Failed, BadName, SearchOver}
@@ -26,7 +27,7 @@ use Rattle.model.specs.Kinds.{kindOf}
 use Rattle.model.specs.Step.{refused, effect, pattern, place}
 use Rattle.table.specs.First.{_&_, Decides, here, later}
 use Rattle.model.specs.Table.{ownRows}
-use Rattle.table.specs.Own.{ask}
+use Rattle.table.specs.Own.{calling}
 use Rattle.table.specs.OwnStep.{ownStep, own-refused, own-carried}
 
 -- among the user's rows whose extent is asked for, the name decides
@@ -100,30 +101,30 @@ module _ (G : Geometry) (s : Session) (l : Lent) where
       rw (a, n, b) (ap (λ (f : Found). foundAt G s l pattern (numberOf (G .entries) f)) (sym q) ∙ from-found pattern place (ap isFound q))
 
   -- ---- 17
-  pub first-refused : (argument : ℕ) → patternRight (l .fcb) ≡ false → Decides BadName (ownRows G (ask 17 argument) l s)
+  pub first-refused : (asked : Asked) → patternRight (l .fcb) ≡ false → Decides BadName (ownRows G (calling 17 asked) l s)
   unfolding patternRight
-  first-refused argument h =
+  first-refused asked h =
       split (bool-cases (nameRight true (l .fcb) 1))
       (λ t. later (ap not t) (here (byte-asked (exOf (l .fcb)) ∙ ap not (sym (and-then _ _ t) ∙ h)) refl))
       (λ f. here (ap not f) refl)
 
-  pub first-searched : (argument : ℕ) → patternRight (l .fcb) ≡ true → searchedFrom (patternOf (l .fcb)) 0 ≡ ownStep G (ask 17 argument) l s
+  pub first-searched : (asked : Asked) → patternRight (l .fcb) ≡ true → searchedFrom (patternOf (l .fcb)) 0 ≡ ownStep G (calling 17 asked) l s
   unfolding patternRight effect kindOf pattern place
-  first-searched argument h =
+  first-searched asked h =
       let n = ap not (and-left _ _ h) in
       let x = byte-asked (exOf (l .fcb)) ∙ ap not (and-right _ _ h) in
       sym (split (bool-cases (isFound (findHit G (rowsOf G l) (s .user) (patternOf (l .fcb)) 0)))
-      (λ t. own-carried G (ask 17 argument) l s (n & x & ap not t & tt) ∙ from-found (patternOf (l .fcb)) 0 t)
-      (λ f. own-refused G (ask 17 argument) l s SearchOver (later n (later x (here (ap not f) refl))) ∙ from-missing (patternOf (l .fcb)) 0 f))
+      (λ t. own-carried G (calling 17 asked) l s (n & x & ap not t & tt) ∙ from-found (patternOf (l .fcb)) 0 t)
+      (λ f. own-refused G (calling 17 asked) l s SearchOver (later n (later x (here (ap not f) refl))) ∙ from-missing (patternOf (l .fcb)) 0 f))
 
   -- ---- 18
-  pub next-refused : (argument : ℕ) → s .on ≡ 0 → Decides Failed (ownRows G (ask 18 argument) l s)
-  next-refused argument h = let o : searchOn s ≡ false = rw h in here (ap not o) refl
+  pub next-refused : (asked : Asked) → s .on ≡ 0 → Decides Failed (ownRows G (calling 18 asked) l s)
+  next-refused asked h = let o : searchOn s ≡ false = rw h in here (ap not o) refl
 
-  pub next-searched : (argument : ℕ) → (s .on ≡ 0 → ⊥) → searchedFrom (s .pattern) (s .place) ≡ ownStep G (ask 18 argument) l s
+  pub next-searched : (asked : Asked) → (s .on ≡ 0 → ⊥) → searchedFrom (s .pattern) (s .place) ≡ ownStep G (calling 18 asked) l s
   unfolding effect kindOf pattern place
-  next-searched argument h =
+  next-searched asked h =
       let o : searchOn s ≡ true = rw (ne-eqb (s .on) 0 h) in
       sym (split (bool-cases (isFound (findHit G (rowsOf G l) (s .user) (s .pattern) (s .place))))
-      (λ t. own-carried G (ask 18 argument) l s (ap not o & ap not t & tt) ∙ from-found (s .pattern) (s .place) t)
-      (λ f. own-refused G (ask 18 argument) l s SearchOver (later (ap not o) (here (ap not f) refl)) ∙ from-missing (s .pattern) (s .place) f))
+      (λ t. own-carried G (calling 18 asked) l s (ap not o & ap not t & tt) ∙ from-found (s .pattern) (s .place) t)
+      (λ f. own-refused G (calling 18 asked) l s SearchOver (later (ap not o) (here (ap not f) refl)) ∙ from-missing (s .pattern) (s .place) f))

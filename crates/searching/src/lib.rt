@@ -8,9 +8,10 @@ ghost use Rattle.format.specs.Entries.{entryAt};
 ghost use Rattle.format.specs.Fcb.{fcbBytes};
 ghost use Rattle.model.specs.Lent.{lend, outcome};
 ghost use Rattle.model.specs.Search.{patternBytes, extentHit, hit, findHit};
-ghost use Rattle.table.specs.Own.{ask};
+ghost use Rattle.table.specs.Own.{calling};
 ghost use Rattle.table.specs.OwnStep.{ownStep};
 ghost use Rattle.searching.specs.Searches.{patternRight, searchedFrom};
+ghost use Rattle.model.specs.declared.Asked.{Asked};
 use format::ENTRIES;
 use format::ENTRIES_PER_RECORD;
 use format::Found;
@@ -101,8 +102,8 @@ fn pattern_right(fcb: &[u8]) -> bool
 // 17: the first entry that the FCB's name and byte 12 match.
 pub fn search_first(image: &[u8], fcb: &[u8], buffer: &mut [u8], session: Session) -> Answer
     requires { ⌜ (length (now image) ≡ imageBytes eightInch) × (length (now fcb) ≡ fcbBytes) × (length (now buffer) ≡ recordBytes) ⌝ }
-    ensures { λ r. ⌜ ((argument : ℕ) (map : Bytes) → outcome r (now (image .entry)) map (now (fcb .entry)) (now (buffer .exit))
-        ≡ ownStep eightInch (ask 17 argument) (lend (now (image .entry)) map (now (fcb .entry)) (now (buffer .entry))) session) ⌝ }
+    ensures { λ r. ⌜ ((asked : Asked) (map : Bytes) → outcome r (now (image .entry)) map (now (fcb .entry)) (now (buffer .exit))
+        ≡ ownStep eightInch (calling 17 asked) (lend (now (image .entry)) map (now (fcb .entry)) (now (buffer .entry))) session) ⌝ }
 {
     if !pattern_right(fcb) {
         return answers::refuse(Code::BadName, session);
@@ -115,8 +116,8 @@ pub fn search_first(image: &[u8], fcb: &[u8], buffer: &mut [u8], session: Sessio
 // 18: the next entry that the session's pattern matches.
 pub fn search_next(image: &[u8], buffer: &mut [u8], session: Session) -> Answer
     requires { ⌜ (length (now image) ≡ imageBytes eightInch) × (length (now buffer) ≡ recordBytes) ⌝ }
-    ensures { λ r. ⌜ ((argument : ℕ) (map fcb : Bytes) → outcome r (now (image .entry)) map fcb (now (buffer .exit))
-        ≡ ownStep eightInch (ask 18 argument) (lend (now (image .entry)) map fcb (now (buffer .entry))) session) ⌝ }
+    ensures { λ r. ⌜ ((asked : Asked) (map fcb : Bytes) → outcome r (now (image .entry)) map fcb (now (buffer .exit))
+        ≡ ownStep eightInch (calling 18 asked) (lend (now (image .entry)) map fcb (now (buffer .entry))) session) ⌝ }
 {
     if session.on == 0 {
         return answers::refuse(Code::Failed, session);

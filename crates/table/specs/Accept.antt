@@ -28,7 +28,7 @@ use Rattle.model.specs.Search.{findHit}
 use Rattle.model.specs.Step.{pattern, place}
 use Rattle.model.specs.Table.{parametersRight, diskRight, ownRows, verdict}
 use Rattle.table.specs.First.{_&_, NoneHolds, passed-none, none-passed, passed-refused}
-use Rattle.table.specs.Own.{ask, AtEach, at-kind, rowsFor, verdict-rows, verdict-unlisted}
+use Rattle.table.specs.Own.{calling, AtEach, at-kind, rowsFor, verdict-rows, verdict-unlisted}
 use Rattle.table.specs.Present.{there-target, file-extent-below}
 use Rattle.table.specs.Facts.{Opens, Closes, Makes, Renames, Sizes, Positions, Reads, Writes, Ready, AcceptedCall}
 use Rattle.table.specs.Reflect.{found, missed, either-found, either-missed, pattern-of, pattern-right, argument-of, argument-right, parameters-right, disk-right, ready-of, some-of, some-right, none-of, none-right, writable-of, writable-right, positions-of, positions-right}
@@ -82,9 +82,9 @@ module _ (G : Geometry) (l : Lent) (s : Session) where
 module _ (G : Geometry) (asked : Asked) (l : Lent) (s : Session) (none : NoneHolds (ownRows G asked l s)) where
   -- from what holds at each number of the kind
   by-rows : (F : ℕ → Type 0) (k : Kind) → same Unlisted k ≡ false
-      → AtEach (λ (n : ℕ). NoneHolds (ownRows G (ask n (asked .argument)) l s) → F n) (numbersIn (λ (c : Listed). same (c .kind) k) calls)
+      → AtEach (λ (n : ℕ). NoneHolds (ownRows G (calling n asked) l s) → F n) (numbersIn (λ (c : Listed). same (c .kind) k) calls)
       → kindOf (asked .number) ≡ k → F (asked .number)
-  by-rows F k u x q = at-kind (λ (n : ℕ). NoneHolds (ownRows G (ask n (asked .argument)) l s) → F n) k (asked .number) u x q none
+  by-rows F k u x q = at-kind (λ (n : ℕ). NoneHolds (ownRows G (calling n asked) l s) → F n) k (asked .number) u x q none
 
   pub closes-of : kindOf (asked .number) ≡ Close → Closes G l s
   closes-of = by-rows (λ (n : ℕ). Closes G l s) Close refl ((λ h. record { entry = found _ (h .0) }) & tt)
@@ -111,7 +111,7 @@ module _ (G : Geometry) (asked : Asked) (l : Lent) (s : Session) (none : NoneHol
   pub hits-of : kindOf (asked .number) ≡ Search → FoundAt (findHit G (rowsOf G l) (s .user) (pattern G asked l s) (place G asked l s))
   unfolding pattern place
   hits-of =
-      by-rows (λ (n : ℕ). FoundAt (findHit G (rowsOf G l) (s .user) (pattern G (ask n (asked .argument)) l s) (place G (ask n (asked .argument)) l s))) Search refl
+      by-rows (λ (n : ℕ). FoundAt (findHit G (rowsOf G l) (s .user) (pattern G (calling n asked) l s) (place G (calling n asked) l s))) Search refl
       ((λ h. found _ (h .1 .1 .0)) & (λ h. found _ (h .1 .0)) & tt)
 
   pub reads-of : consistent G (l .drive .image) ≡ true → s .user ≤ 15 → kindOf (asked .number) ≡ Read → Reads G l s (asked .number)
@@ -127,26 +127,26 @@ module _ (G : Geometry) (asked : Asked) (l : Lent) (s : Session) (none : NoneHol
       & (λ h. writes-of G l s 34 (h .1 .0) (h .1 .1 .0) (random-below 34 (l .fcb) refl (h .0)) (h .1 .1 .1 .1 .0) (h .1 .1 .1 .1 .1 .0)) & tt)
 
 -- ---- and back, where a law says that a call is carried out
-module _ (G : Geometry) (argument : ℕ) (l : Lent) (s : Session) where
-  pub opens-of : NoneHolds (ownRows G (ask 15 argument) l s) → Opens G l s
+module _ (G : Geometry) (asked : Asked) (l : Lent) (s : Session) where
+  pub opens-of : NoneHolds (ownRows G (calling 15 asked) l s) → Opens G l s
   opens-of h = record { name = not-false _ (h .0); ex = ltb-false _ _ (h .1 .0); entry = found _ (h .1 .1 .0) }
 
-  pub sizes-right : Sizes G l s → NoneHolds (ownRows G (ask 35 argument) l s)
+  pub sizes-right : Sizes G l s → NoneHolds (ownRows G (calling 35 asked) l s)
   sizes-right o = ap not (o .name) & some-right G l s false 1 (o .some) & tt
 
-  pub positions-none : Positions G l s → NoneHolds (ownRows G (ask 36 argument) l s)
+  pub positions-none : Positions G l s → NoneHolds (ownRows G (calling 36 asked) l s)
   positions-none o = positions-right G l s o & tt
 
-  pub makes-right : Makes G l s → NoneHolds (ownRows G (ask 22 argument) l s)
+  pub makes-right : Makes G l s → NoneHolds (ownRows G (calling 22 asked) l s)
   makes-right o = ap not (o .name) & le-ltb _ _ (o .ex) & ap isFound (o .new) & missed _ (o .entry) & tt
 
-  pub reads-right : Reads G l s 33 → NoneHolds (ownRows G (ask 33 argument) l s)
+  pub reads-right : Reads G l s 33 → NoneHolds (ownRows G (calling 33 asked) l s)
   unfolding isRandom
   reads-right o =
       random-low 33 (l .fcb) refl (o .extent) & missed _ (o .entry) & and-fails-right _ _ (missed _ (o .entry))
       & missed _ (o .target) & ap not (o .there) & tt
 
-  pub writes-right : Writes G l s 21 → NoneHolds (ownRows G (ask 21 argument) l s)
+  pub writes-right : Writes G l s 21 → NoneHolds (ownRows G (calling 21 asked) l s)
   writes-right o =
       missed _ (o .entry) & o .writable & and-fails-right _ _ (missed _ (o .entry)) & lt-leb _ _ (o .extent)
       & either-missed _ _ (o .room) & block-right G l s 21 (o .block) & tt

@@ -18,9 +18,13 @@ use Rattle.model.specs.Kinds.{Listed, calls, lineIn, kindOf, kindNumber, same, 
 use Rattle.model.specs.Lent.{Lent}
 use Rattle.model.specs.Table.{parametersRight, diskRight, Row, when, firstRow, ownRows, table, verdict}
 
--- what is asked, from its parts
-abbrev pub ask : ℕ → ℕ → Asked
-ask number argument = record { number = number; argument = argument }
+-- the same asked of the call with this number
+abbrev pub calling : ℕ → Asked → Asked
+calling n asked = record { number = n; argument = asked .argument }
+
+-- a call with nothing said besides its number
+abbrev pub ask : ℕ → Asked
+ask n = record { number = n; argument = 0 }
 
 -- what holds of each number of a list holds of one of them
 abbrev pub AtEach : (ℕ → Type 0) → List ℕ → Type 0

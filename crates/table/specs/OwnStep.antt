@@ -13,7 +13,7 @@ use Rattle.model.specs.Lent.{Lent, Outcome, outcome, answerOf}
 use Rattle.model.specs.Table.{parametersRight, diskRight, when, firstRow, ownRows, verdict}
 use Rattle.model.specs.Step.{refusedSession, refused, effect, carriedOut, step}
 use Rattle.table.specs.First.{NoneHolds, Decides, first-passes, none-passed, decides-refused}
-use Rattle.table.specs.Own.{ask, verdict-rows}
+use Rattle.table.specs.Own.{calling, verdict-rows}
 use Rattle.table.specs.Facts.{Ready}
 use Rattle.table.specs.Reflect.{parameters-right, disk-right}
 
@@ -55,5 +55,5 @@ module _ (G : Geometry) (asked : Asked) (l : Lent) (s : Session) where
 
 -- what a call does goes by its number and its argument
 pub own-at : (G : Geometry) (asked : Asked) (l : Lent) (s : Session) (n : ℕ) → asked .number ≡ n
-    → ownStep G (ask n (asked .argument)) l s ≡ ownStep G asked l s
-own-at G asked l s n q = ap (λ (m : ℕ). ownStep G (ask m (asked .argument)) l s) (sym q)
+    → ownStep G (calling n asked) l s ≡ ownStep G asked l s
+own-at G asked l s n q = ap (λ (m : ℕ). ownStep G (calling m asked) l s) (sym q)

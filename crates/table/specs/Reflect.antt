@@ -23,7 +23,7 @@ use Rattle.model.specs.declared.Session.{Session}
 use Rattle.model.specs.Lent.{Lent, rowsOf}
 use Rattle.model.specs.declared.Asked.{Asked}
 use Rattle.model.specs.Kinds.{usesFcb}
-use Rattle.table.specs.Own.{ask}
+use Rattle.table.specs.Own.{calling}
 use Rattle.model.specs.Table.{lengthsRight, parametersRight, diskRight, anyNamed, anyReadOnly, positionRight}
 use Rattle.table.specs.Facts.{Fits, Positions, Ready}
 
@@ -107,9 +107,9 @@ module _ (G : Geometry) (asked : Asked) (l : Lent) (s : Session) where
   ready-of p d = record { fits = fits-of p; drive = drive-of p; image-right = image-of d; map-right = map-of d }
 
 -- a log-in takes any map, and no FCB
-pub login-ready : (G : Geometry) (argument : ℕ) (l : Lent) (s : Session) → Fits G l s → consistent G (l .drive .image) ≡ true → Ready G (ask 13 argument) l s
+pub login-ready : (G : Geometry) (asked : Asked) (l : Lent) (s : Session) → Fits G l s → consistent G (l .drive .image) ≡ true → Ready G (calling 13 asked) l s
 unfolding usesFcb
-login-ready G argument l s f c = record { fits = f; drive = λ u. clash (sym u); image-right = c; map-right = λ ne. absurd (ne refl) }
+login-ready G asked l s f c = record { fits = f; drive = λ u. clash (sym u); image-right = c; map-right = λ ne. absurd (ne refl) }
 
 -- ---- the tests of single calls
 module _ (G : Geometry) (l : Lent) (s : Session) where

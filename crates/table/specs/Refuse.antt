@@ -26,7 +26,7 @@ use Rattle.model.specs.Lent.{Lent, rowsOf, searchOn}
 use Rattle.model.specs.Search.{patternOf, findHit}
 use Rattle.model.specs.Table.{parametersRight, diskRight, Row, RowFor, when, keep, rowsAt, callRows, firstRow, ownRows, verdict}
 use Rattle.table.specs.First.{_&_, NoneHolds, Decides, here, later, passed-refused, refused-same, refused-decides, decides-refused}
-use Rattle.table.specs.Own.{ask, at-one, rowsFor, verdict-rows, verdict-unlisted}
+use Rattle.table.specs.Own.{calling, at-one, rowsFor, verdict-rows, verdict-unlisted}
 use Rattle.table.specs.Facts.{Ready}
 use Rattle.table.specs.Reflect.{parameters-right, disk-right, ready-of}
 
@@ -173,7 +173,7 @@ module _ (G : Geometry) (asked : Asked) (l : Lent) (s : Session) where
   unfolding key
   never-not-closed q =
       let d = own-decides G asked l s (isCode NotClosed) NotClosed refl refl refl refl (refuses G asked l s NotClosed q) in
-      at-one (λ (n : ℕ). Decides NotClosed (ownRows G (ask n (asked .argument)) l s) → ⊥) (asked .number) (20 ∷ 21 ∷ 33 ∷ 34 ∷ [])
+      at-one (λ (n : ℕ). Decides NotClosed (ownRows G (calling n asked) l s) → ⊥) (asked .number) (20 ∷ 21 ∷ 33 ∷ 34 ∷ [])
       (code-calls G asked l s (isCode NotClosed) (20 ∷ 21 ∷ 33 ∷ 34 ∷ []) NotClosed refl refl d)
       ((λ v. no-three _ _ (_ ∷ []) _ (refl & tt) (refl & tt) (λ h. h .0) v)
       & (λ v. no-three _ _ (_ ∷ _ ∷ []) _ (refl & refl & tt) (refl & refl & refl & tt) (λ h. h .0) v)
@@ -185,7 +185,7 @@ module _ (G : Geometry) (asked : Asked) (l : Lent) (s : Session) where
   unfolding key
   random-over q =
       let d = own-decides G asked l s (isCode BadRecord) BadRecord refl refl refl refl (refuses G asked l s BadRecord q) in
-      ltb-true _ _ (at-one (λ (n : ℕ). Decides BadRecord (ownRows G (ask n (asked .argument)) l s) → ltb lastRecord (randomOf (l .fcb)) ≡ true) (asked .number) (33 ∷ 34 ∷ [])
+      ltb-true _ _ (at-one (λ (n : ℕ). Decides BadRecord (ownRows G (calling n asked) l s) → ltb lastRecord (randomOf (l .fcb)) ≡ true) (asked .number) (33 ∷ 34 ∷ [])
       (code-calls G asked l s (isCode BadRecord) (33 ∷ 34 ∷ []) BadRecord refl refl d)
       ((λ v. only-row (isCode BadRecord) BadRecord refl _ BadRecord _ v (refl & refl & refl & refl & tt))
       & (λ v. only-row (isCode BadRecord) BadRecord refl _ BadRecord _ v (refl & refl & refl & refl & refl & tt)) & tt) d)
@@ -194,7 +194,7 @@ module _ (G : Geometry) (asked : Asked) (l : Lent) (s : Session) where
   pub search-over : (code : Code) → saysOf code .over ≡ true → Refuses G asked l s code → SearchEnds G l s (asked .number)
   search-over code h q =
       let d = own-decides G asked l s (λ (c : Code). saysOf c .over) code h refl refl refl q in
-      at-one (λ (n : ℕ). Decides code (ownRows G (ask n (asked .argument)) l s) → SearchEnds G l s n) (asked .number) (17 ∷ 18 ∷ [])
+      at-one (λ (n : ℕ). Decides code (ownRows G (calling n asked) l s) → SearchEnds G l s n) (asked .number) (17 ∷ 18 ∷ [])
       (code-calls G asked l s (λ (c : Code). saysOf c .over) (17 ∷ 18 ∷ []) code h refl d)
       ((λ v. ends17 (last-row _ _ (behind (λ (c : Code). saysOf c .over) code h (_ ∷ _ ∷ []) _ (refl & refl & tt) v .rest)))
       & (λ v. let p = behind (λ (c : Code). saysOf c .over) code h (_ ∷ []) _ (refl & tt) v in ends18 (not-false _ (p .failed .0)) (last-row _ _ (p .rest))) & tt) d

@@ -25,7 +25,7 @@ use Rattle.model.specs.Search.{patternOf, findHit}
 use Rattle.model.specs.Table.{ownRows, table, verdict}
 use Rattle.model.specs.Step.{refusedSession, refused, place, effect, step}
 use Rattle.table.specs.First.{NoneHolds, Decides, here, later, passed-none, refused-decides}
-use Rattle.table.specs.Own.{ask}
+use Rattle.table.specs.Own.{calling}
 use Rattle.table.specs.Facts.{Ready, AcceptedCall}
 use Rattle.table.specs.Reflect.{pattern-right}
 use Rattle.table.specs.Accept.{accepted, passes, sets-of}
@@ -119,20 +119,20 @@ module _ (G : Geometry) (asked : Asked) (l : Lent) (s : Session) where
   exact o p a b = a ∙ sym b
 
 -- ---- a search that finds no entry, or no more, is over
-module _ (G : Geometry) (argument : ℕ) (l : Lent) (s : Session) where
-  pub over-first : Ready G (ask 17 argument) l s → nameRight true (l .fcb) 1 ≡ true → (exOf (l .fcb) ≤ 31) ⊎ (exOf (l .fcb) ≡ 63)
-      → findHit G (rowsOf G l) (s .user) (patternOf (l .fcb)) 0 ≡ Nothing → step G (ask 17 argument) l s .answer .session ≡ ended s
+module _ (G : Geometry) (asked : Asked) (l : Lent) (s : Session) where
+  pub over-first : Ready G (calling 17 asked) l s → nameRight true (l .fcb) 1 ≡ true → (exOf (l .fcb) ≤ 31) ⊎ (exOf (l .fcb) ≡ 63)
+      → findHit G (rowsOf G l) (s .user) (patternOf (l .fcb)) 0 ≡ Nothing → step G (calling 17 asked) l s .answer .session ≡ ended s
   unfolding isCall kindOf
   over-first r name ex none =
       ap (λ (o : Outcome). o .answer .session)
-      (step-refused G (ask 17 argument) l s SearchOver refl r (later (ap not name) (later (pattern-right _ ex) (here (missed-row _ none) refl))))
+      (step-refused G (calling 17 asked) l s SearchOver refl r (later (ap not name) (later (pattern-right _ ex) (here (missed-row _ none) refl))))
 
-  pub over-next : Ready G (ask 18 argument) l s → searchOn s ≡ true → findHit G (rowsOf G l) (s .user) (s .pattern) (s .place) ≡ Nothing
-      → step G (ask 18 argument) l s .answer .session ≡ ended s
+  pub over-next : Ready G (calling 18 asked) l s → searchOn s ≡ true → findHit G (rowsOf G l) (s .user) (s .pattern) (s .place) ≡ Nothing
+      → step G (calling 18 asked) l s .answer .session ≡ ended s
   unfolding isCall kindOf
   over-next r is-on none =
       ap (λ (o : Outcome). o .answer .session)
-      (step-refused G (ask 18 argument) l s SearchOver refl r (later (ap not is-on) (here (missed-row _ none) refl)))
+      (step-refused G (calling 18 asked) l s SearchOver refl r (later (ap not is-on) (here (missed-row _ none) refl)))
 
 -- ---- the session stays in range: its user at most 15, its place at most the number of entries
 pub record InRange (G : Geometry) (s : Session) : Type 0 where

@@ -36,7 +36,7 @@ returns : tie.Need-returns
 returns c =
     let a = c .before .before .before .before .before .before .before .before .before .before .before .before .before .before .before .before .before .before .before .before .before .before .before .args in
     c .before .before .before .before .before .before .before .before .call .ensures
-    ∙ ap (λ (y : Bytes). step eightInch (ask 33 0) (lend (a .image .now) (a .map .now) y (a .back .now)) (a .session))
+    ∙ ap (λ (y : Bytes). step eightInch (ask 33) (lend (a .image .now) (a .map .now) y (a .back .now)) (a .session))
     (c .before .before .before .before .before .before .before .before .before .before .before .before .before .before .before .put-three .ensures)
 
 pub read-again-spec : {M : Type 1} → statement M

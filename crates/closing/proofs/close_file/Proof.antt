@@ -28,10 +28,10 @@ same-length-3 : tie.Need-same-length-3
 same-length-3 c = search needs
 
 returns : tie.Need-returns
-returns c argument buffer =
+returns c asked buffer =
     let a = c .before .before .before .before .before .before .before .before .before .before .before .args in
     let found = c .before .before .before .current-entry in
-    close-refused eightInch argument (a .image .now) (a .map .now) (a .fcb .now) (a .session) (found .result) (found .ensures) buffer (c .refuse .result)
+    close-refused eightInch (a .image .now) (a .map .now) (a .fcb .now) (a .session) (found .result) (found .ensures) asked buffer (c .refuse .result)
     (c .before .enum-told .given .1) (c .refuse .ensures)
 
 close-entry-requires : tie.Need-close-entry-requires
@@ -40,7 +40,7 @@ close-entry-requires c κs =
     let found = c .before .before .before .before .before .before .current-entry in
     let e = c .before .before .before .before .e .given in
     let low : e .0 .0 < eightInch .entries =
-    close-low eightInch 0 (a .image .now) (a .map .now) (a .fcb .now) (a .session) (found .result) (found .ensures) (e .0 .0) (e .1) in
+    close-low eightInch (a .image .now) (a .map .now) (a .fcb .now) (a .session) (found .result) (found .ensures) (e .0 .0) (e .1) in
     search needs
 
 clear-attributes-requires : tie.Need-clear-attributes-requires
@@ -62,12 +62,12 @@ same-length-6 : tie.Need-same-length-6
 same-length-6 c = search needs
 
 returns-2 : tie.Need-returns-2
-returns-2 c argument buffer =
+returns-2 c asked buffer =
     let a = c .before .before .before .before .before .before .before .before .before .before .before .before .before .before .before .before .before .before .before .before .before .before .before .before .args in
     let found = c .before .before .before .before .before .before .before .before .before .before .before .before .before .before .before .before .current-entry in
     let e = c .before .before .before .before .before .before .before .before .before .before .before .before .before .before .e .given in
     let closed = c .before .before .before .before .before .before .before .before .before .close-entry in
-    close-carried eightInch argument (a .image .now) (a .map .now) (a .fcb .now) (a .session) (found .result) (found .ensures) buffer (e .0 .0) (c .done .result)
+    close-carried eightInch (a .image .now) (a .map .now) (a .fcb .now) (a .session) (found .result) (found .ensures) asked buffer (e .0 .0) (c .done .result)
     (closed .last .0) (closed .last .1 .0) (c .before .before .before .clear-attributes .last .0) (e .1) (c .done .ensures) (closed .ensures .0) (closed .ensures .1)
     (c .before .before .before .clear-attributes .ensures)
 

@@ -18,8 +18,8 @@ refuse-requires : tie.Need-refuse-requires
 refuse-requires c κs = search needs
 
 returns : tie.Need-returns
-returns c = λ argument buffer.
-    delete-wrong eightInch argument _ _ _ (sym (c .before .before .name-right .ensures) ∙ not-true _ (c .before .if1 .taken)) (c .refuse .ensures)
+returns c = λ asked buffer.
+    delete-wrong eightInch asked _ _ _ (sym (c .before .before .name-right .ensures) ∙ not-true _ (c .before .if1 .taken)) (c .refuse .ensures)
 
 find-named-requires : tie.Need-find-named-requires
 find-named-requires c κs = search needs
@@ -37,9 +37,9 @@ same-length : tie.Need-same-length
 same-length c = search needs
 
 returns-2 : tie.Need-returns-2
-returns-2 c = λ argument buffer.
+returns-2 c = λ asked buffer.
     let u = c .before .before .before .before .before in
-    delete-missed eightInch argument _ _ _ (sym (u .before .name-right .ensures) ∙ not-false _ (u .if1 .left))
+    delete-missed eightInch asked _ _ _ (sym (u .before .name-right .ensures) ∙ not-false _ (u .if1 .left))
     (none-named eightInch _ true _ 1 (sym (c .before .before .before .find-named .ensures) ∙ c .before .enum-told2 .given .1)) (c .refuse2 .ensures)
 
 -- the name is right, and some entry has it
@@ -61,9 +61,9 @@ same-length-2 : tie.Need-same-length-2
 same-length-2 c = search needs
 
 returns-3 : tie.Need-returns-3
-returns-3 c = λ argument buffer.
+returns-3 c = λ asked buffer.
     let k = c .before .before .before .before in
-    delete-guarded eightInch argument _ _ _ (right k) (some k buffer) (sym (c .before .before .any-read-only .ensures _ buffer) ∙ c .before .if2 .taken)
+    delete-guarded eightInch asked _ _ _ (right k) (some k buffer) (sym (c .before .before .any-read-only .ensures _ buffer) ∙ c .before .if2 .taken)
     (c .refuse3 .ensures)
 
 erase-entries-requires : tie.Need-erase-entries-requires
@@ -79,10 +79,10 @@ same-length-4 : tie.Need-same-length-4
 same-length-4 c = search needs
 
 returns-4 : tie.Need-returns-4
-returns-4 c = λ argument buffer.
+returns-4 c = λ asked buffer.
     let k = c .before .before .before .before .before .before .before .before .before .before .before in
     let t = c .before .before .before .before .before .erase-entries .ensures in
-    delete-done eightInch argument _ _ _ (right k) (some k buffer) _ _ (sym (c .before .before .before .before .before .before .before .before .before .any-read-only .ensures _ buffer) ∙ c .before .before .before .before .before .before .before .before .if2 .left)
+    delete-done eightInch asked _ _ _ (right k) (some k buffer) _ _ (sym (c .before .before .before .before .before .before .before .before .before .any-read-only .ensures _ buffer) ∙ c .before .before .before .before .before .before .before .before .if2 .left)
     (c .done .ensures) (t .0) (t .1)
 
 pub delete-file-spec : {M : Type 1} → statement M

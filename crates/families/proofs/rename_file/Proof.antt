@@ -18,8 +18,8 @@ refuse-requires : tie.Need-refuse-requires
 refuse-requires c κs = search needs
 
 returns : tie.Need-returns
-returns c = λ argument map buffer.
-    rename-wrong eightInch argument _ _ _ (sym (c .before .before .name-right .ensures) ∙ not-true _ (c .before .if1 .taken)) (c .refuse .ensures)
+returns c = λ asked map buffer.
+    rename-wrong eightInch asked _ _ _ (sym (c .before .before .name-right .ensures) ∙ not-true _ (c .before .if1 .taken)) (c .refuse .ensures)
 
 name-right-requires-2 : tie.Need-name-right-requires-2
 name-right-requires-2 c κs = search needs
@@ -28,8 +28,8 @@ refuse-requires-2 : tie.Need-refuse-requires-2
 refuse-requires-2 c κs = search needs
 
 returns-2 : tie.Need-returns-2
-returns-2 c = λ argument map buffer.
-    rename-new-wrong eightInch argument _ _ _ (sym (c .before .before .before .before .name-right .ensures) ∙ not-false _ (c .before .before .before .if1 .left))
+returns-2 c = λ asked map buffer.
+    rename-new-wrong eightInch asked _ _ _ (sym (c .before .before .before .before .name-right .ensures) ∙ not-false _ (c .before .before .before .if1 .left))
     (sym (c .before .before .name-right2 .ensures) ∙ not-true _ (c .before .if2 .taken)) (c .refuse2 .ensures)
 
 -- both names are right
@@ -55,9 +55,9 @@ same-length : tie.Need-same-length
 same-length c = search needs
 
 returns-3 : tie.Need-returns-3
-returns-3 c = λ argument map buffer.
+returns-3 c = λ asked map buffer.
     let u = c .before .before .before .before .before in
-    rename-missed eightInch argument _ _ _ (old u) (new u)
+    rename-missed eightInch asked _ _ _ (old u) (new u)
     (none-named eightInch _ false _ 1 (sym (c .before .before .before .find-named .ensures) ∙ c .before .enum-told2 .given .1)) (c .refuse3 .ensures)
 
 -- some entry has the old name
@@ -76,10 +76,10 @@ same-length-2 : tie.Need-same-length-2
 same-length-2 c = search needs
 
 returns-4 : tie.Need-returns-4
-returns-4 c = λ argument map buffer.
+returns-4 c = λ asked map buffer.
     let k = c .before .before .before .before in
     let u = k .before .before .before .before in
-    rename-guarded eightInch argument _ _ _ (old u) (new u) (some k map buffer) (sym (c .before .before .any-read-only .ensures map buffer) ∙ c .before .if3 .taken)
+    rename-guarded eightInch asked _ _ _ (old u) (new u) (some k map buffer) (sym (c .before .before .any-read-only .ensures map buffer) ∙ c .before .if3 .taken)
     (c .refuse4 .ensures)
 
 -- and none of those is read-only
@@ -104,11 +104,11 @@ same-length-3 : tie.Need-same-length-3
 same-length-3 c = search needs
 
 returns-5 : tie.Need-returns-5
-returns-5 c = λ argument map buffer.
+returns-5 c = λ asked map buffer.
     let f = c .before .before .before .before .before in
     let k = f .before .before .before in
     let u = k .before .before .before .before in
-    rename-exists eightInch argument _ _ _ (old u) (new u) (some k map buffer) (free f map buffer)
+    rename-exists eightInch asked _ _ _ (old u) (new u) (some k map buffer) (free f map buffer)
     (some-named eightInch _ false _ 17 _ (sym (c .before .before .before .find-named2 .ensures) ∙ c .before .enum-told4 .given .1)) (c .refuse5 .ensures)
 
 rename-entries-requires : tie.Need-rename-entries-requires
@@ -121,12 +121,12 @@ same-length-4 : tie.Need-same-length-4
 same-length-4 c = search needs
 
 returns-6 : tie.Need-returns-6
-returns-6 c = λ argument map buffer.
+returns-6 c = λ asked map buffer.
     let n = c .before .before .before .before .before in
     let f = n .before .before .before .before in
     let k = f .before .before .before in
     let u = k .before .before .before .before in
-    rename-done eightInch argument _ _ _ (old u) (new u) (some k map buffer) (free f map buffer) _
+    rename-done eightInch asked _ _ _ (old u) (new u) (some k map buffer) (free f map buffer) _
     (none-named eightInch _ false _ 17 (sym (n .before .before .find-named2 .ensures) ∙ n .enum-told3 .given .1))
     (c .done .ensures) (c .before .before .before .rename-entries .ensures)
 

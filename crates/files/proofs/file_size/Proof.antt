@@ -20,8 +20,8 @@ same-length : tie.Need-same-length
 same-length c = search needs
 
 returns : tie.Need-returns
-returns c = λ argument map buffer.
-    size-wrong eightInch argument _ _ _ (sym (c .before .before .name-right .ensures) ∙ not-true _ (c .before .if1 .taken)) (c .refuse .ensures)
+returns c = λ asked map buffer.
+    size-wrong eightInch asked _ _ _ (sym (c .before .before .name-right .ensures) ∙ not-true _ (c .before .if1 .taken)) (c .refuse .ensures)
 
 find-named-requires : tie.Need-find-named-requires
 find-named-requires c κs = search needs
@@ -39,9 +39,9 @@ same-length-2 : tie.Need-same-length-2
 same-length-2 c = search needs
 
 returns-2 : tie.Need-returns-2
-returns-2 c = λ argument map buffer.
+returns-2 c = λ asked map buffer.
     let u = c .before .before .before .before .before in
-    size-missed eightInch argument _ _ _ (sym (u .before .name-right .ensures) ∙ not-false _ (u .if1 .left))
+    size-missed eightInch asked _ _ _ (sym (u .before .name-right .ensures) ∙ not-false _ (u .if1 .left))
     (sym (c .before .before .before .find-named .ensures) ∙ c .before .enum-told2 .given .1) (c .refuse2 .ensures)
 
 largest-size-requires : tie.Need-largest-size-requires
@@ -57,10 +57,10 @@ same-length-3 : tie.Need-same-length-3
 same-length-3 c = search needs
 
 returns-3 : tie.Need-returns-3
-returns-3 c = λ argument map buffer.
+returns-3 c = λ asked map buffer.
     let k = c .before .before .before .before .before .before .before in
     let u = k .before .before .before .before in
-    size-done eightInch argument _ _ _ _ _ (sym (u .before .name-right .ensures) ∙ not-false _ (u .if1 .left))
+    size-done eightInch asked _ _ _ _ _ (sym (u .before .name-right .ensures) ∙ not-false _ (u .if1 .left))
     (sym (k .before .before .find-named .ensures) ∙ k .enum-told .given .1) (c .done .ensures)
     (c .before .before .before .put-three .ensures ∙ ap (λ (n : ℕ). splice (u .before .before .before .before .before .args .fcb .now) 33 (threeBytes n)) (c .before .before .before .before .before .largest-size .ensures))
 

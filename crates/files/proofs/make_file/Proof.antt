@@ -26,8 +26,8 @@ same-length : tie.Need-same-length
 same-length c = search needs
 
 returns : tie.Need-returns
-returns c = λ argument map buffer.
-    make-wrong eightInch argument _ _ _ (sym (c .before .before .asks-right .ensures) ∙ not-true _ (c .before .if1 .taken)) (c .refuse .ensures)
+returns c = λ asked map buffer.
+    make-wrong eightInch asked _ _ _ (sym (c .before .before .asks-right .ensures) ∙ not-true _ (c .before .if1 .taken)) (c .refuse .ensures)
 
 find-asked-requires : tie.Need-find-asked-requires
 find-asked-requires c κs = search needs
@@ -48,9 +48,9 @@ same-length-3 : tie.Need-same-length-3
 same-length-3 c = search needs
 
 returns-2 : tie.Need-returns-2
-returns-2 c = λ argument map buffer.
+returns-2 c = λ asked map buffer.
     let u = c .before .before .before .before .before .before in
-    make-exists eightInch argument _ _ _ _ (sym (u .before .asks-right .ensures) ∙ not-false _ (u .if1 .left))
+    make-exists eightInch asked _ _ _ _ (sym (u .before .asks-right .ensures) ∙ not-false _ (u .if1 .left))
     (sym (c .before .before .before .find-asked .ensures map buffer) ∙ c .before .enum-told2 .given .1) (c .refuse2 .ensures)
 
 -- there is no entry that is asked for
@@ -81,9 +81,9 @@ same-length-5 : tie.Need-same-length-5
 same-length-5 c = search needs
 
 returns-3 : tie.Need-returns-3
-returns-3 c = λ argument map buffer.
+returns-3 c = λ asked map buffer.
     let k = c .before .before .before .before .before in
-    make-full eightInch argument _ _ _ (right k) (new k map buffer) (sym (c .before .before .before .find-empty .ensures) ∙ c .before .enum-told3 .given .1)
+    make-full eightInch asked _ _ _ (right k) (new k map buffer) (sym (c .before .before .before .find-empty .ensures) ∙ c .before .enum-told3 .given .1)
     (c .refuse3 .ensures)
 
 -- the entry found is empty, and the first that is
@@ -115,11 +115,11 @@ same-length-7 : tie.Need-same-length-7
 same-length-7 c = search needs
 
 returns-4 : tie.Need-returns-4
-returns-4 c = λ argument map buffer.
+returns-4 c = λ asked map buffer.
     let k = c .before .before .before .before .before .before .before .before .before .before .before in
     let n = k .before .before .before .before .before in
     let m = c .before .before .before .before .before .before .before .before .before .made-row .ensures in
-    make-done eightInch argument _ _ _ _ _ _ (right n) (new n map buffer) (free k) (c .done .ensures)
+    make-done eightInch asked _ _ _ _ _ _ (right n) (new n map buffer) (free k) (c .done .ensures)
     (c .before .before .before .before .before .before .before .store-row .ensures ∙ ap (withEntry eightInch _ _) m) (c .before .before .before .copy-fields .ensures ∙ ap (copied _) m)
 
 pub make-file-spec : {M : Type 1} → statement M

@@ -24,8 +24,8 @@ same-length : tie.Need-same-length
 same-length c = search needs
 
 returns : tie.Need-returns
-returns c = λ argument map buffer.
-    open-wrong eightInch argument _ _ _ (sym (c .before .before .asks-right .ensures) ∙ not-true _ (c .before .if1 .taken)) (c .refuse .ensures)
+returns c = λ asked map buffer.
+    open-wrong eightInch asked _ _ _ (sym (c .before .before .asks-right .ensures) ∙ not-true _ (c .before .if1 .taken)) (c .refuse .ensures)
 
 find-asked-requires : tie.Need-find-asked-requires
 find-asked-requires c κs = search needs
@@ -43,19 +43,19 @@ same-length-2 : tie.Need-same-length-2
 same-length-2 c = search needs
 
 returns-2 : tie.Need-returns-2
-returns-2 c = λ argument map buffer.
+returns-2 c = λ asked map buffer.
     let u = c .before .before .before .before .before in
-    open-missed eightInch argument _ _ _ (sym (u .before .asks-right .ensures) ∙ not-false _ (u .if1 .left))
+    open-missed eightInch asked _ _ _ (sym (u .before .asks-right .ensures) ∙ not-false _ (u .if1 .left))
     (sym (c .before .before .before .find-asked .ensures map buffer) ∙ c .before .enum-told .given .1) (c .refuse2 .ensures)
 
 -- the entry found is the one that is asked for
-asked : (c : tie.After-known-told) (map buffer : Bytes) →
+asked-for : (c : tie.After-known-told) (map buffer : Bytes) →
     let a = c .before .before .before .before .before .before .before .before .before .before .before .args in
     askedEntry eightInch (lend (a .image .now) map (a .fcb .now) buffer) (a .session .user) ≡ At (c .before .e .given .0 .0)
-asked c map buffer = sym (c .before .before .before .find-asked .ensures map buffer) ∙ c .before .e .given .1
+asked-for c map buffer = sym (c .before .before .before .find-asked .ensures map buffer) ∙ c .before .e .given .1
 
 low : (c : tie.After-known-told) → c .before .e .given .0 .0 < eightInch .entries
-low c = asked-below eightInch _ _ _ (asked c [] [])
+low c = asked-below eightInch _ _ _ (asked-for c [] [])
 
 copy-row-requires : tie.Need-copy-row-requires
 copy-row-requires c κs = let l = low (c .before) in search needs
@@ -73,12 +73,12 @@ same-length-3 : tie.Need-same-length-3
 same-length-3 c = search needs
 
 returns-3 : tie.Need-returns-3
-returns-3 c = λ argument map buffer.
+returns-3 c = λ asked map buffer.
     let k = c .before .before .before .before .before .before in
     let u = k .before .before .before .before .before in
-    open-done eightInch argument _ _ _ _ _ (sym (u .before .asks-right .ensures) ∙ not-false _ (u .if1 .left)) (asked k map buffer) (c .done .ensures)
+    open-done eightInch asked _ _ _ _ _ (sym (u .before .asks-right .ensures) ∙ not-false _ (u .if1 .left)) (asked-for k map buffer) (c .done .ensures)
     (let row = c .before .before .before .before .copy-row .ensures in
-    c .before .before .before .enter .ensures ∙ rw (row, ← asked-own eightInch run-own _ _ _ (asked k map buffer)))
+    c .before .before .before .enter .ensures ∙ rw (row, ← asked-own eightInch run-own _ _ _ (asked-for k map buffer)))
 
 pub open-file-spec : {M : Type 1} → statement M
 open-file-spec =

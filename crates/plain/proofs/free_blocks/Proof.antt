@@ -18,7 +18,7 @@ same-length c = search needs
 returns : tie.Need-returns
 returns c =
     let a = c .before .before .before .before .before .before .args in
-    λ argument image fcb buffer. pending-freed eightInch argument (lend image (a .map .now) fcb buffer) (a .session)
+    λ asked image fcb buffer. pending-freed eightInch asked (lend image (a .map .now) fcb buffer) (a .session)
     (c .done .result) (c .before .before .before .free-pending .last .0) (c .done .ensures) (c .before .before .before .free-pending .ensures)
 
 pub free-blocks-spec : {M : Type 1} → statement M

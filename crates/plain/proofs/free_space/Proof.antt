@@ -28,7 +28,7 @@ same-length c = search needs
 returns : tie.Need-returns
 returns c =
     let a = c .before .before .before .before .before .before .before .before .args in
-    λ argument image fcb. space-told eightInch argument (lend image (a .map .now) fcb (a .buffer .now)) (a .session)
+    λ asked image fcb. space-told eightInch asked (lend image (a .map .now) fcb (a .buffer .now)) (a .session)
     (c .done .result) (c .before .before .before .put-three .last .0) (c .done .ensures)
     (c .before .before .before .put-three .ensures
     ∙ ap (λ (n : ℕ). splice (a .buffer .now) 0 (threeBytes (eightInch .perBlock * n))) (c .before .before .before .before .before .free-count .ensures .0))

@@ -19,7 +19,7 @@ same-length c = search needs
 returns : tie.Need-returns
 returns c =
     let a = c .before .before .before .before .before .before .before .args in
-    λ argument image fcb buffer marked. logged-in eightInch argument (lend image (a .map .now) fcb buffer) (a .session)
+    λ asked image fcb buffer marked. logged-in eightInch asked (lend image (a .map .now) fcb buffer) (a .session)
     (c .done .result) (c .before .before .before .make-fresh .last .0) (c .done .ensures)
     (c .before .before .before .make-fresh .ensures (entryAt eightInch image) marked)
 

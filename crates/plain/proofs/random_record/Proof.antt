@@ -8,7 +8,7 @@ use borrow.Author.Tests.{not-true, not-false}
 use Rattle.lists.specs.Splice.{splice}
 use Rattle.model.specs.Entering.{threeBytes}
 use Rattle.model.specs.declared.Code.the-variants.{Failed}
-use Rattle.table.specs.Own.{ask}
+use Rattle.table.specs.Own.{calling}
 use Rattle.table.specs.OwnStep.{refuses-own}
 use Rattle.plain.specs.Plain.{position-refused, position-told}
 use borrow.Author.Needs.{needs}
@@ -27,8 +27,8 @@ same-length c = search needs
 returns : tie.Need-returns
 returns c =
     let a = c .before .before .before .before .before .args in
-    λ argument image map buffer. refuses-own eightInch (ask 36 argument) (lend image map (a .fcb .now) buffer) (a .session) Failed (c .refuse .result)
-    (position-refused eightInch argument (lend image map (a .fcb .now) buffer) (a .session)
+    λ asked image map buffer. refuses-own eightInch (calling 36 asked) (lend image map (a .fcb .now) buffer) (a .session) Failed (c .refuse .result)
+    (position-refused eightInch asked (lend image map (a .fcb .now) buffer) (a .session)
     (sym (c .before .before .position-right .ensures) ∙ not-true _ (c .before .if1 .taken)))
     (c .refuse .ensures)
 
@@ -60,7 +60,7 @@ returns-2 : tie.Need-returns-2
 returns-2 c =
     let b = c .before .before .before .before .before .before .before .before .before in
     let a = b .before .before .before .before .args in
-    λ argument image map buffer. position-told eightInch argument (lend image map (a .fcb .now) buffer) (a .session)
+    λ asked image map buffer. position-told eightInch asked (lend image map (a .fcb .now) buffer) (a .session)
     (c .done .result) (c .before .before .before .put-three .last .0) (sym (b .before .position-right .ensures) ∙ not-false _ (b .if1 .left)) (c .done .ensures)
     (c .before .before .before .put-three .ensures ∙ ap (λ (n : ℕ). splice (a .fcb .now) 33 (threeBytes n))
     (omega (arith, c .before .before .before .before .before .before .before .extent .ensures .0, c .before .before .before .before .before .wide .ensures .0)))

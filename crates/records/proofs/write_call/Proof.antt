@@ -61,8 +61,8 @@ same-length-3 c = search needs
 
 returns : tie.Need-returns
 returns c =
-    λ argument. let s = c .before .before .before .before .before .before .before .before .before .before .before .before .before .before .before in let a = s .args in
-    write-refused eightInch argument (a .number) (lend (a .image .now) (a .map .now) (a .fcb .now) (a .buffer .now)) (a .session) (c .refuse .result) (s .pre .6) (c .before .before .code .given .0 .0)
+    λ asked. let s = c .before .before .before .before .before .before .before .before .before .before .before .before .before .before .before in let a = s .args in
+    write-refused eightInch asked (a .number) (lend (a .image .now) (a .map .now) (a .fcb .now) (a .buffer .now)) (a .session) (c .refuse .result) (s .pre .6) (c .before .before .code .given .0 .0)
     (sym (c .before .before .before .before .rule-write .ensures (a .buffer .now)) ∙ c .before .before .code .given .1) (c .refuse .ensures)
 
 same-length-4 : tie.Need-same-length-4
@@ -77,8 +77,8 @@ same-length-6 c = search needs
 returns-2 : tie.Need-returns-2
 unfolding targetSlot
 returns-2 c =
-    λ argument. let s = c .before .before .before .before .before .before .before .before .before .before .before .before .before .before .before .before .before .before .before .before .before .before .before .before .before in let a = s .args in let t = c .before .before .before .before .before .before .before .before .before .before .before .before .before .before .before .before .before .before .target-of in let left = c .before .before .before .before .before .before .before .follow-write .last in
-    write-carried eightInch argument (a .number) (lend (a .image .now) (a .map .now) (a .fcb .now) (a .buffer .now)) (a .session) (c .done .result) (s .pre .6) (c .before .before .before .before .before .before .before .before .before .before .before .before .plan .given .0 .0)
+    λ asked. let s = c .before .before .before .before .before .before .before .before .before .before .before .before .before .before .before .before .before .before .before .before .before .before .before .before .before in let a = s .args in let t = c .before .before .before .before .before .before .before .before .before .before .before .before .before .before .before .before .before .before .target-of in let left = c .before .before .before .before .before .before .before .follow-write .last in
+    write-carried eightInch asked (a .number) (lend (a .image .now) (a .map .now) (a .fcb .now) (a .buffer .now)) (a .session) (c .done .result) (s .pre .6) (c .before .before .before .before .before .before .before .before .before .before .before .before .plan .given .0 .0)
     (lend (left .0) (left .1 .0) (left .1 .1 .0) (a .buffer .now)) (follows (c .before .before .before .before .before .before .before .before .before .before .before)) (c .done .ensures)
     (c .before .before .before .before .before .before .before .follow-write .ensures ∙ rw (t .ensures .extent, t .ensures .at, t .ensures .after))
 

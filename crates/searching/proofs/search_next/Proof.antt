@@ -3,7 +3,7 @@ use mathlib.Core.Path.{_∙_}
 use Rattle.format.specs.Diskette.{Bytes, eightInch}
 use Rattle.model.specs.declared.Code.the-variants.{Failed}
 use Rattle.model.specs.Lent.{Lent, lend}
-use Rattle.table.specs.Own.{ask}
+use Rattle.table.specs.Own.{calling}
 use Rattle.table.specs.OwnStep.{refuses-own}
 use Rattle.searching.specs.Searches.{next-refused, next-searched}
 use borrow.Author.Needs.{needs}
@@ -17,8 +17,8 @@ returns : tie.Need-returns
 returns c =
     let a = c .before .before .before .before .before .args in
     let l : Bytes → Bytes → Lent = λ map fcb. lend (a .image .now) map fcb (a .buffer .now) in
-    λ argument map fcb. refuses-own eightInch (ask 18 argument) (l map fcb) (a .session) Failed (c .refuse .result)
-    (next-refused eightInch (a .session) (l map fcb) argument (c .before .if1 .taken)) (c .refuse .ensures)
+    λ asked map fcb. refuses-own eightInch (calling 18 asked) (l map fcb) (a .session) Failed (c .refuse .result)
+    (next-refused eightInch (a .session) (l map fcb) asked (c .before .if1 .taken)) (c .refuse .ensures)
 
 cast-place : tie.Need-cast-place
 cast-place c = search needs
@@ -33,8 +33,8 @@ returns-2 : tie.Need-returns-2
 returns-2 c =
     let b = c .before .before .before .before .before .before in
     let a = b .before .before .before .before .args in
-    λ argument map fcb. let l : Lent = lend (a .image .now) map fcb (a .buffer .now) in
-    c .before .before .first-match .ensures map fcb ∙ next-searched eightInch (a .session) l argument (b .if1 .left)
+    λ asked map fcb. let l : Lent = lend (a .image .now) map fcb (a .buffer .now) in
+    c .before .before .first-match .ensures map fcb ∙ next-searched eightInch (a .session) l asked (b .if1 .left)
 
 pub search-next-spec : {M : Type 1} → statement M
 search-next-spec =
