@@ -7,7 +7,6 @@ ghost use Rattle.format.specs.Entries.{entryAt};
 ghost use Rattle.model.specs.Kinds.{kindOf, isCall};
 ghost use Rattle.model.specs.declared.Kind.the-variants.{Quiet, Search};
 ghost use Rattle.model.specs.Lent.{lend, outcome};
-ghost use Rattle.table.specs.Own.{calling};
 ghost use Rattle.table.specs.Facts.{Fits, Ready};
 ghost use Rattle.table.specs.OwnStep.{ownStep};
 ghost use Rattle.chains.specs.Chain.{Indexed};
@@ -19,7 +18,7 @@ use model::Session;
 
 // The quiet calls: 15, 35, 36 and 46.
 fn quiet_call(
-    number: u8,
+    asked: Asked,
     image: &[u8],
     map: &[u16],
     fcb: &mut [u8],
@@ -27,11 +26,12 @@ fn quiet_call(
     session: Session,
     chain: &[u8],
 ) -> Answer
-    requires { ⌜ (kindOf number ≡ Quiet) × Fits eightInch (lend (now image) (now map) (now fcb) (now buffer)) session
+    requires { ⌜ (kindOf (asked .number) ≡ Quiet) × Fits eightInch (lend (now image) (now map) (now fcb) (now buffer)) session
         × Indexed eightInch (entryAt eightInch (now image)) (now chain) ⌝ }
-    ensures { λ r. ⌜ ((asked : Asked) → outcome r (now (image .entry)) (now (map .entry)) (now (fcb .exit)) (now (buffer .exit))
-        ≡ ownStep eightInch (calling number asked) (lend (now (image .entry)) (now (map .entry)) (now (fcb .entry)) (now (buffer .entry))) session) ⌝ }
+    ensures { λ r. ⌜ outcome r (now (image .entry)) (now (map .entry)) (now (fcb .exit)) (now (buffer .exit))
+        ≡ ownStep eightInch asked (lend (now (image .entry)) (now (map .entry)) (now (fcb .entry)) (now (buffer .entry))) session ⌝ }
 {
+    let number = asked.number;
     if number == 15 {
         return files::open_file(image, fcb, session, chain);
     }
@@ -46,17 +46,18 @@ fn quiet_call(
 
 // The searches: 17 and 18.
 fn search_call(
-    number: u8,
+    asked: Asked,
     image: &[u8],
     map: &[u16],
     fcb: &[u8],
     buffer: &mut [u8],
     session: Session,
 ) -> Answer
-    requires { ⌜ (kindOf number ≡ Search) × Fits eightInch (lend (now image) (now map) (now fcb) (now buffer)) session ⌝ }
-    ensures { λ r. ⌜ ((asked : Asked) → outcome r (now (image .entry)) (now (map .entry)) (now (fcb .entry)) (now (buffer .exit))
-        ≡ ownStep eightInch (calling number asked) (lend (now (image .entry)) (now (map .entry)) (now (fcb .entry)) (now (buffer .entry))) session) ⌝ }
+    requires { ⌜ (kindOf (asked .number) ≡ Search) × Fits eightInch (lend (now image) (now map) (now fcb) (now buffer)) session ⌝ }
+    ensures { λ r. ⌜ outcome r (now (image .entry)) (now (map .entry)) (now (fcb .entry)) (now (buffer .exit))
+        ≡ ownStep eightInch asked (lend (now (image .entry)) (now (map .entry)) (now (fcb .entry)) (now (buffer .entry))) session ⌝ }
 {
+    let number = asked.number;
     if number == 17 {
         return searching::search_first(image, fcb, buffer, session);
     }
@@ -79,19 +80,18 @@ pub fn own_call(
     ensures { λ r. ⌜ outcome r (now (image .exit)) (now (map .exit)) (now (fcb .exit)) (now (buffer .exit))
         ≡ ownStep eightInch asked (lend (now (image .entry)) (now (map .entry)) (now (fcb .entry)) (now (buffer .entry))) session ⌝ }
 {
-    let number = asked.number;
-    let kind = calls::kind_of(number);
+    let kind = calls::kind_of(asked.number);
     match kind {
-        Kind::Quiet => quiet_call(number, image, map, fcb, buffer, session, chain),
-        Kind::Search => search_call(number, image, map, fcb, buffer, session),
+        Kind::Quiet => quiet_call(asked, image, map, fcb, buffer, session, chain),
+        Kind::Search => search_call(asked, image, map, fcb, buffer, session),
         Kind::User => plain::user_number(asked, session),
         Kind::Settle => plain::free_blocks(map, session),
         Kind::Close => closing::close_file(image, map, fcb, session, chain),
         Kind::Delete => families::delete_file(image, map, fcb, session),
         Kind::Create => files::make_file(image, fcb, session, chain),
         Kind::Rename => families::rename_file(image, fcb, session),
-        Kind::Read => records::read_call(number, image, map, fcb, buffer, session, chain),
-        Kind::Write => records::write_call(number, image, map, fcb, buffer, session, chain),
+        Kind::Read => records::read_call(asked, image, map, fcb, buffer, session, chain),
+        Kind::Write => records::write_call(asked, image, map, fcb, buffer, session, chain),
         Kind::Unlisted => answers::refuse(Code::NotListed, session),
     }
 }

@@ -95,26 +95,26 @@ arrived-own {G} S ext l (Make e t b) long hf w own =
     ∙ ap extentOf (sym (entry-stored S shut kept t (w .1) next full))
 
 -- ---- the calls: refused with nothing changed, or the plan carried out
-module _ (G : Geometry) (asked : Asked) (n : ℕ) (l : Lent) (s : Session) (r : Answer) where
-  module _ (which : kindOf n ≡ Read) where
-    pub read-refused : (code : Code) → readRuling G n (s .user) l ≡ Refuse code → r ≡ answerOf code (refusedSession code s)
-        → record { answer = r; lent = l } ≡ ownStep G (calling n asked) l s
-    read-refused code q h = rw (own-read G asked l s n which, q, h)
+module _ (G : Geometry) (asked : Asked) (l : Lent) (s : Session) (r : Answer) where
+  module _ (which : kindOf (asked .number) ≡ Read) where
+    pub read-refused : (code : Code) → readRuling G (asked .number) (s .user) l ≡ Refuse code → r ≡ answerOf code (refusedSession code s)
+        → record { answer = r; lent = l } ≡ ownStep G asked l s
+    read-refused code q h = rw (own-read G asked l s which, q, h)
 
-    pub read-carried : (p : Plan) (left : Lent) → readRuling G n (s .user) l ≡ Follow p → r ≡ answerOf (Accepted 0) (ended s)
-        → left ≡ haveRead G (blockOf p) (targetRecord n (l .fcb)) (crAfter n (l .fcb)) (arrived G (targetExtent n (l .fcb)) l p)
-        → record { answer = r; lent = left } ≡ ownStep G (calling n asked) l s
+    pub read-carried : (p : Plan) (left : Lent) → readRuling G (asked .number) (s .user) l ≡ Follow p → r ≡ answerOf (Accepted 0) (ended s)
+        → left ≡ haveRead G (blockOf p) (targetRecord (asked .number) (l .fcb)) (crAfter (asked .number) (l .fcb)) (arrived G (targetExtent (asked .number) (l .fcb)) l p)
+        → record { answer = r; lent = left } ≡ ownStep G asked l s
     unfolding readAt
-    read-carried p left q h k = rw (own-read G asked l s n which, q, reading-by G s l n p, h, k)
+    read-carried p left q h k = rw (own-read G asked l s which, q, reading-by G s l (asked .number) p, h, k)
 
-  module _ (which : kindOf n ≡ Write) where
-    pub write-refused : (code : Code) → writeRuling G n (s .user) l ≡ Refuse code → r ≡ answerOf code (refusedSession code s)
-        → record { answer = r; lent = l } ≡ ownStep G (calling n asked) l s
-    write-refused code q h = rw (own-write G asked l s n which, q, h)
+  module _ (which : kindOf (asked .number) ≡ Write) where
+    pub write-refused : (code : Code) → writeRuling G (asked .number) (s .user) l ≡ Refuse code → r ≡ answerOf code (refusedSession code s)
+        → record { answer = r; lent = l } ≡ ownStep G asked l s
+    write-refused code q h = rw (own-write G asked l s which, q, h)
 
-    pub write-carried : (p : Plan) (left : Lent) → writeRuling G n (s .user) l ≡ Follow p → r ≡ answerOf (Accepted 0) (ended s)
-        → left ≡ haveWritten G (entryOf p) (targetSlot G n (l .fcb)) (blockOf p) (targetRecord n (l .fcb)) (crAfter n (l .fcb))
-        (arrived G (targetExtent n (l .fcb)) l p)
-        → record { answer = r; lent = left } ≡ ownStep G (calling n asked) l s
+    pub write-carried : (p : Plan) (left : Lent) → writeRuling G (asked .number) (s .user) l ≡ Follow p → r ≡ answerOf (Accepted 0) (ended s)
+        → left ≡ haveWritten G (entryOf p) (targetSlot G (asked .number) (l .fcb)) (blockOf p) (targetRecord (asked .number) (l .fcb)) (crAfter (asked .number) (l .fcb))
+        (arrived G (targetExtent (asked .number) (l .fcb)) l p)
+        → record { answer = r; lent = left } ≡ ownStep G asked l s
     unfolding writtenAt
-    write-carried p left q h k = rw (own-write G asked l s n which, q, writing-by G s l n p, h, k)
+    write-carried p left q h k = rw (own-write G asked l s which, q, writing-by G s l (asked .number) p, h, k)

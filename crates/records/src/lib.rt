@@ -13,12 +13,11 @@ ghost use Rattle.model.specs.Target.{moved, made, haveRead, haveWritten};
 ghost use Rattle.model.specs.Kinds.{kindOf};
 ghost use Rattle.model.specs.declared.Kind.the-variants.{Read, Write};
 ghost use Rattle.chains.specs.Chain.{Indexed};
-ghost use Rattle.table.specs.Own.{calling};
 ghost use Rattle.table.specs.OwnStep.{ownStep};
 ghost use Rattle.rulings.specs.Bounds.{OnDisk, OwnExtent};
 ghost use Rattle.records.specs.Carry.{arrived, entryOf, blockOf};
-ghost use Rattle.model.specs.declared.Asked.{Asked};
 use model::Answer;
+use model::Asked;
 use model::Plan;
 use model::Session;
 use rulings::Ruling;
@@ -137,7 +136,7 @@ fn follow_write(
 
 // Calls 20 and 33, once the disk and the parameters are known to be right.
 pub fn read_call(
-    number: u8,
+    asked: Asked,
     image: &mut [u8],
     map: &mut [u16],
     fcb: &mut [u8],
@@ -147,10 +146,11 @@ pub fn read_call(
 ) -> Answer
     requires { ⌜ (length (now image) ≡ imageBytes eightInch) × (length (now map) ≡ eightInch .blocks) × (length (now fcb) ≡ fcbBytes)
         × (length (now buffer) ≡ recordBytes) × (session .user ≤ 15) × (consistent eightInch (now image) ≡ true)
-        × (kindOf number ≡ Read) × Indexed eightInch (entryAt eightInch (now image)) (now chain) ⌝ }
-    ensures { λ r. ⌜ ((asked : Asked) → outcome r (now (image .exit)) (now (map .exit)) (now (fcb .exit)) (now (buffer .exit))
-        ≡ ownStep eightInch (calling number asked) (lend (now (image .entry)) (now (map .entry)) (now (fcb .entry)) (now (buffer .entry))) session) ⌝ }
+        × (kindOf (asked .number) ≡ Read) × Indexed eightInch (entryAt eightInch (now image)) (now chain) ⌝ }
+    ensures { λ r. ⌜ outcome r (now (image .exit)) (now (map .exit)) (now (fcb .exit)) (now (buffer .exit))
+        ≡ ownStep eightInch asked (lend (now (image .entry)) (now (map .entry)) (now (fcb .entry)) (now (buffer .entry))) session ⌝ }
 {
+    let number = asked.number;
     let target = targets::target_of(number, fcb);
     match rulings::rule_read(number, target, image, map, chain, fcb, session.user) {
         Ruling::Refuse(code) => answers::refuse(code, session),
@@ -163,7 +163,7 @@ pub fn read_call(
 
 // Calls 21 and 34, once the disk and the parameters are known to be right.
 pub fn write_call(
-    number: u8,
+    asked: Asked,
     image: &mut [u8],
     map: &mut [u16],
     fcb: &mut [u8],
@@ -173,10 +173,11 @@ pub fn write_call(
 ) -> Answer
     requires { ⌜ (length (now image) ≡ imageBytes eightInch) × (length (now map) ≡ eightInch .blocks) × (length (now fcb) ≡ fcbBytes)
         × (length (now buffer) ≡ recordBytes) × (session .user ≤ 15) × (consistent eightInch (now image) ≡ true)
-        × (kindOf number ≡ Write) × Indexed eightInch (entryAt eightInch (now image)) (now chain) ⌝ }
-    ensures { λ r. ⌜ ((asked : Asked) → outcome r (now (image .exit)) (now (map .exit)) (now (fcb .exit)) (now (buffer .entry))
-        ≡ ownStep eightInch (calling number asked) (lend (now (image .entry)) (now (map .entry)) (now (fcb .entry)) (now (buffer .entry))) session) ⌝ }
+        × (kindOf (asked .number) ≡ Write) × Indexed eightInch (entryAt eightInch (now image)) (now chain) ⌝ }
+    ensures { λ r. ⌜ outcome r (now (image .exit)) (now (map .exit)) (now (fcb .exit)) (now (buffer .entry))
+        ≡ ownStep eightInch asked (lend (now (image .entry)) (now (map .entry)) (now (fcb .entry)) (now (buffer .entry))) session ⌝ }
 {
+    let number = asked.number;
     let target = targets::target_of(number, fcb);
     match rulings::rule_write(number, target, image, map, chain, fcb, session.user) {
         Ruling::Refuse(code) => answers::refuse(code, session),

@@ -117,14 +117,14 @@ module _ (G : Geometry) (asked : Asked) (l : Lent) (s : Session) where
   by-rows n rows follow r e = rw r (by-verdict n (firstRow rows) follow e)
 
   -- ---- the numbers that have a chain in common
-  pub own-read : (n : ℕ) → kindOf n ≡ Read → ownStep G (calling n asked) l s ≡ ruled (reading G s l n) (readRuling G n (s .user) l)
+  pub own-read : kindOf (asked .number) ≡ Read → ownStep G asked l s ≡ ruled (reading G s l (asked .number)) (readRuling G (asked .number) (s .user) l)
   unfolding read readRuling effect kindOf
-  own-read n =
-      at-kind (λ (m : ℕ). ownStep G (calling m asked) l s ≡ ruled (reading G s l m) (readRuling G m (s .user) l)) Read n refl
+  own-read =
+      at-kind (λ (m : ℕ). ownStep G (calling m asked) l s ≡ ruled (reading G s l m) (readRuling G m (s .user) l)) Read (asked .number) refl
       (by-rows 20 _ (reading G s l 20) rows-20 refl & by-rows 33 _ (reading G s l 33) rows-33 refl & tt)
 
-  pub own-write : (n : ℕ) → kindOf n ≡ Write → ownStep G (calling n asked) l s ≡ ruled (writing G s l n) (writeRuling G n (s .user) l)
+  pub own-write : kindOf (asked .number) ≡ Write → ownStep G asked l s ≡ ruled (writing G s l (asked .number)) (writeRuling G (asked .number) (s .user) l)
   unfolding written writeRuling effect kindOf
-  own-write n =
-      at-kind (λ (m : ℕ). ownStep G (calling m asked) l s ≡ ruled (writing G s l m) (writeRuling G m (s .user) l)) Write n refl
+  own-write =
+      at-kind (λ (m : ℕ). ownStep G (calling m asked) l s ≡ ruled (writing G s l m) (writeRuling G m (s .user) l)) Write (asked .number) refl
       (by-rows 21 _ (writing G s l 21) rows-21 refl & by-rows 34 _ (writing G s l 34) rows-34 refl & tt)

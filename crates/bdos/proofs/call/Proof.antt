@@ -116,8 +116,9 @@ same-length-12 c = search needs
 returns-4 : tie.Need-returns-4
 returns-4 c =
     let k = called (c .before .before .before .before .before .before .before .before .before .before .before .before .before .before .before .before .before .before .before .before) in
-    c .before .before .log-in .ensures _ _ _ _ (c .before .before .before .before .before .before .before .before .before .disk-right .ensures .1 (not-false _ (c .before .before .before .before .before .before .if3 .left)) .0)
-    ∙ own-at eightInch _ _ _ 13 (c .before .before .before .before .before .if4 .taken) ∙ sym (step-own eightInch _ _ _ k (ready (c .before .before .before .before .before .before)))
+    let a = c .before .before .before .before .before .before .before .before .before .before .before .before .before .before .before .before .before .before .before .before .before .before .before .before .before .before .args .asked in
+    c .before .before .log-in .ensures a _ _ _ (c .before .before .before .before .before .before .before .before .before .disk-right .ensures .1 (not-false _ (c .before .before .before .before .before .before .if3 .left)) .0)
+    ∙ own-at eightInch a _ _ 13 (c .before .before .before .before .before .if4 .taken) ∙ sym (step-own eightInch _ _ _ k (ready (c .before .before .before .before .before .before)))
 
 slice-aggregate-own-call : tie.Need-slice-aggregate-own-call
 slice-aggregate-own-call c = search needs

@@ -1,59 +1,46 @@
 use mathlib.Core.Path.{_∙_}
 use Rattle.format.specs.Diskette.{eightInch}
-use Rattle.table.specs.Own.{calling}
 use Rattle.table.specs.OwnStep.{own-at}
 use Rattle.dispatch.specs.Numbers.{last-quiet}
 use borrow.Author.Needs.{needs}
 use Rattle.dispatch.proofs.quiet_call.Statement.{statement}
 use Rattle.dispatch.proofs.quiet_call.Tie as tie
 
--- src/lib.rt:36:9
 open-file-requires : tie.Need-open-file-requires
 open-file-requires c κs = search needs
 
--- src/lib.rt:36:9
 same-length : tie.Need-same-length
 same-length c = search needs
 
--- src/lib.rt:36:9
 returns : tie.Need-returns
-returns c = λ asked. c .before .before .open-file .ensures asked _ _ ∙ own-at eightInch (calling _ asked) _ _ 15 (c .before .before .before .before .if1 .taken)
+returns c = let a = c .before .before .before .before .before .before .before .before .before .before .args .asked in c .before .before .open-file .ensures a _ _ ∙ own-at eightInch a _ _ 15 (c .before .before .before .before .if1 .taken)
 
--- src/lib.rt:39:9
 file-size-requires : tie.Need-file-size-requires
 file-size-requires c κs = search needs
 
--- src/lib.rt:39:9
 same-length-2 : tie.Need-same-length-2
 same-length-2 c = search needs
 
--- src/lib.rt:39:9
 returns-2 : tie.Need-returns-2
-returns-2 c = λ asked. c .before .before .file-size .ensures asked _ _ ∙ own-at eightInch (calling _ asked) _ _ 35 (c .before .before .before .before .if2 .taken)
+returns-2 c = let a = c .before .before .before .before .before .before .before .before .before .before .before .args .asked in c .before .before .file-size .ensures a _ _ ∙ own-at eightInch a _ _ 35 (c .before .before .before .before .if2 .taken)
 
--- src/lib.rt:42:9
 random-record-requires : tie.Need-random-record-requires
 random-record-requires c κs = search needs
 
--- src/lib.rt:42:9
 same-length-3 : tie.Need-same-length-3
 same-length-3 c = search needs
 
--- src/lib.rt:42:9
 returns-3 : tie.Need-returns-3
-returns-3 c = λ asked. c .before .before .random-record .ensures asked _ _ _ ∙ own-at eightInch (calling _ asked) _ _ 36 (c .before .before .before .before .if3 .taken)
+returns-3 c = let a = c .before .before .before .before .before .before .before .before .before .before .before .before .args .asked in c .before .before .random-record .ensures a _ _ _ ∙ own-at eightInch a _ _ 36 (c .before .before .before .before .if3 .taken)
 
--- src/lib.rt:44:5
 free-space-requires : tie.Need-free-space-requires
 free-space-requires c κs = search needs
 
--- src/lib.rt:21:1
 same-length-4 : tie.Need-same-length-4
 same-length-4 c = search needs
 
--- src/lib.rt:21:1
 returns-4 : tie.Need-returns-4
-returns-4 c = λ asked. c .before .before .free-space .ensures asked _ _ ∙ own-at eightInch (calling _ asked) _ _ 46 (last-quiet _ (c .before .before .before .before .before .before .before .before .before .before .before .before .pre .0) (c .before .before .before .before .before .before .if1 .left) (c .before .before .before .before .before .if2 .left) (c .before .before .before .before .if3 .left))
+returns-4 c = let a = c .before .before .before .before .before .before .before .before .before .before .before .before .args .asked in c .before .before .free-space .ensures a _ _ ∙ own-at eightInch a _ _ 46 (last-quiet _ (c .before .before .before .before .before .before .before .before .before .before .before .before .pre .0) (c .before .before .before .before .before .before .if1 .left) (c .before .before .before .before .before .if2 .left) (c .before .before .before .before .if3 .left))
 
 pub quiet-call-spec : {M : Type 1} → statement M
 quiet-call-spec =

@@ -29,13 +29,13 @@ enum-known-plan : tie.Need-enum-known-plan
 enum-known-plan c = search needs
 
 -- the plan is what the ruling says, and names entries and a block of the disk
-follows : (c : tie.After-known-told2) → let a = c .before .before .before .before .before .before .before .before .before .before .before .before .before .before .args in readRuling eightInch (a .number) (a .session .user) (lend (a .image .now) (a .map .now) (a .fcb .now) (a .buffer .now)) ≡ Follow (c .before .plan .given .0 .0)
+follows : (c : tie.After-known-told2) → let a = c .before .before .before .before .before .before .before .before .before .before .before .before .before .before .args in readRuling eightInch (a .asked .number) (a .session .user) (lend (a .image .now) (a .map .now) (a .fcb .now) (a .buffer .now)) ≡ Follow (c .before .plan .given .0 .0)
 follows c = let a = c .before .before .before .before .before .before .before .before .before .before .before .before .before .before .args in sym (c .before .before .before .rule-read .ensures (a .buffer .now)) ∙ c .before .plan .given .1
 
-sure : (c : tie.After-known-told2) → Sure eightInch (c .before .before .before .before .before .before .before .before .before .before .before .before .before .before .args .number) (c .before .before .before .before .before .before .before .before .before .before .before .before .before .before .args .image .now) (c .before .before .before .before .before .before .before .before .before .before .before .before .before .before .args .fcb .now) (c .before .plan .given .0 .0)
+sure : (c : tie.After-known-told2) → Sure eightInch (c .before .before .before .before .before .before .before .before .before .before .before .before .before .before .args .asked .number) (c .before .before .before .before .before .before .before .before .before .before .before .before .before .before .args .image .now) (c .before .before .before .before .before .before .before .before .before .before .before .before .before .before .args .fcb .now) (c .before .plan .given .0 .0)
 sure c =
     let s = c .before .before .before .before .before .before .before .before .before .before .before .before .before .before in let a = s .args in
-    read-sure eight-sound run-own (a .number) (lend (a .image .now) (a .map .now) (a .fcb .now) (a .buffer .now)) (a .session) (s .pre .0) (s .pre .1) (s .pre .5) (s .pre .4) (c .before .plan .given .0 .0) (follows c)
+    read-sure eight-sound run-own (a .asked .number) (lend (a .image .now) (a .map .now) (a .fcb .now) (a .buffer .now)) (a .session) (s .pre .0) (s .pre .1) (s .pre .5) (s .pre .4) (c .before .plan .given .0 .0) (follows c)
 
 follow-read-requires : tie.Need-follow-read-requires
 follow-read-requires c κs =
@@ -60,8 +60,8 @@ same-length-3 c = search needs
 
 returns : tie.Need-returns
 returns c =
-    λ asked. let s = c .before .before .before .before .before .before .before .before .before .before .before .before .before .before .before in let a = s .args in
-    read-refused eightInch asked (a .number) (lend (a .image .now) (a .map .now) (a .fcb .now) (a .buffer .now)) (a .session) (c .refuse .result) (s .pre .6) (c .before .before .code .given .0 .0)
+    let s = c .before .before .before .before .before .before .before .before .before .before .before .before .before .before .before in let a = s .args in
+    read-refused eightInch (a .asked) (lend (a .image .now) (a .map .now) (a .fcb .now) (a .buffer .now)) (a .session) (c .refuse .result) (s .pre .6) (c .before .before .code .given .0 .0)
     (sym (c .before .before .before .before .rule-read .ensures (a .buffer .now)) ∙ c .before .before .code .given .1) (c .refuse .ensures)
 
 same-length-4 : tie.Need-same-length-4
@@ -78,8 +78,8 @@ same-length-7 c = search needs
 
 returns-2 : tie.Need-returns-2
 returns-2 c =
-    λ asked. let s = c .before .before .before .before .before .before .before .before .before .before .before .before .before .before .before .before .before .before .before .before .before .before .before .before .before .before .before .before in let a = s .args in let t = c .before .before .before .before .before .before .before .before .before .before .before .before .before .before .before .before .before .before .before .before .before .target-of in let left = c .before .before .before .before .before .before .before .before .before .follow-read .last in
-    read-carried eightInch asked (a .number) (lend (a .image .now) (a .map .now) (a .fcb .now) (a .buffer .now)) (a .session) (c .done .result) (s .pre .6) (c .before .before .before .before .before .before .before .before .before .before .before .before .before .before .before .plan .given .0 .0)
+    let s = c .before .before .before .before .before .before .before .before .before .before .before .before .before .before .before .before .before .before .before .before .before .before .before .before .before .before .before .before in let a = s .args in let t = c .before .before .before .before .before .before .before .before .before .before .before .before .before .before .before .before .before .before .before .before .before .target-of in let left = c .before .before .before .before .before .before .before .before .before .follow-read .last in
+    read-carried eightInch (a .asked) (lend (a .image .now) (a .map .now) (a .fcb .now) (a .buffer .now)) (a .session) (c .done .result) (s .pre .6) (c .before .before .before .before .before .before .before .before .before .before .before .before .before .before .before .plan .given .0 .0)
     (lend (left .0) (left .1 .0) (left .1 .1 .0) (left .1 .1 .1 .0)) (follows (c .before .before .before .before .before .before .before .before .before .before .before .before .before .before)) (c .done .ensures)
     (c .before .before .before .before .before .before .before .before .before .follow-read .ensures ∙ rw (t .ensures .extent, t .ensures .at, t .ensures .after))
 

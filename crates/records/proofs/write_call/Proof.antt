@@ -30,13 +30,13 @@ enum-known-plan : tie.Need-enum-known-plan
 enum-known-plan c = search needs
 
 -- the plan is what the ruling says, and names entries and a block of the disk
-follows : (c : tie.After-known-told2) → let a = c .before .before .before .before .before .before .before .before .before .before .before .before .before .before .args in writeRuling eightInch (a .number) (a .session .user) (lend (a .image .now) (a .map .now) (a .fcb .now) (a .buffer .now)) ≡ Follow (c .before .plan .given .0 .0)
+follows : (c : tie.After-known-told2) → let a = c .before .before .before .before .before .before .before .before .before .before .before .before .before .before .args in writeRuling eightInch (a .asked .number) (a .session .user) (lend (a .image .now) (a .map .now) (a .fcb .now) (a .buffer .now)) ≡ Follow (c .before .plan .given .0 .0)
 follows c = let a = c .before .before .before .before .before .before .before .before .before .before .before .before .before .before .args in sym (c .before .before .before .rule-write .ensures (a .buffer .now)) ∙ c .before .plan .given .1
 
-sure : (c : tie.After-known-told2) → Sure eightInch (c .before .before .before .before .before .before .before .before .before .before .before .before .before .before .args .number) (c .before .before .before .before .before .before .before .before .before .before .before .before .before .before .args .image .now) (c .before .before .before .before .before .before .before .before .before .before .before .before .before .before .args .fcb .now) (c .before .plan .given .0 .0)
+sure : (c : tie.After-known-told2) → Sure eightInch (c .before .before .before .before .before .before .before .before .before .before .before .before .before .before .args .asked .number) (c .before .before .before .before .before .before .before .before .before .before .before .before .before .before .args .image .now) (c .before .before .before .before .before .before .before .before .before .before .before .before .before .before .args .fcb .now) (c .before .plan .given .0 .0)
 sure c =
     let s = c .before .before .before .before .before .before .before .before .before .before .before .before .before .before in let a = s .args in
-    write-sure eight-sound run-own (a .number) (lend (a .image .now) (a .map .now) (a .fcb .now) (a .buffer .now)) (a .session) (s .pre .0) (s .pre .1) (s .pre .5) (s .pre .4) (c .before .plan .given .0 .0) (follows c)
+    write-sure eight-sound run-own (a .asked .number) (lend (a .image .now) (a .map .now) (a .fcb .now) (a .buffer .now)) (a .session) (s .pre .0) (s .pre .1) (s .pre .5) (s .pre .4) (c .before .plan .given .0 .0) (follows c)
 
 follow-write-requires : tie.Need-follow-write-requires
 follow-write-requires c κs =
@@ -61,8 +61,8 @@ same-length-3 c = search needs
 
 returns : tie.Need-returns
 returns c =
-    λ asked. let s = c .before .before .before .before .before .before .before .before .before .before .before .before .before .before .before in let a = s .args in
-    write-refused eightInch asked (a .number) (lend (a .image .now) (a .map .now) (a .fcb .now) (a .buffer .now)) (a .session) (c .refuse .result) (s .pre .6) (c .before .before .code .given .0 .0)
+    let s = c .before .before .before .before .before .before .before .before .before .before .before .before .before .before .before in let a = s .args in
+    write-refused eightInch (a .asked) (lend (a .image .now) (a .map .now) (a .fcb .now) (a .buffer .now)) (a .session) (c .refuse .result) (s .pre .6) (c .before .before .code .given .0 .0)
     (sym (c .before .before .before .before .rule-write .ensures (a .buffer .now)) ∙ c .before .before .code .given .1) (c .refuse .ensures)
 
 same-length-4 : tie.Need-same-length-4
@@ -77,8 +77,8 @@ same-length-6 c = search needs
 returns-2 : tie.Need-returns-2
 unfolding targetSlot
 returns-2 c =
-    λ asked. let s = c .before .before .before .before .before .before .before .before .before .before .before .before .before .before .before .before .before .before .before .before .before .before .before .before .before in let a = s .args in let t = c .before .before .before .before .before .before .before .before .before .before .before .before .before .before .before .before .before .before .target-of in let left = c .before .before .before .before .before .before .before .follow-write .last in
-    write-carried eightInch asked (a .number) (lend (a .image .now) (a .map .now) (a .fcb .now) (a .buffer .now)) (a .session) (c .done .result) (s .pre .6) (c .before .before .before .before .before .before .before .before .before .before .before .before .plan .given .0 .0)
+    let s = c .before .before .before .before .before .before .before .before .before .before .before .before .before .before .before .before .before .before .before .before .before .before .before .before .before in let a = s .args in let t = c .before .before .before .before .before .before .before .before .before .before .before .before .before .before .before .before .before .before .target-of in let left = c .before .before .before .before .before .before .before .follow-write .last in
+    write-carried eightInch (a .asked) (lend (a .image .now) (a .map .now) (a .fcb .now) (a .buffer .now)) (a .session) (c .done .result) (s .pre .6) (c .before .before .before .before .before .before .before .before .before .before .before .before .plan .given .0 .0)
     (lend (left .0) (left .1 .0) (left .1 .1 .0) (a .buffer .now)) (follows (c .before .before .before .before .before .before .before .before .before .before .before)) (c .done .ensures)
     (c .before .before .before .before .before .before .before .follow-write .ensures ∙ rw (t .ensures .extent, t .ensures .at, t .ensures .after))
 
