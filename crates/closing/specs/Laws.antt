@@ -6,10 +6,11 @@ use native.Mathlib.Omega.{arith}
 use lib.Dec.{ltb}
 use lib.ListN.{length, set}
 use borrow.Author.Tests.{le-ltb, not-true}
-use Rattle.lists.specs.Splice.{part, length-part, splice, splice-own}
+use Rattle.lists.specs.Splice.{splice}
 use Rattle.lists.specs.Tests.{_and_, and-left, and-right}
-use Rattle.lists.specs.Fold.{foldBelow, fold-keeps}
-use Rattle.format.specs.Diskette.{Bytes, Geometry, Sound, Long, entryBytes, slotBytes, slotCount}
+use Rattle.lists.specs.Below.{anyBelow}
+use Rattle.lists.specs.Fold.{foldBelow}
+use Rattle.format.specs.Diskette.{Bytes, Geometry, Sound, Long, slotBytes, slotCount}
 use Rattle.format.specs.Entries.{entryAt, withEntry, exOf, s2Of, countOf, withNumbers, endOf, slotsOf}
 use Rattle.format.specs.Fcb.{current}
 use Rattle.facts.specs.Found.{found-row, missed-row}
@@ -20,15 +21,15 @@ use Rattle.model.specs.declared.Session.{Session}
 use Rattle.model.specs.declared.Answer.{Answer}
 use Rattle.model.specs.declared.Code.the-variants.{Accepted, Failed}
 use Rattle.model.specs.Lent.{lend, outcome, answerOf, ended}
-use Rattle.model.specs.Closing.{mergedSlots, endsLater, laterEnd, closedRow, closedNote, closedMap, closedImage, closedFcb}
+use Rattle.model.specs.Closing.{takesSlot, mergedSlots, endsLater, laterEnd, closedRow, closedNote, closedMap, closeChanges, closedImage, closedFcb}
 use Rattle.model.specs.Target.{presentEntry}
 use Rattle.model.specs.Calls.{entryNumber, closedAt, closed}
 use Rattle.model.specs.Kinds.{kindOf}
 use Rattle.model.specs.Step.{effect}
 use Rattle.table.specs.First.{_&_, here}
 use Rattle.table.specs.Own.{calling}
-use Rattle.rows.specs.Entries.{length-entryAt, entry-own}
-use Rattle.fields.specs.Closing.{takes-none, merged-same, later-stays}
+use Rattle.fields.specs.Closing.{takes-none, keeps-intro}
+use Rattle.fields.specs.Images.{closed-stored}
 use Rattle.facts.specs.Counts.{end-none, end-some}
 use Rattle.facts.specs.Current.{current-says}
 use Rattle.facts.specs.Slots.{short-slotsOf}
@@ -36,16 +37,10 @@ use Rattle.slots.specs.Slots.{slotsSame, same-slot}
 use Rattle.current.specs.Current.{current-low}
 use Rattle.table.specs.OwnStep.{ownStep, refuses-own, carries-own}
 
--- ---- slots that are the same: nothing is taken, so nothing changes
-module _ (G : Geometry) (es fs : Bytes) (l : length es ≤ slotBytes) (k : length fs ≤ slotBytes) (same : slotsSame es fs ≡ true) where
-  pub same-merged : length es ≡ slotBytes → es ≡ mergedSlots G es fs
-  same-merged q = sym (merged-same G es fs (same-slot G es fs l k same) q)
-
-  pub same-recorded : (map : Bytes) → map ≡ foldBelow (closedNote G es fs) map slotCount
-  unfolding closedNote
-  same-recorded map =
-      sym (fold-keeps (λ (m : Bytes). m ≡ map) (closedNote G es fs) map slotCount refl
-      (λ m j h q. rw (takes-none G es fs (same-slot G es fs l k same) j) q))
+-- ---- slots that are the same: nothing is taken
+pub same-none : (G : Geometry) (es fs : Bytes) → length es ≤ slotBytes → length fs ≤ slotBytes → slotsSame es fs ≡ true
+    → anyBelow (takesSlot G es fs) slotCount ≡ false
+same-none G es fs l k same = takes-none G es fs (same-slot G es fs l k same)
 
 -- ---- the end
 module _ (row fcb : Bytes) where
@@ -62,36 +57,18 @@ module _ (row fcb : Bytes) where
   unfolding laterEnd withNumbers
   later-takes n t q = rw (q, t)
 
--- ---- a close that leaves the row as it is: the FCB's slots are the row's, and its end is no later
+-- ---- what code looks for first: the FCB's slots are the row's, and its end is no later
 unfoldable pub closeKeeps : Bytes → Bytes → Bool
 closeKeeps row fcb = slotsSame (slotsOf row) (slotsOf fcb) and not (endsLater row fcb)
 
-module _ (G : Geometry) (row fcb : Bytes) (h : closeKeeps row fcb ≡ true) where
-  same-slots : slotsSame (slotsOf row) (slotsOf fcb) ≡ true
-  unfolding closeKeeps
-  same-slots = and-left _ _ h
+pub keeps-row : (G : Geometry) (row fcb : Bytes) → closeKeeps row fcb ≡ true → closeChanges G row fcb ≡ false
+unfolding closeKeeps
+keeps-row G row fcb h =
+    keeps-intro G row fcb (same-none G (slotsOf row) (slotsOf fcb) (short-slotsOf row) (short-slotsOf fcb) (and-left _ _ h)) (not-true _ (and-right _ _ h))
 
-  no-later : endsLater row fcb ≡ false
-  unfolding closeKeeps
-  no-later = not-true _ (and-right _ _ h)
-
-  kept-row : length row ≡ entryBytes → closedRow G row fcb ≡ row
-  unfolding closedRow slotsOf
-  kept-row long =
-      let l : length (part row 16 slotBytes) ≡ slotBytes = length-part row 16 slotBytes (omega arith) in
-      ap (λ (r : Bytes). splice r 16 (mergedSlots G (slotsOf row) (slotsOf fcb))) (later-stays row fcb no-later)
-      ∙ ap (splice row 16) (sym (same-merged G (slotsOf row) (slotsOf fcb) (short-slotsOf row) (short-slotsOf fcb) same-slots l))
-      ∙ splice-own row 16 slotBytes (omega arith)
-
-  pub kept-map : (map : Bytes) → closedMap G row fcb map ≡ map
-  unfolding closedMap
-  kept-map map = sym (same-recorded G (slotsOf row) (slotsOf fcb) (short-slotsOf row) (short-slotsOf fcb) same-slots map)
-
-pub kept-image : {G : Geometry} (S : Sound G) (img : Bytes) (long : Long G img) (e : ℕ) (below : e < G .entries) (fcb : Bytes)
-    → closeKeeps (entryAt G img e) fcb ≡ true → img ≡ closedImage G img e fcb
+pub kept-image : (G : Geometry) (img : Bytes) (e : ℕ) (fcb : Bytes) → closeChanges G (entryAt G img e) fcb ≡ false → img ≡ closedImage G img e fcb
 unfolding closedImage
-kept-image {G} S img long e below fcb h =
-    sym (ap (withEntry G img e) (kept-row G (entryAt G img e) fcb h (length-entryAt S img long e below)) ∙ entry-own S img long e below)
+kept-image G img e fcb h = rw h
 
 -- ---- a row and a map, from their parts
 pub closed-row : (G : Geometry) (row fcb es fs m n r : Bytes) → es ≡ slotsOf row → fs ≡ slotsOf fcb → m ≡ mergedSlots G es fs → n ≡ laterEnd row fcb
@@ -99,10 +76,9 @@ pub closed-row : (G : Geometry) (row fcb es fs m n r : Bytes) → es ≡ slotsOf
 unfolding closedRow
 closed-row G row fcb es fs m n r a b c d e = rw (e, c, d, a, b)
 
-pub closed-image : (G : Geometry) (img fcb row r i : Bytes) (e : ℕ) → row ≡ entryAt G img e → r ≡ closedRow G row fcb → i ≡ withEntry G img e r
-    → i ≡ closedImage G img e fcb
-unfolding closedImage
-closed-image G img fcb row r i e a b c = rw (c, b, a)
+pub closed-image : {G : Geometry} (S : Sound G) (img : Bytes) → Long G img → (e : ℕ) → e < G .entries → (fcb row r i : Bytes)
+    → row ≡ entryAt G img e → r ≡ closedRow G row fcb → i ≡ withEntry G img e r → i ≡ closedImage G img e fcb
+closed-image S img long e below fcb row r i a b c = rw (c, b, a) (sym (closed-stored S img long e below fcb))
 
 pub closed-map : (G : Geometry) (img fcb row es fs map m : Bytes) (e : ℕ) → row ≡ entryAt G img e → es ≡ slotsOf row → fs ≡ slotsOf fcb
     → m ≡ foldBelow (closedNote G es fs) map slotCount → m ≡ closedMap G (entryAt G img e) fcb map

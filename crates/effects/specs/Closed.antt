@@ -4,7 +4,7 @@ use mathlib.Core.Logic.{_⊎_, inl, inr}
 use mathlib.Core.Bool.{false}
 use Prim.Native.Nat.{ℕ, _≤_, _<_}
 use native.Mathlib.Omega.{arith}
-use lib.ListN.{length}
+use lib.ListN.{length, getD}
 use Rattle.lists.specs.Cases.{split}
 use Rattle.format.specs.Diskette.{Bytes, Geometry, Sound, entryBytes}
 use Rattle.format.specs.Entries.{entryAt, named}
@@ -12,7 +12,7 @@ use Rattle.format.specs.Notes.{noteAt, pendingFor}
 use Rattle.rows.specs.Entries.{length-entryAt}
 use Rattle.model.specs.Closing.{closedRow, closedImage, closedMap}
 use Rattle.fields.specs.Closing.{Takes, length-closedRow, note-closed-cases}
-use Rattle.fields.specs.Images.{row-closedImage-other, record-closedImage}
+use Rattle.fields.specs.Images.{closed-stored, row-closedImage-other, record-closedImage}
 use Rattle.invariant.specs.Good.{Good}
 use Rattle.invariant.specs.CloseGood.{good-closed}
 use Rattle.effects.specs.View.{viewOf, Names}
@@ -52,7 +52,6 @@ module _ {G : Geometry} (S : Sound G) (img map : Bytes) (g : Good G img map) (us
 
   pub closed-change : (W : ℕ → Type 0)
       → Change G (byName user fcb) W (settledBy G (entryAt G img e) fcb) img map (closedImage G img e fcb) (closedMap G (entryAt G img e) fcb map)
-  unfolding closedImage
   closed-change W =
       let s = viewOf G img map in
       let t = viewOf G (closedImage G img e fcb) (closedMap G (entryAt G img e) fcb map) in
@@ -62,7 +61,8 @@ module _ {G : Geometry} (S : Sound G) (img map : Bytes) (g : Good G img map) (us
             (row-closedImage-other S img (g .image-long) e (c .low) fcb) (by-name-used G img map user fcb hu) nm;
         keeps = keeps-by G s t (byName user fcb)
             (λ b l. split (closed-notes b l) (λ q. inl q) (λ t. inr (held-named s (byName user fcb) b e (t .slot) (t .below) nm (taken-noted b t))));
-        frame = λ i. split (entry-or-same S img (g .image-long) e (c .low) (closedRow G (entryAt G img e) fcb) whole i) (λ q. inl q) (λ p. inr (in-entry e p nm));
+        frame = λ i. split (entry-or-same S img (g .image-long) e (c .low) (closedRow G (entryAt G img e) fcb) whole i)
+            (λ q. inl (ap (λ (x : Bytes). getD x i 0) (closed-stored S img (g .image-long) e (c .low) fcb) ∙ q)) (λ p. inr (in-entry e p nm));
         good = good-closed S img map g user hu fcb e (cur-facts G img map user fcb e (g .inv .dir) hu c);
         book = λ u tr. closed-tracks G u (entryAt G img e) fcb map (g .map-long) tr;
       }

@@ -9,9 +9,9 @@ use lib.ListN.{length, getD, set, length-set, List·getD-eq-default}
 use lib.Seq.{getD-set-same, getD-set-other}
 use borrow.Author.Tests.{eqb-true, eqb-false, eq-eqb, ne-eqb, ltb-true, ltb-false, not-true}
 use Rattle.lists.specs.Cases.{split, bool-cases, lt-or-le, eq-or-ne, not-both}
-use Rattle.lists.specs.Tests.{_and_, and-not, and-left, and-right, and-both, and-then, and-fails-left, and-fails-right, cond-or}
-use Rattle.lists.specs.Below.{anyBelow, any-at, any-some}
-use Rattle.lists.specs.Splice.{part, length-splice, getD-splice-out, part-splice-same}
+use Rattle.lists.specs.Tests.{_and_, and-not, and-left, and-right, and-both, and-then, and-fails-left, and-fails-right, cond-or, or-then, or-neither, or-cases}
+use Rattle.lists.specs.Below.{anyBelow, any-at, any-some, any-never, any-empty}
+use Rattle.lists.specs.Splice.{part, length-part, splice-own, length-splice, getD-splice-out, part-splice-same}
 use Rattle.lists.specs.Tab.{length-tab, getD-tab, tab-getD, tab-cong}
 use Rattle.lists.specs.Fold.{foldBelow, fold-keeps}
 use Rattle.format.specs.Diskette.{Bytes, Geometry, slotCount, slotBytes, extentRecords}
@@ -22,7 +22,7 @@ use Rattle.facts.specs.Counts.{count-by-end, fcb-count-by-end, end-none, end-so
 use Rattle.facts.specs.Numbers.{length-withNumbers, byte-withNumbers, ex-withNumbers, s2-withNumbers, count-withNumbers}
 use Rattle.format.specs.Notes.{noteAt, withNote, recordedNote}
 use Rattle.format.specs.Fcb.{fcbCountIn, fcbEnd, fcbRight}
-use Rattle.model.specs.Closing.{takesSlot, mergedByte, mergedSlots, endsLater, laterEnd, closedRow, closedNote, closedMap, closedFcb}
+use Rattle.model.specs.Closing.{takesSlot, mergedByte, mergedSlots, endsLater, laterEnd, closedRow, closedNote, closedMap, closeChanges, closedFcb}
 use Rattle.consistency.specs.Facts.{Numbers, SameFile}
 use Rattle.facts.specs.Names.{right-cong, like-intro}
 use Rattle.fields.specs.Agree.{Agree, SameName, name-cong, slot-cong, readOnly-cong, extent-cong, fcbRight-cong}
@@ -58,15 +58,24 @@ module _ (G : Geometry) (es fs : Bytes) where
     unfolding mergedSlot slotIn slotAt
     slot-merged j = at-slot j j refl
 
-  -- where the FCB's slots are the entry's, nothing is taken and the slots stay
-  module _ (same : (j : ℕ) → slotIn G fs j ≡ slotIn G es j) where
-    pub takes-none : (j : ℕ) → takesSlot G es fs j ≡ false
-    unfolding takesSlot
-    takes-none j = rw (same j) (and-not (eqb (slotIn G es j) 0))
+  -- where no slot is taken, the slots and the notes stay
+  module _ (none : anyBelow (takesSlot G es fs) slotCount ≡ false) where
+    pub merged-none : length es ≡ slotBytes → mergedSlots G es fs ≡ es
+    unfolding mergedSlots mergedByte slotAt
+    merged-none long =
+        tab-cong slotBytes (mergedByte G es fs) (λ (i : ℕ). getD es i 0) (λ i h. rw (any-never (takesSlot G es fs) slotCount none i h))
+        ∙ tab-getD es slotBytes long
 
-    pub merged-same : length es ≡ slotBytes → mergedSlots G es fs ≡ es
-    unfolding mergedSlots mergedByte
-    merged-same long = tab-cong slotBytes (mergedByte G es fs) (λ (i : ℕ). getD es i 0) (λ i h. rw (takes-none (slotAt G i))) ∙ tab-getD es slotBytes long
+    pub recorded-none : (map : Bytes) → foldBelow (closedNote G es fs) map slotCount ≡ map
+    unfolding closedNote
+    recorded-none map =
+        fold-keeps (λ (m : Bytes). m ≡ map) (closedNote G es fs) map slotCount refl
+        (λ m j h q. rw (any-never (takesSlot G es fs) slotCount none j h) q)
+
+  -- where the FCB's slots are the entry's, none is taken
+  pub takes-none : ((j : ℕ) → slotIn G fs j ≡ slotIn G es j) → anyBelow (takesSlot G es fs) slotCount ≡ false
+  unfolding takesSlot
+  takes-none same = any-empty (takesSlot G es fs) slotCount (λ j h. rw (same j) (and-not (eqb (slotIn G es j) 0)))
 
 module _ (G : Geometry) (row fcb : Bytes) (j : ℕ) where
   -- slot j is taken exactly when the entry has 0 there and the FCB doesn't
@@ -233,6 +242,37 @@ module _ (G : Geometry) (row fcb : Bytes) (hr : length row ≡ 32) where
 
   pub right-closed : (wild : Bool) → nameRight wild (closedRow G row fcb) 1 ≡ nameRight wild row 1
   right-closed wild = right-cong wild (closedRow G row fcb) 1 row 1 name-closed
+
+-- ---- a close changes the entry exactly where it records a block or brings a later end; else it changes nothing
+module _ (G : Geometry) (row fcb : Bytes) where
+  pub keeps-intro : anyBelow (takesSlot G (slotsOf row) (slotsOf fcb)) slotCount ≡ false → endsLater row fcb ≡ false → closeChanges G row fcb ≡ false
+  unfolding closeChanges
+  keeps-intro n e = or-then _ _ n ∙ e
+
+  module _ (keeps : closeChanges G row fcb ≡ false) where
+    neither : (anyBelow (takesSlot G (slotsOf row) (slotsOf fcb)) slotCount ≡ false) × (endsLater row fcb ≡ false)
+    unfolding closeChanges
+    neither = or-neither _ _ keeps
+
+    pub row-kept : length row ≡ 32 → closedRow G row fcb ≡ row
+    unfolding closedRow slotsOf
+    row-kept long =
+        rw (later-stays row fcb (neither .1), merged-none G (slotsOf row) (slotsOf fcb) (neither .0) (length-part row 16 slotBytes (omega arith)))
+        (splice-own row 16 slotBytes (omega arith))
+
+    pub map-kept : (map : Bytes) → closedMap G row fcb map ≡ map
+    unfolding closedMap
+    map-kept map = recorded-none G (slotsOf row) (slotsOf fcb) (neither .0) map
+
+  pub row-changed : length row ≡ 32 → closeChanges G row fcb ≡ true → closedRow G row fcb ≡ row → ⊥
+  unfolding closeChanges endsLater
+  row-changed long t q =
+      split (or-cases _ _ t)
+      (λ s. let w = any-some (takesSlot G (slotsOf row) (slotsOf fcb)) slotCount s in
+      takes-fcb G row fcb (w .place) (w .holds)
+      (sym (slot-closed-new G row fcb long (w .place) (takes-row G row fcb (w .place) (w .holds))) ∙ ap (λ (r : Bytes). slotOf G r (w .place)) q
+      ∙ takes-row G row fcb (w .place) (w .holds)))
+      (λ s. let l = ltb-true (endOf row) (fcbEnd fcb) s in let m = end-closed G row fcb long in let e = ap endOf q in omega arith)
 
 -- ---- the notes
 -- a slot takes block b

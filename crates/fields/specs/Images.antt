@@ -1,30 +1,34 @@
 -- The image after a close: its rows and its records.
 use mathlib.Core.Path.{_≡_, sym}
 use Prim.Native.Nat.{ℕ, _≤_, _<_}
+use Rattle.lists.specs.Cases.{split, bool-cases}
 use lib.ListN.{length}
 use Rattle.format.specs.Diskette.{Bytes, Geometry, Sound, recordAt, entryBytes, Long}
-use Rattle.format.specs.Entries.{entryAt}
+use Rattle.format.specs.Entries.{entryAt, withEntry}
 use Rattle.disk.specs.Places.{blockRecords}
-use Rattle.rows.specs.Entries.{areaRecords, length-entryAt, length-withEntry, entry-stored, entry-left, record-kept}
-use Rattle.model.specs.Closing.{closedRow, closedImage}
-use Rattle.fields.specs.Closing.{length-closedRow}
+use Rattle.rows.specs.Entries.{areaRecords, length-entryAt, length-withEntry, entry-own, entry-stored, entry-left, record-kept}
+use Rattle.model.specs.Closing.{closedRow, closeChanges, closedImage}
+use Rattle.fields.specs.Closing.{length-closedRow, row-kept}
 
 module _ {G : Geometry} (S : Sound G) (img : Bytes) (long : Long G img) (e : ℕ) (below : e < G .entries) (fcb : Bytes) where
   whole : length (closedRow G (entryAt G img e) fcb) ≡ entryBytes
   whole = length-closedRow G (entryAt G img e) fcb (length-entryAt S img long e below)
 
-  pub length-closedImage : length (closedImage G img e fcb) ≡ length img
+  -- a close that changes nothing writes back what is there
+  pub closed-stored : closedImage G img e fcb ≡ withEntry G img e (closedRow G (entryAt G img e) fcb)
   unfolding closedImage
-  length-closedImage = length-withEntry S img long e below (closedRow G (entryAt G img e) fcb) whole
+  closed-stored =
+      split (bool-cases (closeChanges G (entryAt G img e) fcb)) (λ t. rw t)
+      (λ f. rw (f, row-kept G (entryAt G img e) fcb f (length-entryAt S img long e below)) (sym (entry-own S img long e below)))
+
+  pub length-closedImage : length (closedImage G img e fcb) ≡ length img
+  length-closedImage = rw closed-stored (length-withEntry S img long e below (closedRow G (entryAt G img e) fcb) whole)
 
   pub row-closedImage : entryAt G (closedImage G img e fcb) e ≡ closedRow G (entryAt G img e) fcb
-  unfolding closedImage
-  row-closedImage = entry-stored S img long e below (closedRow G (entryAt G img e) fcb) whole
+  row-closedImage = rw closed-stored (entry-stored S img long e below (closedRow G (entryAt G img e) fcb) whole)
 
   pub row-closedImage-other : (f : ℕ) → f < G .entries → (f ≡ e → ⊥) → entryAt G (closedImage G img e fcb) f ≡ entryAt G img f
-  unfolding closedImage
-  row-closedImage-other f h n = entry-left S img long e below (closedRow G (entryAt G img e) fcb) whole f h (λ q. n (sym q))
+  row-closedImage-other f h n = rw closed-stored (entry-left S img long e below (closedRow G (entryAt G img e) fcb) whole f h (λ q. n (sym q)))
 
   pub record-closedImage : (d : ℕ) → areaRecords G ≤ d → d < blockRecords G → recordAt G (closedImage G img e fcb) d ≡ recordAt G img d
-  unfolding closedImage
-  record-closedImage d a b = record-kept S img long e below (closedRow G (entryAt G img e) fcb) whole d a b
+  record-closedImage d a b = rw closed-stored (record-kept S img long e below (closedRow G (entryAt G img e) fcb) whole d a b)

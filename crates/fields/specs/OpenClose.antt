@@ -1,21 +1,21 @@
 -- An entry that is opened, at whatever extent, and closed at once stays as it was. On a disk whose entries cover several extents an FCB may be
 -- opened at one that the entry has not come to; its count is 0 then, and it has no end.
 use mathlib.Core.Path.{_≡_}
+use mathlib.Core.Bool.{false}
 use Prim.Native.Nat.{ℕ, _≤_}
 use native.Mathlib.Omega.{arith}
 use lib.ListN.{length}
 use borrow.Author.Tests.{le-ltb}
 use Rattle.lists.specs.Cases.{split, eq-or-ne}
-use Rattle.lists.specs.Splice.{length-part, splice-own}
-use Rattle.format.specs.Diskette.{Bytes, Geometry, slotBytes}
+use Rattle.format.specs.Diskette.{Bytes, Geometry}
 use Rattle.format.specs.Entries.{countOf, slotsOf, slotOf, endOf}
 use Rattle.format.specs.Fcb.{fcbEnd}
 use Rattle.facts.specs.Counts.{count-by-end, end-none, end-some}
 use Rattle.consistency.specs.Facts.{Numbers}
-use Rattle.model.specs.Closing.{endsLater, closedRow}
+use Rattle.model.specs.Closing.{endsLater, closedRow, closeChanges}
 use Rattle.model.specs.Entering.{entered}
 use Rattle.fields.specs.Entering.{slot-entered, extent-entered, count-entered}
-use Rattle.fields.specs.Closing.{merged-same, later-stays}
+use Rattle.fields.specs.Closing.{takes-none, keeps-intro, row-kept}
 
 module _ (G : Geometry) (fcb row : Bytes) (ext : ℕ) (hf : 32 ≤ length fcb) (hr : length row ≡ 32) (m : Numbers row) where
   -- an FCB that has taken an entry ends no later than the entry
@@ -28,12 +28,11 @@ module _ (G : Geometry) (fcb row : Bytes) (ext : ℕ) (hf : 32 ≤ length fcb) (
       let b = count-by-end row ext (m .rc) in
       split (eq-or-ne (countOf f) 0) (λ z. let e = end-none f z in omega arith) (λ n. let e = end-some f n in omega arith)
 
-  pub opened-closed : closedRow G row (entered fcb row ext) ≡ row
-  unfolding closedRow endsLater slotOf slotsOf
-  opened-closed =
+  pub opened-keeps : closeChanges G row (entered fcb row ext) ≡ false
+  unfolding endsLater slotOf
+  opened-keeps =
       let f : Bytes = entered fcb row ext in
-      rw (
-        later-stays row f (le-ltb (endOf row) (fcbEnd f) entered-ends),
-        merged-same G (slotsOf row) (slotsOf f) (slot-entered fcb row ext hf G) (length-part row 16 slotBytes (omega arith)),
-      )
-      (splice-own row 16 slotBytes (omega arith))
+      keeps-intro G row f (takes-none G (slotsOf row) (slotsOf f) (slot-entered fcb row ext hf G)) (le-ltb (endOf row) (fcbEnd f) entered-ends)
+
+  pub opened-closed : closedRow G row (entered fcb row ext) ≡ row
+  opened-closed = row-kept G row (entered fcb row ext) opened-keeps hr

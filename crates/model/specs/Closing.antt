@@ -3,7 +3,8 @@ use mathlib.Core.Bool.{Bool, cond, not}
 use Prim.Native.Nat.{ℕ}
 use lib.Dec.{eqb, ltb}
 use lib.ListN.{getD, set}
-use Rattle.lists.specs.Tests.{_and_}
+use Rattle.lists.specs.Tests.{_and_, _or_}
+use Rattle.lists.specs.Below.{anyBelow}
 use Rattle.lists.specs.Splice.{splice}
 use Rattle.lists.specs.Tab.{tab}
 use Rattle.lists.specs.Fold.{foldBelow}
@@ -42,8 +43,13 @@ closedNote G es fs map j = cond (takesSlot G es fs j) (withNote map (slotIn G fs
 unfoldable pub closedMap : Geometry → Bytes → Bytes → Bytes → Bytes
 closedMap G row fcb map = foldBelow (closedNote G (slotsOf row) (slotsOf fcb)) map slotCount
 
+-- the close changes the entry: a block is recorded, or a larger count
+unfoldable pub closeChanges : Geometry → Bytes → Bytes → Bool
+closeChanges G row fcb = anyBelow (takesSlot G (slotsOf row) (slotsOf fcb)) slotCount or endsLater row fcb
+
 unfoldable pub closedImage : Geometry → Bytes → ℕ → Bytes → Bytes
-closedImage G img e fcb = withEntry G img e (closedRow G (entryAt G img e) fcb)
+closedImage G img e fcb =
+    cond (closeChanges G (entryAt G img e) fcb) (withEntry G img e (closedRow G (entryAt G img e) fcb)) img
 
 -- f5' and f6' in the FCB are cleared
 unfoldable pub closedFcb : Bytes → Bytes

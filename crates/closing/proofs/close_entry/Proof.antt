@@ -5,7 +5,8 @@ use mathlib.Core.Bool.{true}
 use Rattle.format.specs.Diskette.{eightInch}
 use Rattle.format.specs.Entries.{entryAt}
 use Rattle.disk.specs.Eight.{eight-sound}
-use Rattle.closing.specs.Laws.{closeKeeps, kept-map, kept-image, closed-image, closed-map}
+use Rattle.closing.specs.Laws.{closeKeeps, keeps-row, kept-image, closed-image, closed-map}
+use Rattle.fields.specs.Closing.{map-kept}
 use borrow.Author.Needs.{needs}
 use Rattle.closing.proofs.close_entry.Statement.{statement}
 use Rattle.closing.proofs.close_entry.Tie as tie
@@ -24,7 +25,7 @@ returns c =
     let s = c .before .before .before .before .before .before .before in
     let h : closeKeeps (entryAt eightInch (s .args .image .now) (s .args .e)) (s .args .fcb .now) ≡ true =
     sym (rw (c .before .before .row .ensures .0) at (c .before .close-keeps .ensures)) ∙ c .if1 .taken in
-    (kept-image eight-sound (s .args .image .now) (s .pre .0) (s .args .e) (s .pre .2) (s .args .fcb .now) h, sym (kept-map eightInch _ _ h (s .args .map .now)))
+    let k = keeps-row eightInch _ _ h in (kept-image eightInch (s .args .image .now) (s .args .e) (s .args .fcb .now) k, sym (map-kept eightInch _ _ k (s .args .map .now)))
 
 copy-row-requires : tie.Need-copy-row-requires
 copy-row-requires c κs = search needs
@@ -61,9 +62,10 @@ returns-2 c =
     let fs = noted .before in
     let es = fs .before in
     let row = es .before .before .before in
-    let a = row .before .before .before .before .before .before .before .before .before .args in (
-      closed-image eightInch (a .image .now) (a .fcb .now) (row .copy-row .result) (closed .closed-row .result) (stored .store-row .last .0) (a .e)
-          (row .copy-row .ensures) (closed .closed-row .ensures) (stored .store-row .ensures),
+    let start = row .before .before .before .before .before .before .before .before .before in
+    let a = start .args in (
+      closed-image eight-sound (a .image .now) (start .pre .0) (a .e) (start .pre .2) (a .fcb .now) (row .copy-row .result) (closed .closed-row .result)
+          (stored .store-row .last .0) (row .copy-row .ensures) (closed .closed-row .ensures) (stored .store-row .ensures),
       closed-map eightInch (a .image .now) (a .fcb .now) (row .copy-row .result) (es .slots .result) (fs .slots2 .result) (a .map .now)
           (noted .record-blocks .last .0) (a .e) (row .copy-row .ensures) (es .slots .ensures) (fs .slots2 .ensures) (noted .record-blocks .ensures),
     )

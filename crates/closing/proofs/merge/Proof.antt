@@ -7,7 +7,8 @@ use borrow.Author.Needs.{needs}
 use Rattle.lists.specs.Tab.{Filled, filled-none, filled-more, filled-all}
 use Rattle.format.specs.Diskette.{eightInch, slotCount}
 use Rattle.model.specs.Closing.{mergedByte, mergedSlots}
-use Rattle.closing.specs.Laws.{same-merged}
+use Rattle.closing.specs.Laws.{same-none}
+use Rattle.fields.specs.Closing.{merged-none}
 use Rattle.closing.proofs.merge.Statement.{statement}
 use Rattle.closing.proofs.merge.Tie as tie
 
@@ -21,7 +22,8 @@ slots-same-requires : tie.Need-slots-same-requires Inv-loop μ-loop
 slots-same-requires c κs = search needs
 
 returns : tie.Need-returns Inv-loop μ-loop
-returns c = let a = c .before .before .args in same-merged eightInch (a .es) (a .fs) (omega arith) (omega arith) (sym (c .before .slots-same .ensures) ∙ c .if1 .taken) (omega arith)
+returns c = let a = c .before .before .args in sym (merged-none eightInch (a .es) (a .fs)
+    (same-none eightInch (a .es) (a .fs) (omega arith) (omega arith) (sym (c .before .slots-same .ensures) ∙ c .if1 .taken)) (omega arith))
 
 loop-holds : tie.Need-loop-holds Inv-loop μ-loop
 loop-holds c = (filled-none _ _, omega arith, refl)

@@ -7,7 +7,8 @@ use borrow.Author.Needs.{needs}
 use Rattle.lists.specs.Fold.{foldBelow, fold-none, fold-next, fold-done}
 use Rattle.format.specs.Diskette.{Bytes, slotCount, eightInch}
 use Rattle.model.specs.Closing.{closedNote}
-use Rattle.closing.specs.Laws.{same-recorded}
+use Rattle.closing.specs.Laws.{same-none}
+use Rattle.fields.specs.Closing.{recorded-none}
 use Rattle.closing.proofs.record_blocks.Statement.{statement}
 use Rattle.closing.proofs.record_blocks.Tie as tie
 
@@ -21,7 +22,8 @@ slots-same-requires : tie.Need-slots-same-requires Inv-loop μ-loop
 slots-same-requires c κs = search needs
 
 returns : tie.Need-returns Inv-loop μ-loop
-returns c = let a = c .before .before .before .args in same-recorded eightInch (a .es) (a .fs) (omega arith) (omega arith) (sym (c .before .slots-same .ensures) ∙ c .if1 .taken) (a .map .now)
+returns c = let a = c .before .before .before .args in sym (recorded-none eightInch (a .es) (a .fs)
+    (same-none eightInch (a .es) (a .fs) (omega arith) (omega arith) (sym (c .before .slots-same .ensures) ∙ c .if1 .taken)) (a .map .now))
 
 loop-holds : tie.Need-loop-holds Inv-loop μ-loop
 loop-holds c = (sym (fold-none _ _), omega arith, refl)
