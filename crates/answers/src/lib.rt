@@ -1,6 +1,6 @@
 // How a call ends: the session's changes, and the answer of a code.
 ghost use mathlib.Core.Path.{_≡_};
-ghost use Rattle.model.specs.Codes.{aOf, hOf};
+ghost use Rattle.model.specs.Codes.{saysOf};
 ghost use Rattle.model.specs.Lent.{ended, searching, withUser, answerOf};
 ghost use Rattle.model.specs.Step.{refusedSession};
 use model::Answer;
@@ -36,46 +36,29 @@ pub fn set_user(s: Session, user: u8) -> Session
     t
 }
 
-// A of a code.
-fn a_of(code: Code) -> u8
-    ensures { λ a. ⌜ a ≡ aOf code ⌝ }
+// A code's line: A, H, and whether a search is over with it, as document 01 has them.
+struct Line(u8, u8, bool);
+
+fn line_of(code: Code) -> Line
+    ensures { λ r. ⌜ (r .0 ≡ saysOf code .a) × (r .1 ≡ saysOf code .h) × (r .2 ≡ saysOf code .over) ⌝ }
 {
     match code {
-        Code::Accepted(a) => a,
-        Code::BadRecord => 6,
-        Code::NotCurrent => 9,
-        Code::NotClosed => 3,
-        Code::NoExtent => 4,
-        Code::NoRecord => 1,
-        Code::NoEntry => 5,
-        Code::DiskFull => 2,
-        _ => 255,
-    }
-}
-
-// H of a code.
-fn h_of(code: Code) -> u8
-    ensures { λ h. ⌜ h ≡ hOf code ⌝ }
-{
-    match code {
-        Code::NotListed => 255,
-        Code::BadParameter => 4,
-        Code::BadDisk => 1,
-        Code::BadName => 9,
-        Code::ReadOnly => 3,
-        Code::Exists => 8,
-        _ => 0,
-    }
-}
-
-// The answer of a code.
-pub fn answer(code: Code, session: Session) -> Answer
-    ensures { λ r. ⌜ r ≡ answerOf code session ⌝ }
-{
-    Answer {
-        a: a_of(code),
-        h: h_of(code),
-        session,
+        Code::Accepted(a) => Line(a, 0, false),
+        Code::NotListed => Line(255, 255, false),
+        Code::BadParameter => Line(255, 4, false),
+        Code::BadDisk => Line(255, 1, false),
+        Code::BadRecord => Line(6, 0, false),
+        Code::NotCurrent => Line(9, 0, false),
+        Code::Failed => Line(255, 0, false),
+        Code::BadName => Line(255, 9, false),
+        Code::SearchOver => Line(255, 0, true),
+        Code::ReadOnly => Line(255, 3, false),
+        Code::Exists => Line(255, 8, false),
+        Code::NotClosed => Line(3, 0, false),
+        Code::NoExtent => Line(4, 0, false),
+        Code::NoRecord => Line(1, 0, false),
+        Code::NoEntry => Line(5, 0, false),
+        Code::DiskFull => Line(2, 0, false),
     }
 }
 
@@ -83,15 +66,31 @@ pub fn answer(code: Code, session: Session) -> Answer
 pub fn refuse(code: Code, session: Session) -> Answer
     ensures { λ r. ⌜ r ≡ answerOf code (refusedSession code session) ⌝ }
 {
-    if let Code::SearchOver = code {
-        return answer(code, end_search(session));
+    let said = line_of(code);
+    if said.2 {
+        return Answer {
+            a: said.0,
+            h: said.1,
+            session: end_search(session),
+        };
     }
-    answer(code, session)
+    Answer {
+        a: said.0,
+        h: said.1,
+        session,
+    }
 }
 
-// A call carried out, which ends a search: A is a, H is 0.
+// A call accepted, with the session that it leaves: A is a, H is 0.
+pub fn accept(a: u8, session: Session) -> Answer
+    ensures { λ r. ⌜ r ≡ answerOf (Code.Accepted a) session ⌝ }
+{
+    Answer { a, h: 0, session }
+}
+
+// A call carried out, which ends a search.
 pub fn done(a: u8, session: Session) -> Answer
     ensures { λ r. ⌜ r ≡ answerOf (Code.Accepted a) (ended session) ⌝ }
 {
-    answer(Code::Accepted(a), end_search(session))
+    accept(a, end_search(session))
 }

@@ -82,7 +82,7 @@ fn first_match(
     };
     disk::read_record(image, e / ENTRIES_PER_RECORD, buffer);
     let next = answers::search_from(session, pattern, (e + 1) as u16);
-    answers::answer(Code::Accepted((e % ENTRIES_PER_RECORD) as u8), next)
+    answers::accept((e % ENTRIES_PER_RECORD) as u8, next)
 }
 
 // Whether an FCB's name and byte 12 may be searched for.

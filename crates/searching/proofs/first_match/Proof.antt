@@ -57,11 +57,11 @@ cast-search-from c = let h = low (c .before .before .before .before) in omega ar
 search-from-requires : tie.Need-search-from-requires
 search-from-requires c κs = search needs
 
-cast-t20 : tie.Need-cast-t20
-cast-t20 c = search needs
+cast-accept : tie.Need-cast-accept
+cast-accept c = search needs
 
-answer-requires : tie.Need-answer-requires
-answer-requires c κs = search needs
+accept-requires : tie.Need-accept-requires
+accept-requires c κs = search needs
 
 same-length : tie.Need-same-length
 same-length c = search needs
@@ -71,8 +71,8 @@ returns-2 c =
     let k = c .before .before .before .before .before .before in
     let a = k .before .before .before .before .before .before .before .args in
     λ map fcb. answers-found eightInch (a .session) (lend (a .image .now) map fcb (a .buffer .now)) (a .t2) (a .from)
-    (k .before .e .given .0 .0) (c .answer .result) (c .before .search-from .result) (c .before .before .before .before .read-record .last .1 .1 .0)
-    (known k) (c .answer .ensures) (c .before .search-from .ensures) (c .before .before .before .before .read-record .ensures)
+    (k .before .e .given .0 .0) (c .accept .result) (c .before .search-from .result) (c .before .before .before .before .read-record .last .1 .1 .0)
+    (known k) (c .accept .ensures) (c .before .search-from .ensures) (c .before .before .before .before .read-record .ensures)
 
 pub first-match-spec : {M : Type 1} → statement M
 first-match-spec =
@@ -88,7 +88,7 @@ first-match-spec =
     add-search-from
     cast-search-from
     search-from-requires
-    cast-t20
-    answer-requires
+    cast-accept
+    accept-requires
     same-length
     returns-2)
