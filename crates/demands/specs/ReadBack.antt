@@ -83,7 +83,7 @@ pub user-stays : (G : Geometry) (d : Disk) (q : Request) → (kindOf (q .asked .
 unfolding after outcomeOf
 user-stays G d q z =
     split (total G (q .asked) (lentTo d q) (d .session))
-    (λ w. split (w .1 .session) (λ e. ap (λ (x : Session). x .user) e) (λ e. ap (λ (x : Session). x .user) (e .1)))
+    (λ w. split (w .1 .session) (λ e. ap (λ (x : Session). x .user) (e .1)) (λ e. ap (λ (x : Session). x .user) (e .1)))
     (λ c. leaves-user G (q .asked) (lentTo d q) (d .session) (step G (q .asked) (lentTo d q) (d .session) .answer .session) z (c .done .leaves))
 
 -- ---- a record that holds, over calls that leave its file alone

@@ -1,34 +1,37 @@
 -- What a refusal says: which row it came from, and which codes a call can be refused with at all.
 use mathlib.Core.Path.{_≡_, refl, sym, ap, subst, _∙_}
+use mathlib.Core.Logic.{_⊎_}
 use mathlib.Core.Bool.{Bool, true, false, not, cond}
 use mathlib.Core.List.{List, [], _∷_, _++_}
-use Prim.Native.Nat.{ℕ, _<_, _+_, _*_}
+use Prim.Native.Nat.{ℕ, _≤_, _<_, _+_, _*_}
 use lib.Dec.{eqb, ltb}
 use borrow.Author.Tests.{ltb-true, eq-eqb, eqb-true, not-true, not-false}
 use Rattle.lists.specs.Cases.{split, bool-cases, clash, not-both}
 use Rattle.lists.specs.Tests.{_and_, _or_, and-left, and-right, or-then}
 use Rattle.format.specs.Diskette.{Geometry, lastRecord}
+use Rattle.format.specs.Names.{nameRight}
+use Rattle.format.specs.Entries.{exOf}
 use Rattle.format.specs.Consistent.{consistent}
 use Rattle.format.specs.Notes.{mapRight}
 use Rattle.format.specs.Fcb.{randomOf}
 use Rattle.format.specs.Found.{isFound}
-use Rattle.facts.specs.Found.{not-found}
+use Rattle.facts.specs.Found.{not-found, missed-row}
 use Rattle.format.specs.declared.Found.{Found}
 use Rattle.format.specs.declared.Found.the-variants.{Nothing}
 use Rattle.model.specs.declared.Asked.{Asked}
 use Rattle.model.specs.declared.Session.{Session}
 use Rattle.model.specs.declared.Code.{Code}
-use Rattle.model.specs.declared.Code.the-variants.{NotListed, BadParameter, BadDisk, BadRecord, NotClosed}
+use Rattle.model.specs.declared.Code.the-variants.{NotListed, BadParameter, BadDisk, BadRecord, SearchOver, NotClosed}
 use Rattle.model.specs.declared.Verdict.the-variants.{Refused}
 use Rattle.model.specs.Codes.{saysOf, hOf}
-use Rattle.model.specs.Kinds.{oneOf, isCall}
+use Rattle.model.specs.Kinds.{oneOf, kindOf, isCall}
 use Rattle.model.specs.Lent.{Lent, rowsOf, searchOn}
 use Rattle.model.specs.Search.{patternOf, findHit}
 use Rattle.model.specs.Table.{parametersRight, diskRight, Row, RowFor, when, keep, rowsAt, callRows, firstRow, ownRows, verdict}
 use Rattle.table.specs.First.{_&_, NoneHolds, Decides, here, later, passed-refused, refused-same, refused-decides, decides-refused}
 use Rattle.table.specs.Own.{calling, at-one, rowsFor, verdict-rows, verdict-unlisted}
 use Rattle.table.specs.Facts.{Ready}
-use Rattle.table.specs.Reflect.{parameters-right, disk-right, ready-of}
+use Rattle.table.specs.Reflect.{pattern-of, pattern-right, parameters-right, disk-right, ready-of}
 
 -- two tests as one that computes
 both : (a b : Bool) → cond a b false ≡ true → (a ≡ true) × (b ≡ true)
@@ -97,10 +100,12 @@ module _ (t : Code → Bool) (c : Code) (h : t c ≡ true) where
       let b = behind front rs (a .1) d in
       record { failed = f & b .failed; rest = b .rest }
 
--- a search has found nothing: 17 from the first entry on, or 18, with a search on, from its place on
-pub data SearchEnds (G : Geometry) (l : Lent) (s : Session) : ℕ → Type 0 where
-  ends17 : findHit G (rowsOf G l) (s .user) (patternOf (l .fcb)) 0 ≡ Nothing → SearchEnds G l s 17
-  ends18 : searchOn s ≡ true → findHit G (rowsOf G l) (s .user) (s .pattern) (s .place) ≡ Nothing → SearchEnds G l s 18
+-- a search is over: a 17 whose name and byte 12 are right finds no entry, or an 18, with a search on, finds no more from its place on
+pub data SearchEnds (G : Geometry) (asked : Asked) (l : Lent) (s : Session) : ℕ → Type 0 where
+  ends17 : Ready G (calling 17 asked) l s → nameRight true (l .fcb) 1 ≡ true → (exOf (l .fcb) ≤ 31) ⊎ (exOf (l .fcb) ≡ 63)
+      → findHit G (rowsOf G l) (s .user) (patternOf (l .fcb)) 0 ≡ Nothing → SearchEnds G asked l s 17
+  ends18 : Ready G (calling 18 asked) l s → searchOn s ≡ true → findHit G (rowsOf G l) (s .user) (s .pattern) (s .place) ≡ Nothing
+      → SearchEnds G asked l s 18
 
 -- every number of the one list is in the other
 abbrev within : List ℕ → List ℕ → Bool
@@ -133,11 +138,11 @@ module _ (G : Geometry) (asked : Asked) (l : Lent) (s : Session) where
 
   -- a code that none of the first three rows has comes from the call's own
   pub own-decides : (t : Code → Bool) (code : Code) → t code ≡ true → t NotListed ≡ false → t BadParameter ≡ false → t BadDisk ≡ false
-      → Refuses code → Decides code (ownRows G asked l s)
+      → Refuses code → Ready G asked l s × Decides code (ownRows G asked l s)
   own-decides t code h u p d (unlisted e f) = other t code h NotListed u (sym e)
   own-decides t code h u p d (parameter e f) = other t code h BadParameter p (sym e)
   own-decides t code h u p d (disk e f) = other t code h BadDisk d (sym e)
-  own-decides t code h u p d (own r w) = w
+  own-decides t code h u p d (own r w) = (r, w)
 
   -- the codes that pass a test are of these calls alone, where the table says so
   pub code-calls : (t : Code → Bool) (ds : List ℕ) (code : Code) → t code ≡ true
@@ -146,6 +151,13 @@ module _ (G : Geometry) (asked : Asked) (l : Lent) (s : Session) where
   code-calls t ds code h all d =
       let r = row-of (λ (cs : List ℕ) (c : Code). cond (t c) (within cs ds) true) (asked .number) code (callRows G asked l s) all d in
       within-one (asked .number) (r .calls) ds (rw h at (r .passes)) (r .applies)
+
+  -- a row of the call's own decides, once the first three have failed
+  pub refused-own : (code : Code) → isCall (asked .number) ≡ true → Ready G asked l s → Decides code (ownRows G asked l s) → verdict G asked l s ≡ Refused code
+  refused-own code t r d =
+      verdict-rows G asked l s t
+      ∙ decides-refused code (rowsFor G asked l s)
+      (later (ap not (parameters-right G asked l s (r .fits) (r .drive))) (later (ap not (disk-right G asked l s (r .image-right) (r .map-right))) d))
 
   -- ---- a consistent image with a right map is never refused for the disk
   bad-disk : (code : Code) → eqb (hOf code) 1 ≡ true → Refuses code → diskRight G l asked ≡ false
@@ -172,7 +184,7 @@ module _ (G : Geometry) (asked : Asked) (l : Lent) (s : Session) where
   pub never-not-closed : verdict G asked l s ≡ Refused NotClosed → ⊥
   unfolding key
   never-not-closed q =
-      let d = own-decides G asked l s (isCode NotClosed) NotClosed refl refl refl refl (refuses G asked l s NotClosed q) in
+      let d = own-decides G asked l s (isCode NotClosed) NotClosed refl refl refl refl (refuses G asked l s NotClosed q) .1 in
       at-one (λ (n : ℕ). Decides NotClosed (ownRows G (calling n asked) l s) → ⊥) (asked .number) (20 ∷ 21 ∷ 33 ∷ 34 ∷ [])
       (code-calls G asked l s (isCode NotClosed) (20 ∷ 21 ∷ 33 ∷ 34 ∷ []) NotClosed refl refl d)
       ((λ v. no-three _ _ (_ ∷ []) _ (refl & tt) (refl & tt) (λ h. h .0) v)
@@ -184,27 +196,28 @@ module _ (G : Geometry) (asked : Asked) (l : Lent) (s : Session) where
   pub random-over : verdict G asked l s ≡ Refused BadRecord → lastRecord < randomOf (l .fcb)
   unfolding key
   random-over q =
-      let d = own-decides G asked l s (isCode BadRecord) BadRecord refl refl refl refl (refuses G asked l s BadRecord q) in
+      let d = own-decides G asked l s (isCode BadRecord) BadRecord refl refl refl refl (refuses G asked l s BadRecord q) .1 in
       ltb-true _ _ (at-one (λ (n : ℕ). Decides BadRecord (ownRows G (calling n asked) l s) → ltb lastRecord (randomOf (l .fcb)) ≡ true) (asked .number) (33 ∷ 34 ∷ [])
       (code-calls G asked l s (isCode BadRecord) (33 ∷ 34 ∷ []) BadRecord refl refl d)
       ((λ v. only-row (isCode BadRecord) BadRecord refl _ BadRecord _ v (refl & refl & refl & refl & tt))
       & (λ v. only-row (isCode BadRecord) BadRecord refl _ BadRecord _ v (refl & refl & refl & refl & refl & tt)) & tt) d)
 
-  -- ---- a search ends exactly where it has found nothing
-  pub search-over : (code : Code) → saysOf code .over ≡ true → Refuses G asked l s code → SearchEnds G l s (asked .number)
+  -- ---- a search is over exactly where its row decides
+  pub search-over : (code : Code) → saysOf code .over ≡ true → Refuses G asked l s code → SearchEnds G asked l s (asked .number)
   search-over code h q =
       let d = own-decides G asked l s (λ (c : Code). saysOf c .over) code h refl refl refl q in
-      at-one (λ (n : ℕ). Decides code (ownRows G (calling n asked) l s) → SearchEnds G l s n) (asked .number) (17 ∷ 18 ∷ [])
-      (code-calls G asked l s (λ (c : Code). saysOf c .over) (17 ∷ 18 ∷ []) code h refl d)
-      ((λ v. ends17 (last-row _ _ (behind (λ (c : Code). saysOf c .over) code h (_ ∷ _ ∷ []) _ (refl & refl & tt) v .rest)))
-      & (λ v. let p = behind (λ (c : Code). saysOf c .over) code h (_ ∷ []) _ (refl & tt) v in ends18 (not-false _ (p .failed .0)) (last-row _ _ (p .rest))) & tt) d
+      at-one (λ (n : ℕ). Ready G (calling n asked) l s → Decides code (ownRows G (calling n asked) l s) → SearchEnds G asked l s n) (asked .number) (17 ∷ 18 ∷ [])
+      (code-calls G asked l s (λ (c : Code). saysOf c .over) (17 ∷ 18 ∷ []) code h refl (d .1))
+      ((λ r v. let p = behind (λ (c : Code). saysOf c .over) code h (_ ∷ _ ∷ []) _ (refl & refl & tt) v in
+      ends17 r (not-false _ (p .failed .0)) (pattern-of _ (p .failed .1 .0)) (last-row _ _ (p .rest)))
+      & (λ r v. let p = behind (λ (c : Code). saysOf c .over) code h (_ ∷ []) _ (refl & tt) v in ends18 r (not-false _ (p .failed .0)) (last-row _ _ (p .rest))) & tt)
+      (d .0) (d .1)
     where
       last-row : (r : Found) (c : Code) → Decides code (when (not (isFound r)) c ∷ []) → r ≡ Nothing
       last-row r c v = not-found r (not-true _ (only-row (λ (x : Code). saysOf x .over) code h _ c [] v tt))
 
-  -- a row of the call's own decides, once the first three have failed
-  pub refused-own : (code : Code) → isCall (asked .number) ≡ true → Ready G asked l s → Decides code (ownRows G asked l s) → verdict G asked l s ≡ Refused code
-  refused-own code t r d =
-      verdict-rows G asked l s t
-      ∙ decides-refused code (rowsFor G asked l s)
-      (later (ap not (parameters-right G asked l s (r .fits) (r .drive))) (later (ap not (disk-right G asked l s (r .image-right) (r .map-right))) d))
+  pub over-search : (n : ℕ) → SearchEnds G asked l s n → verdict G (calling n asked) l s ≡ Refused SearchOver
+  unfolding isCall kindOf
+  over-search n (ends17 r name ex none) =
+      refused-own G (calling 17 asked) l s SearchOver refl r (later (ap not name) (later (pattern-right _ ex) (here (missed-row _ none) refl)))
+  over-search n (ends18 r is-on none) = refused-own G (calling 18 asked) l s SearchOver refl r (later (ap not is-on) (here (missed-row _ none) refl))
