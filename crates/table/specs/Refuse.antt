@@ -7,7 +7,7 @@ use Prim.Native.Nat.{ℕ, _≤_, _<_, _+_, _*_}
 use lib.Dec.{eqb, ltb}
 use borrow.Author.Tests.{ltb-true, eq-eqb, eqb-true, not-true, not-false}
 use Rattle.lists.specs.Cases.{split, bool-cases, clash, not-both}
-use Rattle.lists.specs.Tests.{_and_, _or_, and-left, and-right, or-then}
+use Rattle.lists.specs.Tests.{_and_, and-right}
 use Rattle.format.specs.Diskette.{Geometry, lastRecord}
 use Rattle.format.specs.Names.{nameRight}
 use Rattle.format.specs.Entries.{exOf}
@@ -21,10 +21,10 @@ use Rattle.format.specs.declared.Found.the-variants.{Nothing}
 use Rattle.model.specs.declared.Asked.{Asked}
 use Rattle.model.specs.declared.Session.{Session}
 use Rattle.model.specs.declared.Code.{Code}
-use Rattle.model.specs.declared.Code.the-variants.{NotListed, BadParameter, BadDisk, BadRecord, SearchOver, NotClosed}
+use Rattle.model.specs.declared.Code.the-variants.{NotListed, BadParameter, BadDisk, BadRecord, NotCurrent, Failed, BadName, SearchOver, ReadOnly, Exists, NotClosed, NoExtent, NoRecord, NoEntry, DiskFull}
 use Rattle.model.specs.declared.Verdict.the-variants.{Refused}
 use Rattle.model.specs.Codes.{saysOf, hOf}
-use Rattle.model.specs.Kinds.{oneOf, kindOf, isCall}
+use Rattle.model.specs.Kinds.{Listed, calls, kindOf, isCall, numbersIn, oneOf}
 use Rattle.model.specs.Lent.{Lent, rowsOf, searchOn}
 use Rattle.model.specs.Search.{patternOf, findHit}
 use Rattle.model.specs.Table.{parametersRight, diskRight, Row, RowFor, when, keep, rowsAt, callRows, firstRow, ownRows, verdict}
@@ -61,7 +61,7 @@ row-of t n c [] h d = passed-refused c (decides-refused c [] d)
 row-of t n c (r ∷ rs) h d = kept t n c r (rowsAt n rs) (oneOf n (r .calls)) refl (both (t (r .calls) (r .row .code)) (allRows t rs) h .0) (row-of t n c rs (both (t (r .calls) (r .row .code)) (allRows t rs) h .1)) d
 
 -- ---- codes told apart by what they say
-unfoldable key : Code → ℕ
+abbrev key : Code → ℕ
 key c = saysOf c .a + 256 * (saysOf c .h) + cond (saysOf c .over) 65536 0
 
 abbrev isCode : Code → Code → Bool
@@ -117,18 +117,55 @@ within-one n [] ds w h = clash (sym h)
 within-one n (c ∷ cs) ds w h =
     split (bool-cases (eqb n c)) (λ e. rw (eqb-true n c e) (both (oneOf c ds) (within cs ds) w .0)) (λ e. within-one n cs ds (both (oneOf c ds) (within cs ds) w .1) (rw e at h))
 
+-- a row of this code is among them
+abbrev hasCode : Code → List Row → Bool
+hasCode c [] = false
+hasCode c (r ∷ rs) = cond (isCode c (r .code)) true (hasCode c rs)
+
 module _ (G : Geometry) (asked : Asked) (l : Lent) (s : Session) where
-  -- where a refusal comes from: one of the first three rows, or a row of the call's own
+  -- ---- the table by its codes: the calls to which a row of the code applies. The first three rows, for every call, are not among these
+  unfoldable pub callsWith : Code → List ℕ
+  callsWith c = numbersIn (λ (k : Listed). hasCode c (rowsAt (k .number) (callRows G asked l s))) calls
+
+  pub record ByCode : Type 0 where
+    pub bad-record : callsWith BadRecord ≡ 33 ∷ 34 ∷ []
+    pub not-current : callsWith NotCurrent ≡ 20 ∷ 21 ∷ 33 ∷ 34 ∷ []
+    pub failed : callsWith Failed ≡ 15 ∷ 16 ∷ 18 ∷ 19 ∷ 22 ∷ 23 ∷ 32 ∷ 35 ∷ 36 ∷ []
+    pub bad-name : callsWith BadName ≡ 15 ∷ 17 ∷ 19 ∷ 22 ∷ 23 ∷ 35 ∷ []
+    pub search-over : callsWith SearchOver ≡ 17 ∷ 18 ∷ []
+    pub read-only : callsWith ReadOnly ≡ 19 ∷ 21 ∷ 23 ∷ 34 ∷ []
+    pub exists : callsWith Exists ≡ 22 ∷ 23 ∷ []
+    pub not-closed : callsWith NotClosed ≡ 20 ∷ 21 ∷ 33 ∷ 34 ∷ []
+    pub no-extent : callsWith NoExtent ≡ 33 ∷ []
+    pub no-record : callsWith NoRecord ≡ 20 ∷ 21 ∷ 33 ∷ []
+    pub no-entry : callsWith NoEntry ≡ 34 ∷ []
+    pub disk-full : callsWith DiskFull ≡ 21 ∷ 34 ∷ []
+
+  pub by-code : ByCode
+  unfolding callsWith
+  by-code = record {
+    bad-record = refl; not-current = refl; failed = refl; bad-name = refl; search-over = refl; read-only = refl; exists = refl; not-closed = refl;
+    no-extent = refl; no-record = refl; no-entry = refl; disk-full = refl;
+  }
+
+  -- a call's own rows refuse it with no other codes
+  own-given : (code : Code) → Decides code (ownRows G asked l s) → oneOf (asked .number) (callsWith code) ≡ true
+  unfolding callsWith
+  own-given code d =
+      let r = row-of (λ (cs : List ℕ) (c : Code). within cs (callsWith c)) (asked .number) code (callRows G asked l s) refl d in
+      within-one (asked .number) (r .calls) (callsWith code) (r .passes) (r .applies)
+
+  -- where a refusal comes from: one of the first three rows, or a row of the call's own, with a code that the table has for the call
   pub data Refuses (code : Code) : Type 0 where
     unlisted : code ≡ NotListed → isCall (asked .number) ≡ false → Refuses code
     parameter : code ≡ BadParameter → parametersRight G l asked s ≡ false → Refuses code
     disk : code ≡ BadDisk → diskRight G l asked ≡ false → Refuses code
-    own : Ready G asked l s → Decides code (ownRows G asked l s) → Refuses code
+    own : oneOf (asked .number) (callsWith code) ≡ true → Ready G asked l s → Decides code (ownRows G asked l s) → Refuses code
 
   refuses-call : (code : Code) → Decides code (rowsFor G asked l s) → Refuses code
   refuses-call code (here t q) = parameter (sym q) (not-true _ t)
   refuses-call code (later f (here t q)) = disk (sym q) (not-true _ t)
-  refuses-call code (later f (later g d)) = own (ready-of G asked l s (not-false _ f) (not-false _ g)) d
+  refuses-call code (later f (later g d)) = own (own-given code d) (ready-of G asked l s (not-false _ f) (not-false _ g)) d
 
   pub refuses : (code : Code) → verdict G asked l s ≡ Refused code → Refuses code
   refuses code q =
@@ -142,15 +179,7 @@ module _ (G : Geometry) (asked : Asked) (l : Lent) (s : Session) where
   own-decides t code h u p d (unlisted e f) = other t code h NotListed u (sym e)
   own-decides t code h u p d (parameter e f) = other t code h BadParameter p (sym e)
   own-decides t code h u p d (disk e f) = other t code h BadDisk d (sym e)
-  own-decides t code h u p d (own r w) = (r, w)
-
-  -- the codes that pass a test are of these calls alone, where the table says so
-  pub code-calls : (t : Code → Bool) (ds : List ℕ) (code : Code) → t code ≡ true
-      → allRows (λ (cs : List ℕ) (d : Code). cond (t d) (within cs ds) true) (callRows G asked l s) ≡ true
-      → Decides code (ownRows G asked l s) → oneOf (asked .number) ds ≡ true
-  code-calls t ds code h all d =
-      let r = row-of (λ (cs : List ℕ) (c : Code). cond (t c) (within cs ds) true) (asked .number) code (callRows G asked l s) all d in
-      within-one (asked .number) (r .calls) ds (rw h at (r .passes)) (r .applies)
+  own-decides t code h u p d (own g r w) = (r, w)
 
   -- a row of the call's own decides, once the first three have failed
   pub refused-own : (code : Code) → isCall (asked .number) ≡ true → Ready G asked l s → Decides code (ownRows G asked l s) → verdict G asked l s ≡ Refused code
@@ -164,7 +193,7 @@ module _ (G : Geometry) (asked : Asked) (l : Lent) (s : Session) where
   bad-disk code h (unlisted e f) = other (λ (c : Code). eqb (hOf c) 1) code h NotListed refl (sym e)
   bad-disk code h (parameter e f) = other (λ (c : Code). eqb (hOf c) 1) code h BadParameter refl (sym e)
   bad-disk code h (disk e f) = f
-  bad-disk code h (own r d) =
+  bad-disk code h (own g r d) =
       not-both (eqb (hOf code) 1) h
       (not-true _ (row-of (λ (cs : List ℕ) (c : Code). not (eqb (hOf c) 1)) (asked .number) code (callRows G asked l s) refl d .passes))
 
@@ -182,11 +211,10 @@ no-three X Y front rs a b current d =
 
 module _ (G : Geometry) (asked : Asked) (l : Lent) (s : Session) where
   pub never-not-closed : verdict G asked l s ≡ Refused NotClosed → ⊥
-  unfolding key
   never-not-closed q =
       let d = own-decides G asked l s (isCode NotClosed) NotClosed refl refl refl refl (refuses G asked l s NotClosed q) .1 in
       at-one (λ (n : ℕ). Decides NotClosed (ownRows G (calling n asked) l s) → ⊥) (asked .number) (20 ∷ 21 ∷ 33 ∷ 34 ∷ [])
-      (code-calls G asked l s (isCode NotClosed) (20 ∷ 21 ∷ 33 ∷ 34 ∷ []) NotClosed refl refl d)
+      (subst (λ (cs : List ℕ). oneOf (asked .number) cs ≡ true) (by-code G asked l s .not-closed) (own-given G asked l s NotClosed d))
       ((λ v. no-three _ _ (_ ∷ []) _ (refl & tt) (refl & tt) (λ h. h .0) v)
       & (λ v. no-three _ _ (_ ∷ _ ∷ []) _ (refl & refl & tt) (refl & refl & refl & tt) (λ h. h .0) v)
       & (λ v. no-three _ _ (_ ∷ _ ∷ []) _ (refl & refl & tt) (refl & refl & tt) (λ h. h .1 .0) v)
@@ -194,11 +222,10 @@ module _ (G : Geometry) (asked : Asked) (l : Lent) (s : Session) where
 
   -- ---- code 6 comes out only where the random record is over 262,143
   pub random-over : verdict G asked l s ≡ Refused BadRecord → lastRecord < randomOf (l .fcb)
-  unfolding key
   random-over q =
       let d = own-decides G asked l s (isCode BadRecord) BadRecord refl refl refl refl (refuses G asked l s BadRecord q) .1 in
       ltb-true _ _ (at-one (λ (n : ℕ). Decides BadRecord (ownRows G (calling n asked) l s) → ltb lastRecord (randomOf (l .fcb)) ≡ true) (asked .number) (33 ∷ 34 ∷ [])
-      (code-calls G asked l s (isCode BadRecord) (33 ∷ 34 ∷ []) BadRecord refl refl d)
+      (subst (λ (cs : List ℕ). oneOf (asked .number) cs ≡ true) (by-code G asked l s .bad-record) (own-given G asked l s BadRecord d))
       ((λ v. only-row (isCode BadRecord) BadRecord refl _ BadRecord _ v (refl & refl & refl & refl & tt))
       & (λ v. only-row (isCode BadRecord) BadRecord refl _ BadRecord _ v (refl & refl & refl & refl & refl & tt)) & tt) d)
 
@@ -206,8 +233,9 @@ module _ (G : Geometry) (asked : Asked) (l : Lent) (s : Session) where
   pub search-over : (code : Code) → saysOf code .over ≡ true → Refuses G asked l s code → SearchEnds G asked l s (asked .number)
   search-over code h q =
       let d = own-decides G asked l s (λ (c : Code). saysOf c .over) code h refl refl refl q in
+      let r = row-of (λ (cs : List ℕ) (c : Code). cond (saysOf c .over) (within cs (17 ∷ 18 ∷ [])) true) (asked .number) code (callRows G asked l s) refl (d .1) in
       at-one (λ (n : ℕ). Ready G (calling n asked) l s → Decides code (ownRows G (calling n asked) l s) → SearchEnds G asked l s n) (asked .number) (17 ∷ 18 ∷ [])
-      (code-calls G asked l s (λ (c : Code). saysOf c .over) (17 ∷ 18 ∷ []) code h refl (d .1))
+      (within-one (asked .number) (r .calls) (17 ∷ 18 ∷ []) (rw h at (r .passes)) (r .applies))
       ((λ r v. let p = behind (λ (c : Code). saysOf c .over) code h (_ ∷ _ ∷ []) _ (refl & refl & tt) v in
       ends17 r (not-false _ (p .failed .0)) (pattern-of _ (p .failed .1 .0)) (last-row _ _ (p .rest)))
       & (λ r v. let p = behind (λ (c : Code). saysOf c .over) code h (_ ∷ []) _ (refl & tt) v in ends18 r (not-false _ (p .failed .0)) (last-row _ _ (p .rest))) & tt)

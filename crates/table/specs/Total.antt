@@ -1,13 +1,13 @@
 -- Demand 1: every call either is refused, by the first row of the table that holds, with nothing changed, or is carried out.
-use mathlib.Core.Path.{_≡_, refl, sym, ap, subst, _∙_}
+use mathlib.Core.Path.{_≡_, refl, sym, ap, _∙_}
 use mathlib.Core.Logic.{_⊎_, inl, inr}
 use mathlib.Core.Bool.{true, false, cond}
-use Prim.Native.Nat.{ℕ, _≤_, _<_}
+use Prim.Native.Nat.{_≤_, _<_}
 use native.Mathlib.Omega.{arith}
 use lib.Dec.{eqb}
 use borrow.Author.Tests.{eq-eqb, ne-eqb}
 use Rattle.lists.specs.Cases.{split, bool-cases, not-both}
-use Rattle.format.specs.Diskette.{Bytes, Geometry, eightInch}
+use Rattle.format.specs.Diskette.{Geometry, eightInch}
 use Rattle.facts.specs.Found.{first-says}
 use Rattle.model.specs.declared.Asked.{Asked}
 use Rattle.model.specs.declared.Session.{Session}
@@ -25,7 +25,7 @@ use Rattle.table.specs.First.{NoneHolds, Decides, passed-none, refused-s
 use Rattle.table.specs.Facts.{Ready, AcceptedCall}
 use Rattle.table.specs.Accept.{accepted, passes, sets-of}
 use Rattle.table.specs.Refuse.{SearchEnds, search-over, over-search, Refuses, refuses, refused-own}
-use Rattle.table.specs.Carried.{GoesOn, Leaves, over, on, sets, Done, carried-done}
+use Rattle.table.specs.Carried.{Leaves, over, on, sets, Done, carried-done}
 
 module _ (G : Geometry) (asked : Asked) (l : Lent) (s : Session) where
   -- a refusal with code c
