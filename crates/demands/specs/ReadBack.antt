@@ -32,13 +32,12 @@ use Rattle.table.specs.Facts.{Ready}
 use Rattle.table.specs.Carried.{Leaves, over, on, sets}
 use Rattle.table.specs.Total.{InRange, total, step-range}
 use Rattle.invariant.specs.Good.{Good}
-use Rattle.invariant.specs.Step.{step-good}
 use Rattle.effects.specs.View.{viewOf, Names}
 use Rattle.effects.specs.Effect.{Effect, Keeps}
 use Rattle.effects.specs.Cur.{Holds, holds-kept}
 use Rattle.effects.specs.Write.{WriteOk, written-ok}
 use Rattle.demands.specs.Accepted.{accepted-carried}
-use Rattle.demands.specs.StepOk.{step-ok, ready-good}
+use Rattle.demands.specs.StepOk.{step-ok, ready-good, step-good}
 use Rattle.demands.specs.Runs.{Request, Disk, lentTo, outcomeOf, accepts, after, run}
 use Rattle.demands.specs.Reading.{atRecord, recordNumber, Gives, reads-back, length-atRecord, rest-atRecord}
 

@@ -33,7 +33,6 @@ use Rattle.table.specs.Accept.{opens-of, closes-of, makes-of, reads-of, writes-
 use Rattle.table.specs.Facts.{Fits, Opens, Closes, Makes, Reads, Writes, AcceptedCall}
 use Rattle.model.specs.Step.{told, effect}
 use Rattle.invariant.specs.Good.{Good}
-use Rattle.invariant.specs.Step.{step-accepted}
 use Rattle.effects.specs.View.{viewOf}
 use Rattle.effects.specs.Cur.{Cur, cur-current}
 use Rattle.effects.specs.Where.{WritesNone}
@@ -41,7 +40,7 @@ use Rattle.effects.specs.Entered.{entered-cur, copied-cur, closed-cur}
 use Rattle.effects.specs.Came.{present-cur}
 use Rattle.effects.specs.Write.{written-ok, reads-ok}
 use Rattle.demands.specs.Accepted.{accepted-carried}
-use Rattle.demands.specs.StepOk.{ready-good}
+use Rattle.demands.specs.StepOk.{ready-good, step-accepted}
 use Rattle.demands.specs.Runs.{Request, Disk, lentTo, outcomeOf, accepts, after}
 use Rattle.demands.specs.ReadBack.{user-stays}
 
