@@ -12,16 +12,13 @@ use Rattle.format.specs.Fcb.{crOf}
 use Rattle.facts.specs.Found.{FoundAt}
 use Rattle.disk.specs.Eight.{eight-sound}
 use Rattle.model.specs.declared.Asked.{Asked}
-use Rattle.model.specs.Naming.{names}
 use Rattle.model.specs.Target.{presentEntry}
 use Rattle.model.specs.Kinds.{oneOf, kindOf}
 use Rattle.model.specs.declared.Kind.the-variants.{Write}
 use Rattle.fields.specs.Erased.{ErasedDisk}
 use Rattle.table.specs.Total.{InRange}
-use Rattle.effects.specs.Where.{Frame}
 use Rattle.effects.specs.Book.{nothingHeld}
-use Rattle.demands.specs.StepOk.{MayWrite}
-use Rattle.demands.specs.Runs.{Request, Disk, lentTo, outcomeOf, accepts, after, run, bookRun}
+use Rattle.demands.specs.Runs.{Request, Disk, outcomeOf, accepts, after, run, bookRun}
 use Rattle.demands.specs.NothingLost.{NothingLost, Stays, nothing-lost, bytes-stay, system-stays}
 use Rattle.demands.specs.Reading.{Gives}
 use Rattle.demands.specs.ReadBack.{AllLeaveAlone, readFcb, read-back}

@@ -9,7 +9,7 @@ use lib.Dec.{eqb}
 use lib.ListN.{length}
 use borrow.Author.Tests.{eq-eqb, ne-eqb}
 use Rattle.lists.specs.Cases.{split, bool-cases, eq-or-ne, not-both, clash}
-use Rattle.lists.specs.Tests.{_or_, and-both, or-left}
+use Rattle.lists.specs.Tests.{and-both, or-left}
 use Rattle.format.specs.Diskette.{Bytes, Geometry, Sound}
 use Rattle.format.specs.Entries.{slotOf, exOf, runOf, named}
 use Rattle.format.specs.Notes.{noteAt, freshMap, freedMap}

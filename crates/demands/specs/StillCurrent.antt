@@ -1,11 +1,10 @@
 -- For those who build above the calls: the FCB handed back by an accepted 16, 20, 21, 33 or 34 is current under the session handed back,
 -- and so is that of an accepted 15 or 22 whose cr is at most 128.
-use mathlib.Core.Path.{_≡_, refl, sym, _∙_, subst}
+use mathlib.Core.Path.{_≡_, refl, sym, subst}
 use mathlib.Core.Bool.{true, false}
 use mathlib.Core.List.{List, [], _∷_}
 use Prim.Native.Nat.{ℕ, _≤_}
 use native.Mathlib.Omega.{arith}
-use Rattle.lists.specs.Tests.{_or_}
 use Rattle.format.specs.Diskette.{Bytes, Geometry, Sound}
 use Rattle.format.specs.Entries.{entryAt, exOf}
 use Rattle.format.specs.Fcb.{crOf, current}
