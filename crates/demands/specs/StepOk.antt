@@ -43,7 +43,7 @@ use Rattle.invariant.specs.Good.{Good, good-of, good-consistent, good-right}
 use Rattle.invariant.specs.Updates.{good-fresh, good-freed}
 use Rattle.effects.specs.View.{viewOf}
 use Rattle.effects.specs.Effect.{Effect, Keeps, nothing-done, nothing-kept}
-use Rattle.effects.specs.Where.{Frame, WritesNone, OneRecord, one-more}
+use Rattle.effects.specs.Where.{Frame, same-frame, WritesNone, OneRecord, one-more}
 use Rattle.effects.specs.Book.{Book, nothingHeld, settledBy, acceptedAnswer, closedBook, movedBook, deletedBook, writtenBook, bookBy, bookStep}
 use Rattle.effects.specs.Tracks.{Tracks, fresh-tracks, freed-tracks}
 use Rattle.effects.specs.Change.{Change, asItWas, no-change, as-change}
@@ -92,7 +92,7 @@ refused-ok : (G : Geometry) (n : ℕ) (l : Lent) (s : Session) (o : Outcome) →
 refused-ok G n l s o q f = record {
   effect = rw q (nothing-done G (viewOf G (l .drive .image) (l .drive .map)) (names n (s .user) (l .fcb)));
   keeps = λ w. rw q (nothing-kept G (viewOf G (l .drive .image) (l .drive .map)) (names n (s .user) (l .fcb)));
-  frame = record { byte = λ i. inl (rw q); one-new = λ e k a b. absurd (a .changed (rw q)); image-length = rw q };
+  frame = same-frame G (l .drive .image) (o .lent .drive .image) (names n (s .user) (l .fcb)) (MayWrite G n l s o) (rw q);
   map-length = rw q;
   book = λ u t b h. ap (λ (v : Book). v b) (refused-book G n l s o u f) ∙ rw q (t b h);
 }
@@ -102,25 +102,31 @@ abbrev Carries : Geometry → ℕ → Lent → Session → Outcome → Type 0
 Carries G n l s o =
     Change G (names n (s .user) (l .fcb)) (MayWrite G n l s o) (bookBy G n (s .user) l (o .lent)) (l .drive .image) (l .drive .map) (o .lent .drive .image) (o .lent .drive .map)
 
-carries-ok : (G : Geometry) (n : ℕ) (l : Lent) (s : Session) (o : Outcome) → Fits G l s → acceptedAnswer n (o .answer) ≡ true → Carries G n l s o → StepOk G n l s o
+carries-ok : (G : Geometry) (n : ℕ) (l : Lent) (s : Session) (o : Outcome) → Fits G l s → acceptedAnswer n (o .answer) ≡ true → Carries G n l s o → CarriedOk G n l s o
 carries-ok G n l s o f a c = record {
-  effect = c .effect;
-  keeps = λ w. c .keeps;
-  frame = record { byte = c .frame; one-new = c .effect .one-new; image-length = c .good .image-long ∙ sym (f .image-long) };
-  map-length = c .good .map-long ∙ sym (f .map-long);
-  book = λ u t b h. ap (λ (v : Book). v b) (accepted-book G n l s o u a) ∙ c .book u t b h;
+  good = c .good;
+  ok = record {
+    effect = c .effect;
+    keeps = λ w. c .keeps;
+    frame = record { byte = c .frame; one-new = c .effect .one-new; image-length = c .good .image-long ∙ sym (f .image-long) };
+    map-length = c .good .map-long ∙ sym (f .map-long);
+    book = λ u t b h. ap (λ (v : Book). v b) (accepted-book G n l s o u a) ∙ c .book u t b h;
+  };
 }
 
 -- 13 and 98: the map alone changes, and nothing is held any more
-settles-ok : (G : Geometry) (n : ℕ) (l : Lent) (s : Session) (o : Outcome) → acceptedAnswer n (o .answer) ≡ true → kindOf n ≡ Settle
-    → o .lent .drive .image ≡ l .drive .image → length (o .lent .drive .map) ≡ length (l .drive .map) → Tracks G nothingHeld (noteAt (o .lent .drive .map)) → StepOk G n l s o
+settles-ok : (G : Geometry) (n : ℕ) (l : Lent) (s : Session) (o : Outcome) → Fits G l s → kindOf n ≡ Settle → o .lent .drive .image ≡ l .drive .image
+    → GoodOutcome G o → Tracks G nothingHeld (noteAt (o .lent .drive .map)) → acceptedAnswer n (o .answer) ≡ true → CarriedOk G n l s o
 unfolding bookBy
-settles-ok G n l s o a w q long tr = record {
-  effect = record { row = λ e f. rw q; new = λ e h z. inl (rw q); one-new = λ e k a b. absurd (a .changed (rw q)); dat = λ b k e h m f. rw q };
-  keeps = λ z. absurd (z a w);
-  frame = record { byte = λ i. inl (rw q); one-new = λ e k a b. absurd (a .changed (rw q)); image-length = rw q };
-  map-length = long;
-  book = λ u t b h. ap (λ (v : Book). v b) (accepted-book G n l s o u a) ∙ rw w (tr b h);
+settles-ok G n l s o f w q good tr a = record {
+  good = good;
+  ok = record {
+    effect = record { row = λ e f. rw q; new = λ e h z. inl (rw q); one-new = λ e k x y. absurd (x .changed (rw q)); dat = λ b k e h m f. rw q };
+    keeps = λ z. absurd (z a w);
+    frame = same-frame G (l .drive .image) (o .lent .drive .image) (names n (s .user) (l .fcb)) (MayWrite G n l s o) q;
+    map-length = good .map-long ∙ sym (f .map-long);
+    book = λ u t b h. ap (λ (v : Book). v b) (accepted-book G n l s o u a) ∙ rw w (tr b h);
+  };
 }
 
 -- ---- naming
@@ -257,24 +263,15 @@ freed-settles G l s = freed-tracks G (noteAt (l .drive .map)) (noteAt (freedMap 
 pub ready-good : {G : Geometry} {asked : Asked} {l : Lent} {s : Session} → Ready G asked l s → (asked .number ≡ 13 → ⊥) → Good G (l .drive .image) (l .drive .map)
 ready-good {G} {asked} {l} {s} r q = good-of G (l .drive .image) (l .drive .map) (r .fits .image-long) (r .fits .map-long) (r .image-right) (r .map-right q)
 
-settled-good : (G : Geometry) (asked : Asked) (l : Lent) (s : Session) → Ready G asked l s → GoodOutcome G (settled G asked l s)
-unfolding settled loggedIn freed
-settled-good G asked l s r =
-    split (eq-or-ne (asked .number) 13)
-    (λ e. rw (eq-eqb _ _ e) (good-fresh G (l .drive .image) (r .fits .image-long) (r .image-right)))
-    (λ e. rw (ne-eqb _ _ e) (good-freed G (l .drive .image) (l .drive .map) (ready-good r e)))
-
 settles : (G : Geometry) (asked : Asked) (l : Lent) (s : Session) → Ready G asked l s → kindOf (asked .number) ≡ Settle
     → acceptedAnswer (asked .number) (settled G asked l s .answer) ≡ true → CarriedOk G (asked .number) l s (settled G asked l s)
 unfolding settled loggedIn freed
-settles G asked l s r q a =
-    let good = settled-good G asked l s r in
-    record {
-      ok = settles-ok G (asked .number) l s (settled G asked l s) a q
-          (split (bool-cases (eqb (asked .number) 13)) (λ t. rw t) (λ t. rw t)) (good .map-long ∙ sym (r .fits .map-long))
-          (split (bool-cases (eqb (asked .number) 13)) (λ t. rw t (logged-in-tracks G l s)) (λ t. rw t (freed-settles G l s)));
-      good = good;
-    }
+settles G asked l s r q =
+    split (eq-or-ne (asked .number) 13)
+    (λ e. rw (eq-eqb (asked .number) 13 e)
+    (settles-ok G (asked .number) l s (loggedIn G s l) (r .fits) q refl (good-fresh G (l .drive .image) (r .fits .image-long) (r .image-right)) (logged-in-tracks G l s)))
+    (λ e. rw (ne-eqb (asked .number) 13 e)
+    (settles-ok G (asked .number) l s (freed G s l) (r .fits) q refl (good-freed G (l .drive .image) (l .drive .map) (ready-good r e)) (freed-settles G l s)))
 
 -- ---- every call
 not-login : (n : ℕ) (k : Kind) → kindOf n ≡ k → same k Settle ≡ false → n ≡ 13 → ⊥
@@ -296,8 +293,8 @@ module _ {G : Geometry} (S : Sound G) (asked : Asked) (l : Lent) (s : Session) w
       go k q a =
           let ready = c .facts .ready in
           split (bool-cases (same k Settle)) (λ z. let e = same-is k Settle z in subst CarriedBy (sym e) (settles G asked l s ready (q ∙ e)) a)
-          (λ z. let w = carried S l s (ready .fits) (ready-good ready (not-login (asked .number) k q z)) asked (c .facts) k q z a in
-          record { ok = carries-ok G (asked .number) l s (does G asked l s k) (ready .fits) a w; good = w .good })
+          (λ z. carries-ok G (asked .number) l s (does G asked l s k) (ready .fits) a
+          (carried S l s (ready .fits) (ready-good ready (not-login (asked .number) k q z)) asked (c .facts) k q z a))
 
   pub step-ok : StepOk G (asked .number) l s (step G asked l s)
   step-ok =

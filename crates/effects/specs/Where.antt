@@ -41,6 +41,10 @@ pub record Frame (G : Geometry) (img img′ : Bytes) (N : Names) (W : ℕ → Ty
   pub one-new : (e k : ℕ) → NewRow G (entryAt G img) (entryAt G img′) e → NewRow G (entryAt G img) (entryAt G img′) k → e ≡ k
   pub image-length : length img′ ≡ length img
 
+-- an image that stays as it was
+pub same-frame : (G : Geometry) (img img′ : Bytes) (N : Names) (W : ℕ → Type 0) → img′ ≡ img → Frame G img img′ N W
+same-frame G img img′ N W q = record { byte = λ i. inl (rw q); one-new = λ e k a b. absurd (a .changed (rw q)); image-length = rw q }
+
 -- no record is written
 abbrev pub WritesNone : ℕ → Type 0
 WritesNone d = ⊥
