@@ -127,26 +127,24 @@ module _ (G : Geometry) (asked : Asked) (l : Lent) (s : Session) where
   unfoldable pub callsWith : Code → List ℕ
   callsWith c = numbersIn (λ (k : Listed). hasCode c (rowsAt (k .number) (callRows G asked l s))) calls
 
-  pub record ByCode : Type 0 where
-    pub bad-record : callsWith BadRecord ≡ 33 ∷ 34 ∷ []
-    pub not-current : callsWith NotCurrent ≡ 20 ∷ 21 ∷ 33 ∷ 34 ∷ []
-    pub failed : callsWith Failed ≡ 15 ∷ 16 ∷ 18 ∷ 19 ∷ 22 ∷ 23 ∷ 32 ∷ 35 ∷ 36 ∷ []
-    pub bad-name : callsWith BadName ≡ 15 ∷ 17 ∷ 19 ∷ 22 ∷ 23 ∷ 35 ∷ []
-    pub search-over : callsWith SearchOver ≡ 17 ∷ 18 ∷ []
-    pub read-only : callsWith ReadOnly ≡ 19 ∷ 21 ∷ 23 ∷ 34 ∷ []
-    pub exists : callsWith Exists ≡ 22 ∷ 23 ∷ []
-    pub not-closed : callsWith NotClosed ≡ 20 ∷ 21 ∷ 33 ∷ 34 ∷ []
-    pub no-extent : callsWith NoExtent ≡ 33 ∷ []
-    pub no-record : callsWith NoRecord ≡ 20 ∷ 21 ∷ 33 ∷ []
-    pub no-entry : callsWith NoEntry ≡ 34 ∷ []
-    pub disk-full : callsWith DiskFull ≡ 21 ∷ 34 ∷ []
+  abbrev pub ByCode : Type 0
+  ByCode =
+      (callsWith BadRecord ≡ 33 ∷ 34 ∷ [])
+      × (callsWith NotCurrent ≡ 20 ∷ 21 ∷ 33 ∷ 34 ∷ [])
+      × (callsWith Failed ≡ 15 ∷ 16 ∷ 18 ∷ 19 ∷ 22 ∷ 23 ∷ 32 ∷ 35 ∷ 36 ∷ [])
+      × (callsWith BadName ≡ 15 ∷ 17 ∷ 19 ∷ 22 ∷ 23 ∷ 35 ∷ [])
+      × (callsWith SearchOver ≡ 17 ∷ 18 ∷ [])
+      × (callsWith ReadOnly ≡ 19 ∷ 21 ∷ 23 ∷ 34 ∷ [])
+      × (callsWith Exists ≡ 22 ∷ 23 ∷ [])
+      × (callsWith NotClosed ≡ 20 ∷ 21 ∷ 33 ∷ 34 ∷ [])
+      × (callsWith NoExtent ≡ 33 ∷ [])
+      × (callsWith NoRecord ≡ 20 ∷ 21 ∷ 33 ∷ [])
+      × (callsWith NoEntry ≡ 34 ∷ [])
+      × (callsWith DiskFull ≡ 21 ∷ 34 ∷ [])
 
   pub by-code : ByCode
   unfolding callsWith
-  by-code = record {
-    bad-record = refl; not-current = refl; failed = refl; bad-name = refl; search-over = refl; read-only = refl; exists = refl; not-closed = refl;
-    no-extent = refl; no-record = refl; no-entry = refl; disk-full = refl;
-  }
+  by-code = (refl, refl, refl, refl, refl, refl, refl, refl, refl, refl, refl, refl)
 
   -- a call's own rows refuse it with no other codes
   own-given : (code : Code) → Decides code (ownRows G asked l s) → oneOf (asked .number) (callsWith code) ≡ true
@@ -211,10 +209,11 @@ no-three X Y front rs a b current d =
 
 module _ (G : Geometry) (asked : Asked) (l : Lent) (s : Session) where
   pub never-not-closed : verdict G asked l s ≡ Refused NotClosed → ⊥
+  unfolding callsWith
   never-not-closed q =
       let d = own-decides G asked l s (isCode NotClosed) NotClosed refl refl refl refl (refuses G asked l s NotClosed q) .1 in
       at-one (λ (n : ℕ). Decides NotClosed (ownRows G (calling n asked) l s) → ⊥) (asked .number) (20 ∷ 21 ∷ 33 ∷ 34 ∷ [])
-      (subst (λ (cs : List ℕ). oneOf (asked .number) cs ≡ true) (by-code G asked l s .not-closed) (own-given G asked l s NotClosed d))
+      (own-given G asked l s NotClosed d)
       ((λ v. no-three _ _ (_ ∷ []) _ (refl & tt) (refl & tt) (λ h. h .0) v)
       & (λ v. no-three _ _ (_ ∷ _ ∷ []) _ (refl & refl & tt) (refl & refl & refl & tt) (λ h. h .0) v)
       & (λ v. no-three _ _ (_ ∷ _ ∷ []) _ (refl & refl & tt) (refl & refl & tt) (λ h. h .1 .0) v)
@@ -222,10 +221,11 @@ module _ (G : Geometry) (asked : Asked) (l : Lent) (s : Session) where
 
   -- ---- code 6 comes out only where the random record is over 262,143
   pub random-over : verdict G asked l s ≡ Refused BadRecord → lastRecord < randomOf (l .fcb)
+  unfolding callsWith
   random-over q =
       let d = own-decides G asked l s (isCode BadRecord) BadRecord refl refl refl refl (refuses G asked l s BadRecord q) .1 in
       ltb-true _ _ (at-one (λ (n : ℕ). Decides BadRecord (ownRows G (calling n asked) l s) → ltb lastRecord (randomOf (l .fcb)) ≡ true) (asked .number) (33 ∷ 34 ∷ [])
-      (subst (λ (cs : List ℕ). oneOf (asked .number) cs ≡ true) (by-code G asked l s .bad-record) (own-given G asked l s BadRecord d))
+      (own-given G asked l s BadRecord d)
       ((λ v. only-row (isCode BadRecord) BadRecord refl _ BadRecord _ v (refl & refl & refl & refl & tt))
       & (λ v. only-row (isCode BadRecord) BadRecord refl _ BadRecord _ v (refl & refl & refl & refl & refl & tt)) & tt) d)
 
