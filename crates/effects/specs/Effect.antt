@@ -5,23 +5,17 @@ use mathlib.Core.Bool.{true, false}
 use Prim.Native.Nat.{ℕ, _≤_, _<_}
 use Rattle.lists.specs.Cases.{split, bool-cases, not-both}
 use Rattle.format.specs.Diskette.{Bytes, Geometry, diskRecord, slotCount}
-use Rattle.format.specs.Entries.{Rows, slotOf, empty, used}
+use Rattle.format.specs.Entries.{slotOf, empty, used}
 use Rattle.format.specs.Notes.{pendingFor}
 use Rattle.disk.specs.Places.{blockRecords, block-record}
 use Rattle.rows.specs.Entries.{areaRecords, block-past}
-use Rattle.effects.specs.View.{View, Right, Names, Mine, listed, pending, mine-low, mine-high}
+use Rattle.effects.specs.View.{View, Right, Names, NewRow, Mine, listed, pending, mine-low, mine-high}
 
 -- a used entry that the call does not name
 pub record Foreign (G : Geometry) (s : View) (N : Names) (e : ℕ) : Type 0 where
   pub low : e < G .entries
   pub uses : used (s .rows e) ≡ true
   pub other : N (s .rows e) ≡ false
-
--- an empty entry that has changed
-pub record NewRow (G : Geometry) (d d′ : Rows) (e : ℕ) : Type 0 where
-  pub low : e < G .entries
-  pub was : empty (d e) ≡ true
-  pub changed : d′ e ≡ d e → ⊥
 
 -- from s to t, by a call that names N: other entries stay, and so do the records of the blocks of other entries; an empty entry stays or
 -- becomes theirs, and at most one does

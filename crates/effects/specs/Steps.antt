@@ -13,8 +13,8 @@ use Rattle.consistency.specs.Reflect.{used-full, empty-elsewhere}
 use Rattle.notes.specs.Numbers.{pending-once, pending-not}
 use Rattle.disk.specs.Places.{blockRecords, block-once}
 use Rattle.rows.specs.Entries.{areaRecords}
-use Rattle.effects.specs.View.{View, Right, Names, Mine}
-use Rattle.effects.specs.Effect.{Foreign, NewRow, Effect, Keeps, NoneNew, none-one, NamesStay, RecsStay, not-entry, mine-past, mine-below, recs-on}
+use Rattle.effects.specs.View.{View, Right, Names, NewRow, Mine}
+use Rattle.effects.specs.Effect.{Foreign, Effect, Keeps, NoneNew, none-one, NamesStay, RecsStay, not-entry, mine-past, mine-below, recs-on}
 
 -- ---- rows
 -- no empty entry is named

@@ -12,8 +12,7 @@ use Rattle.disk.specs.Places.{blockRecords}
 use Rattle.disk.specs.Records.{record-byte-left}
 use Rattle.rows.specs.Entries.{entry-byte-left}
 use Rattle.model.specs.Target.{placeIn}
-use Rattle.effects.specs.View.{viewOf, Names, Mine}
-use Rattle.effects.specs.Effect.{NewRow}
+use Rattle.effects.specs.View.{viewOf, Names, NewRow, Mine}
 
 -- byte i lies in entry e, or in disk record d
 pub record InEntry (G : Geometry) (e i : ℕ) : Type 0 where
