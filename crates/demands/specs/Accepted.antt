@@ -7,7 +7,7 @@ use native.Mathlib.Omega.{arith}
 use lib.Dec.{eqb}
 use borrow.Author.Tests.{eq-eqb, eqb-true, ne-eqb}
 use Rattle.lists.specs.Cases.{split, bool-cases, not-both, clash, cond-either}
-use Rattle.lists.specs.Tests.{_or_, and-both, and-then, and-fails-left}
+use Rattle.lists.specs.Tests.{and-both, and-then, and-fails-left}
 use Rattle.format.specs.Diskette.{Geometry}
 use Rattle.format.specs.declared.Found.{Found}
 use Rattle.model.specs.declared.Asked.{Asked}
@@ -16,7 +16,7 @@ use Rattle.model.specs.declared.Answer.{Answer}
 use Rattle.model.specs.declared.Code.{Code}
 use Rattle.model.specs.declared.Kind.{Kind}
 use Rattle.model.specs.declared.Kind.the-variants.{Unlisted, Quiet, Search, User, Settle, Close, Delete, Create, Rename, Read, Write}
-use Rattle.model.specs.Codes.{saysOf, aOf, hOf}
+use Rattle.model.specs.Codes.{aOf, hOf}
 use Rattle.model.specs.Lent.{Lent, Outcome, answerOf}
 use Rattle.model.specs.Kinds.{oneOf, kindOf}
 use Rattle.model.specs.Table.{callRows}
@@ -100,7 +100,7 @@ module _ (G : Geometry) (asked : Asked) (l : Lent) (s : Session) where
       go (unlisted e f) = error-refused (asked .number) c (refusedSession c s) (ap (λ (d : Code). eqb (hOf d) 0) e)
       go (parameter e f) = error-refused (asked .number) c (refusedSession c s) (ap (λ (d : Code). eqb (hOf d) 0) e)
       go (disk e f) = error-refused (asked .number) c (refusedSession c s) (ap (λ (d : Code). eqb (hOf d) 0) e)
-      go (own w d) =
+      go (own g w d) =
           let row = row-of refusal (asked .number) c (callRows G asked l s) refl d in
           refusal-refused (asked .number) (row .calls) c (refusedSession c s) (row .passes) (row .applies)
 

@@ -41,11 +41,10 @@ use Rattle.table.specs.Accept.{passes, makes-of, makes-right, writes-right}
 use Rattle.table.specs.Present.{stays-within, target-present, numbers-extent}
 use Rattle.table.specs.Total.{InRange, CarriedOut, total-accepted}
 use Rattle.invariant.specs.Good.{Good, good-consistent, good-right}
-use Rattle.invariant.specs.Step.{step-accepted}
 use Rattle.effects.specs.View.{viewOf}
 use Rattle.effects.specs.Cur.{Cur, cur-current}
 use Rattle.demands.specs.Accepted.{carried-says, accepted-carried}
-use Rattle.demands.specs.StepOk.{ready-good}
+use Rattle.demands.specs.StepOk.{ready-good, step-accepted}
 use Rattle.demands.specs.StillCurrent.{created-cur}
 use Rattle.demands.specs.NothingLost.{booked-login, logged-in}
 use Rattle.demands.specs.Erased.{erased-accepted}

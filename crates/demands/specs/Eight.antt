@@ -12,17 +12,14 @@ use Rattle.format.specs.Fcb.{crOf}
 use Rattle.facts.specs.Found.{FoundAt}
 use Rattle.disk.specs.Eight.{eight-sound}
 use Rattle.model.specs.declared.Asked.{Asked}
-use Rattle.model.specs.Naming.{names}
 use Rattle.model.specs.Target.{presentEntry}
 use Rattle.model.specs.Kinds.{oneOf, kindOf}
 use Rattle.model.specs.declared.Kind.the-variants.{Write}
 use Rattle.fields.specs.Erased.{ErasedDisk}
 use Rattle.table.specs.Total.{InRange}
-use Rattle.effects.specs.Where.{Frame}
 use Rattle.effects.specs.Book.{nothingHeld}
-use Rattle.demands.specs.StepOk.{MayWrite}
-use Rattle.demands.specs.Runs.{Request, Disk, lentTo, outcomeOf, accepts, after, run, bookRun}
-use Rattle.demands.specs.NothingLost.{NothingLost, nothing-lost, bytes-stay, system-stays}
+use Rattle.demands.specs.Runs.{Request, Disk, outcomeOf, accepts, after, run, bookRun}
+use Rattle.demands.specs.NothingLost.{NothingLost, Stays, nothing-lost, bytes-stay, system-stays}
 use Rattle.demands.specs.Reading.{Gives}
 use Rattle.demands.specs.ReadBack.{AllLeaveAlone, readFcb, read-back}
 use Rattle.demands.specs.StillCurrent.{currentCalls, still-current}
@@ -40,9 +37,7 @@ pub eight-nothing-lost : (d : Disk) (q : Request) → q .asked .number ≡ 13 �
     → NothingLost eightInch (run eightInch (after eightInch d q) qs) (bookRun eightInch (after eightInch d q) qs nothingHeld)
 eight-nothing-lost = nothing-lost eight-sound
 
-pub eight-bytes-stay : (d : Disk) (q : Request)
-    → Frame eightInch (d .drive .image) (after eightInch d q .drive .image) (names (q .asked .number) (d .session .user) (q .fcb))
-    (MayWrite eightInch (q .asked .number) (lentTo d q) (d .session) (outcomeOf eightInch d q))
+pub eight-bytes-stay : (d : Disk) (q : Request) → Stays eightInch d q
 eight-bytes-stay = bytes-stay eight-sound
 
 pub eight-system-stays : (d : Disk) (q : Request) (i : ℕ) → i < 6656 → getD (after eightInch d q .drive .image) i 0 ≡ getD (d .drive .image) i 0

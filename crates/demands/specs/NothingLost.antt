@@ -5,9 +5,9 @@ use mathlib.Core.Bool.{true, false}
 use mathlib.Core.List.{List, [], _∷_}
 use Prim.Native.Nat.{ℕ, _*_, _≤_, _<_}
 use native.Mathlib.Omega.{arith}
-use lib.ListN.{getD}
+use lib.ListN.{length, getD}
 use Rattle.lists.specs.Cases.{split}
-use Rattle.format.specs.Diskette.{Geometry, Sound, recordBytes}
+use Rattle.format.specs.Diskette.{Geometry, Sound, recordBytes, Long}
 use Rattle.format.specs.Entries.{entryAt}
 use Rattle.format.specs.Consistent.{consistent}
 use Rattle.format.specs.Notes.{noteAt, mapRight, freshNote, isPending}
@@ -22,12 +22,11 @@ use Rattle.table.specs.Own.{calling}
 use Rattle.model.specs.Kinds.{kindOf}
 use Rattle.table.specs.Total.{InRange, step-range}
 use Rattle.invariant.specs.Good.{Good, good-consistent, good-right}
-use Rattle.invariant.specs.Step.{step-accepted, step-good, good-never-one}
 use Rattle.effects.specs.Where.{InEntry, InRecord, Where, in-entry, in-new, in-record, Frame}
 use Rattle.effects.specs.Book.{Book, nothingHeld}
 use Rattle.effects.specs.Tracks.{Tracks, overlaid, InBook, book-map, book-has, book-settled}
 use Rattle.demands.specs.Accepted.{accepted-carried}
-use Rattle.demands.specs.StepOk.{MayWrite, step-ok, logged-in-tracks}
+use Rattle.demands.specs.StepOk.{MayWrite, step-ok, step-accepted, step-good, good-never-one, logged-in-tracks}
 use Rattle.demands.specs.Runs.{Request, Disk, lentTo, outcomeOf, accepts, after, run, bookAfter, bookRun}
 
 -- ---- a disk whose map tells the same as a book
@@ -72,6 +71,8 @@ module _ {G : Geometry} (S : Sound G) where
 
 -- ---- what is never lost
 pub record NothingLost (G : Geometry) (d : Disk) (u : Book) : Type 0 where
+  pub image-long : Long G (d .drive .image)
+  pub map-long : length (d .drive .map) ≡ G .blocks
   pub image-consistent : consistent G (d .drive .image) ≡ true
   pub map-right : mapRight G (entryAt G (d .drive .image)) (d .drive .map) ≡ true
   -- the map is the fresh map overlaid with the book
@@ -88,6 +89,8 @@ booked-lost G d u t =
     let rows = entryAt G (d .drive .image) in
     let m = noteAt (d .drive .map) in
     record {
+      image-long = t .good .image-long;
+      map-long = t .good .map-long;
       image-consistent = good-consistent G (d .drive .image) (d .drive .map) (t .good);
       map-right = good-right G (d .drive .image) (d .drive .map) (t .good);
       overlay = λ b h. book-map G rows m u (t .good .inv) (t .tracks) b h;
@@ -95,6 +98,12 @@ booked-lost G d u t =
       others = λ b h z. book-settled G rows m u (t .good .inv) (t .tracks) b h z;
       never-refused = λ q. good-never-one G (q .asked) (lentTo d q) (d .session) (t .good);
     }
+
+-- ---- what a call leaves as it was: byte by byte, and the length of image and map
+pub record Stays (G : Geometry) (d : Disk) (q : Request) : Type 0 where
+  pub frame : Frame G (d .drive .image) (after G d q .drive .image) (names (q .asked .number) (d .session .user) (q .fcb))
+      (MayWrite G (q .asked .number) (lentTo d q) (d .session) (outcomeOf G d q))
+  pub map-length : length (after G d q .drive .map) ≡ length (d .drive .map)
 
 -- ---- demand 3
 module _ {G : Geometry} (S : Sound G) where
@@ -104,15 +113,14 @@ module _ {G : Geometry} (S : Sound G) where
   nothing-lost d q n a qs =
       booked-lost G (run G (after G d q) qs) (bookRun G (after G d q) qs nothingHeld) (booked-run S (after G d q) qs nothingHeld (booked-login S d q n a))
 
-  -- byte by byte, for every call on any disk
-  pub bytes-stay : (d : Disk) (q : Request)
-      → Frame G (d .drive .image) (after G d q .drive .image) (names (q .asked .number) (d .session .user) (q .fcb)) (MayWrite G (q .asked .number) (lentTo d q) (d .session) (outcomeOf G d q))
+  -- for every call on any disk
+  pub bytes-stay : (d : Disk) (q : Request) → Stays G d q
   unfolding after outcomeOf
-  bytes-stay d q = step-ok S (q .asked) (lentTo d q) (d .session) .frame
+  bytes-stay d q = let ok = step-ok S (q .asked) (lentTo d q) (d .session) in record { frame = ok .frame; map-length = ok .map-length }
 
   -- the system tracks are never touched
   pub system-stays : (d : Disk) (q : Request) (i : ℕ) → i < G .reserved * G .sectors * recordBytes → getD (after G d q .drive .image) i 0 ≡ getD (d .drive .image) i 0
-  system-stays d q i h = split (bytes-stay d q i) (λ e. e) (λ w. absurd (go w))
+  system-stays d q i h = split (bytes-stay d q .frame .byte i) (λ e. e) (λ w. absurd (go w))
     where
       go : Where G (d .drive .image) (after G d q .drive .image) (names (q .asked .number) (d .session .user) (q .fcb)) (MayWrite G (q .asked .number) (lentTo d q) (d .session) (outcomeOf G d q)) i → ⊥
       go (in-entry e p n) = let a = p .from in omega (arith, entry-past S e)
@@ -121,7 +129,7 @@ module _ {G : Geometry} (S : Sound G) where
 
   -- nor are the sectors that belong to no block
   pub spare-stays : (d : Disk) (q : Request) (i x : ℕ) → blockRecords G ≤ x → InRecord G x i → getD (after G d q .drive .image) i 0 ≡ getD (d .drive .image) i 0
-  spare-stays d q i x past r = split (bytes-stay d q i) (λ e. e) (λ w. absurd (go w))
+  spare-stays d q i x past r = split (bytes-stay d q .frame .byte i) (λ e. e) (λ w. absurd (go w))
     where
       entry : (e : ℕ) → InEntry G e i → ⊥
       entry e p =

@@ -8,37 +8,32 @@ use native.Mathlib.Omega.{arith}
 use lib.ListN.{length, getD, set}
 use lib.Seq.{getD-set-same, getD-set-other}
 use Rattle.lists.specs.Cases.{split}
-use Rattle.lists.specs.Tests.{_or_}
 use Rattle.format.specs.Diskette.{Bytes, Geometry, Sound, recordBytes, extents}
 use Rattle.format.specs.Entries.{userOf, extentOf, named}
 use Rattle.format.specs.Fcb.{fcbBytes}
 use Rattle.facts.specs.Names.{like-at}
 use Rattle.model.specs.declared.Asked.{Asked}
 use Rattle.model.specs.declared.Session.{Session}
-use Rattle.model.specs.Lent.{Lent, Outcome}
+use Rattle.model.specs.Lent.{Lent}
 use Rattle.model.specs.Naming.{names}
 use Rattle.model.specs.Target.{targetExtent, targetRecord}
 use Rattle.model.specs.Kinds.{kindOf, usesFcb, wild}
-use Rattle.model.specs.declared.Kind.{Kind}
 use Rattle.model.specs.declared.Kind.the-variants.{User, Settle, Write}
-use Rattle.model.specs.Calls.{written}
 use Rattle.model.specs.Step.{effect, step}
 use Rattle.fields.specs.Agree.{SameName, named-cong}
 use Rattle.facts.specs.Naming.{named-user, named-like}
 use Rattle.table.specs.Own.{at-kind, is-or-not, kinds-apart}
 use Rattle.table.specs.Accept.{writes-by}
 use Rattle.table.specs.First.{_&_}
-use Rattle.table.specs.Facts.{Ready}
 use Rattle.table.specs.Carried.{Leaves, over, on, sets}
 use Rattle.table.specs.Total.{InRange, total, step-range}
 use Rattle.invariant.specs.Good.{Good}
-use Rattle.invariant.specs.Step.{step-good}
 use Rattle.effects.specs.View.{viewOf, Names}
 use Rattle.effects.specs.Effect.{Effect, Keeps}
 use Rattle.effects.specs.Cur.{Holds, holds-kept}
 use Rattle.effects.specs.Write.{WriteOk, written-ok}
 use Rattle.demands.specs.Accepted.{accepted-carried}
-use Rattle.demands.specs.StepOk.{step-ok, ready-good}
+use Rattle.demands.specs.StepOk.{step-ok, ready-good, step-good}
 use Rattle.demands.specs.Runs.{Request, Disk, lentTo, outcomeOf, accepts, after, run}
 use Rattle.demands.specs.Reading.{atRecord, recordNumber, Gives, reads-back, length-atRecord, rest-atRecord}
 
@@ -83,7 +78,7 @@ pub user-stays : (G : Geometry) (d : Disk) (q : Request) → (kindOf (q .asked .
 unfolding after outcomeOf
 user-stays G d q z =
     split (total G (q .asked) (lentTo d q) (d .session))
-    (λ w. split (w .1 .session) (λ e. ap (λ (x : Session). x .user) e) (λ e. ap (λ (x : Session). x .user) (e .1)))
+    (λ w. split (w .1 .session) (λ e. ap (λ (x : Session). x .user) (e .1)) (λ e. ap (λ (x : Session). x .user) (e .1)))
     (λ c. leaves-user G (q .asked) (lentTo d q) (d .session) (step G (q .asked) (lentTo d q) (d .session) .answer .session) z (c .done .leaves))
 
 -- ---- a record that holds, over calls that leave its file alone

@@ -6,7 +6,7 @@ use native.Mathlib.Omega.{arith}
 use lib.ListN.{length, getD}
 use borrow.Author.Tests.{eq-eqb, ne-eqb, lt-ltb}
 use Rattle.lists.specs.Cases.{not-both}
-use Rattle.lists.specs.Tests.{_or_, and-both}
+use Rattle.lists.specs.Tests.{and-both}
 use Rattle.lists.specs.Splice.{splice}
 use Rattle.format.specs.Diskette.{Bytes, Geometry, Sound, recordAt, extents, extentRecords}
 use Rattle.format.specs.Entries.{slotOf, slotFor, countOf, extentOf}
@@ -16,11 +16,9 @@ use Rattle.facts.specs.Counts.{fcb-count-there}
 use Rattle.model.specs.declared.Asked.{Asked}
 use Rattle.model.specs.declared.Session.{Session}
 use Rattle.model.specs.declared.Plan.{Plan}
-use Rattle.model.specs.declared.Verdict.the-variants.{Passed}
 use Rattle.model.specs.Lent.{Lent, Outcome}
 use Rattle.model.specs.Entering.{threeBytes}
 use Rattle.model.specs.Target.{targetExtent, targetRecord, targetSlot, presentEntry, stays, blockThere, countThere, recordThere, plan, placeIn, haveRead}
-use Rattle.model.specs.Table.{verdict}
 use Rattle.model.specs.Calls.{readAt, reading, read}
 use Rattle.model.specs.Step.{effect, step}
 use Rattle.current.specs.Current.{fcb-says}

@@ -4,23 +4,24 @@ use mathlib.Core.Path.{_≡_, refl, ap, sym, _∙_, subst}
 use mathlib.Core.Logic.{inl}
 use mathlib.Core.Bool.{true, false}
 use Prim.Native.Nat.{ℕ}
+use native.Mathlib.Omega.{arith}
 use lib.Dec.{eqb}
 use lib.ListN.{length}
-use borrow.Author.Tests.{eq-eqb}
-use Rattle.lists.specs.Cases.{split, bool-cases, not-both, clash}
-use Rattle.lists.specs.Tests.{_or_, and-both, or-left}
+use borrow.Author.Tests.{eq-eqb, ne-eqb}
+use Rattle.lists.specs.Cases.{split, bool-cases, eq-or-ne, not-both, clash}
+use Rattle.lists.specs.Tests.{and-both, or-left}
 use Rattle.format.specs.Diskette.{Bytes, Geometry, Sound}
-use Rattle.format.specs.Entries.{slotOf, named, findEmpty}
+use Rattle.format.specs.Entries.{slotOf, exOf, runOf, named}
 use Rattle.format.specs.Notes.{noteAt, freshMap, freedMap}
 use Rattle.format.specs.Fcb.{fcbBytes}
-use Rattle.format.specs.declared.Found.the-variants.{At}
 use Rattle.facts.specs.Names.{like-intro}
 use Rattle.notes.specs.Right.{fresh-at, freed-at}
-use Rattle.facts.specs.Find.{empty-says}
+use Rattle.facts.specs.Find.{no-file-says, empty-says}
 use Rattle.model.specs.declared.Asked.{Asked}
 use Rattle.model.specs.declared.Session.{Session}
 use Rattle.model.specs.Lent.{Lent, rowsOf, Outcome}
 use Rattle.model.specs.Naming.{names}
+use Rattle.model.specs.Table.{askedEntry, table, verdict}
 use Rattle.model.specs.Entering.{madeRow}
 use Rattle.model.specs.Target.{targetRecord, targetSlot}
 use Rattle.model.specs.Kinds.{kindOf, usesFcb, wild, same}
@@ -28,19 +29,21 @@ use Rattle.model.specs.declared.Kind.{Kind}
 use Rattle.model.specs.declared.Kind.the-variants.{Unlisted, Quiet, Search, User, Settle, Close, Delete, Create, Rename, Read, Write}
 use Rattle.model.specs.Calls.{loggedIn, freed, userSet, closedAt, closed, foundAt, searched, deletes, deleted, createdAt, created, renamed, read, written}
 use Rattle.model.specs.Step.{settled, does, effect, step}
-use Rattle.fields.specs.Making.{length-madeRow, user-made, name-made}
-use Rattle.facts.specs.Naming.{named-intro}
+use Rattle.fields.specs.Making.{length-madeRow, user-made, name-made, slot-made, extent-made}
+use Rattle.fields.specs.Fine.{fine-made}
+use Rattle.facts.specs.Naming.{named-intro, file-intro}
 use Rattle.table.specs.Own.{at-kind, same-is, not-unlisted}
 use Rattle.consistency.specs.Naming.{named-used}
-use Rattle.table.specs.First.{_&_}
+use Rattle.table.specs.First.{_&_, decides-refused}
+use Rattle.table.specs.Refuse.{never-bad-disk}
 use Rattle.table.specs.Facts.{Fits, Closes, Makes, Renames, Ready, AcceptedCall}
 use Rattle.table.specs.Accept.{closes-of, makes-of, renames-of, reads-of, writes-by}
 use Rattle.table.specs.Total.{CarriedOut, total}
-use Rattle.invariant.specs.Good.{Good, good-of}
-use Rattle.invariant.specs.Calls.{GoodOutcome, carried-good}
+use Rattle.invariant.specs.Good.{Good, good-of, good-consistent, good-right}
+use Rattle.invariant.specs.Updates.{good-fresh, good-freed}
 use Rattle.effects.specs.View.{viewOf}
 use Rattle.effects.specs.Effect.{Effect, Keeps, nothing-done, nothing-kept}
-use Rattle.effects.specs.Where.{Frame, WritesNone, OneRecord, one-more}
+use Rattle.effects.specs.Where.{Frame, same-frame, WritesNone, OneRecord, one-more}
 use Rattle.effects.specs.Book.{Book, nothingHeld, settledBy, acceptedAnswer, closedBook, movedBook, deletedBook, writtenBook, bookBy, bookStep}
 use Rattle.effects.specs.Tracks.{Tracks, fresh-tracks, freed-tracks}
 use Rattle.effects.specs.Change.{Change, asItWas, no-change, as-change}
@@ -63,7 +66,17 @@ pub record StepOk (G : Geometry) (n : ℕ) (l : Lent) (s : Session) (o : Outcome
   pub keeps : (acceptedAnswer n (o .answer) ≡ true → kindOf n ≡ Settle → ⊥)
       → Keeps G (viewOf G (l .drive .image) (l .drive .map)) (viewOf G (o .lent .drive .image) (o .lent .drive .map)) (names n (s .user) (l .fcb))
   pub frame : Frame G (l .drive .image) (o .lent .drive .image) (names n (s .user) (l .fcb)) (MayWrite G n l s o)
+  pub map-length : length (o .lent .drive .map) ≡ length (l .drive .map)
   pub book : (u : Book) → Tracks G u (noteAt (l .drive .map)) → Tracks G (bookStep G n l s o u) (noteAt (o .lent .drive .map))
+
+-- image and map of an outcome are good
+abbrev pub GoodOutcome : Geometry → Outcome → Type 0
+GoodOutcome G o = Good G (o .lent .drive .image) (o .lent .drive .map)
+
+-- a call that was carried out leaves image and map good
+record CarriedOk (G : Geometry) (n : ℕ) (l : Lent) (s : Session) (o : Outcome) : Type 0 where
+  ok : StepOk G n l s o
+  good : GoodOutcome G o
 
 -- ---- a call that is refused
 refused-book : (G : Geometry) (n : ℕ) (l : Lent) (s : Session) (o : Outcome) (u : Book) → acceptedAnswer n (o .answer) ≡ false → bookStep G n l s o u ≡ u
@@ -79,7 +92,8 @@ refused-ok : (G : Geometry) (n : ℕ) (l : Lent) (s : Session) (o : Outcome) →
 refused-ok G n l s o q f = record {
   effect = rw q (nothing-done G (viewOf G (l .drive .image) (l .drive .map)) (names n (s .user) (l .fcb)));
   keeps = λ w. rw q (nothing-kept G (viewOf G (l .drive .image) (l .drive .map)) (names n (s .user) (l .fcb)));
-  frame = λ i. inl (rw q);
+  frame = same-frame G (l .drive .image) (o .lent .drive .image) (names n (s .user) (l .fcb)) (MayWrite G n l s o) (rw q);
+  map-length = rw q;
   book = λ u t b h. ap (λ (v : Book). v b) (refused-book G n l s o u f) ∙ rw q (t b h);
 }
 
@@ -88,23 +102,31 @@ abbrev Carries : Geometry → ℕ → Lent → Session → Outcome → Type 0
 Carries G n l s o =
     Change G (names n (s .user) (l .fcb)) (MayWrite G n l s o) (bookBy G n (s .user) l (o .lent)) (l .drive .image) (l .drive .map) (o .lent .drive .image) (o .lent .drive .map)
 
-carries-ok : (G : Geometry) (n : ℕ) (l : Lent) (s : Session) (o : Outcome) → acceptedAnswer n (o .answer) ≡ true → Carries G n l s o → StepOk G n l s o
-carries-ok G n l s o a c = record {
-  effect = c .effect;
-  keeps = λ w. c .keeps;
-  frame = c .frame;
-  book = λ u t b h. ap (λ (v : Book). v b) (accepted-book G n l s o u a) ∙ c .book u t b h;
+carries-ok : (G : Geometry) (n : ℕ) (l : Lent) (s : Session) (o : Outcome) → Fits G l s → acceptedAnswer n (o .answer) ≡ true → Carries G n l s o → CarriedOk G n l s o
+carries-ok G n l s o f a c = record {
+  good = c .good;
+  ok = record {
+    effect = c .effect;
+    keeps = λ w. c .keeps;
+    frame = record { byte = c .frame; one-new = c .effect .one-new; image-length = c .good .image-long ∙ sym (f .image-long) };
+    map-length = c .good .map-long ∙ sym (f .map-long);
+    book = λ u t b h. ap (λ (v : Book). v b) (accepted-book G n l s o u a) ∙ c .book u t b h;
+  };
 }
 
 -- 13 and 98: the map alone changes, and nothing is held any more
-settles-ok : (G : Geometry) (n : ℕ) (l : Lent) (s : Session) (o : Outcome) → acceptedAnswer n (o .answer) ≡ true → kindOf n ≡ Settle
-    → o .lent .drive .image ≡ l .drive .image → Tracks G nothingHeld (noteAt (o .lent .drive .map)) → StepOk G n l s o
+settles-ok : (G : Geometry) (n : ℕ) (l : Lent) (s : Session) (o : Outcome) → Fits G l s → kindOf n ≡ Settle → o .lent .drive .image ≡ l .drive .image
+    → GoodOutcome G o → Tracks G nothingHeld (noteAt (o .lent .drive .map)) → acceptedAnswer n (o .answer) ≡ true → CarriedOk G n l s o
 unfolding bookBy
-settles-ok G n l s o a w q tr = record {
-  effect = record { row = λ e f. rw q; new = λ e h z. inl (rw q); dat = λ b k e h m f. rw q };
-  keeps = λ z. absurd (z a w);
-  frame = λ i. inl (rw q);
-  book = λ u t b h. ap (λ (v : Book). v b) (accepted-book G n l s o u a) ∙ rw w (tr b h);
+settles-ok G n l s o f w q good tr a = record {
+  good = good;
+  ok = record {
+    effect = record { row = λ e f. rw q; new = λ e h z. inl (rw q); one-new = λ e k x y. absurd (x .changed (rw q)); dat = λ b k e h m f. rw q };
+    keeps = λ z. absurd (z a w);
+    frame = same-frame G (l .drive .image) (o .lent .drive .image) (names n (s .user) (l .fcb)) (MayWrite G n l s o) q;
+    map-length = good .map-long ∙ sym (f .map-long);
+    book = λ u t b h. ap (λ (v : Book). v b) (accepted-book G n l s o u a) ∙ rw w (tr b h);
+  };
 }
 
 -- ---- naming
@@ -186,21 +208,20 @@ module _ {G : Geometry} (S : Sound G) (l : Lent) (s : Session) (f : Fits G l s) 
       (erased-change S (deletes G s l) (l .drive .image) (l .drive .map) g (λ e h n. named-used true (s .user) (l .fcb) 1 (rowsOf G l e) n (f .user-low)) WritesNone)
 
   -- 22
-  created-carries : (n : ℕ) → kindOf n ≡ Create → Makes G l s → GoodOutcome G (created G s l) → Carries G n l s (created G s l)
-  unfolding created createdAt bookBy usesFcb wild
-  created-carries n q m good =
+  created-carries : (n : ℕ) → kindOf n ≡ Create → Makes G l s → Carries G n l s (created G s l)
+  unfolding created createdAt askedEntry bookBy usesFcb wild
+  created-carries n q m =
       let t : ℕ = m .entry .place in
       let row : Bytes = madeRow (s .user) (l .fcb) in
       let found = empty-says G (rowsOf G l) t (m .entry .is) in
       let k = at-kind Named Create n refl (record { uses = refl; plain = refl } & tt) q in
-      by-name n (created G s l) asItWas (k .uses) (k .plain) (λ u. rw q)
-      (subst (λ (o : Outcome). Change G (byName (s .user) (l .fcb)) WritesNone asItWas (l .drive .image) (l .drive .map) (o .lent .drive .image) (o .lent .drive .map)) (sym (at t (m .entry .is)))
-      (made-change S (byName (s .user) (l .fcb)) (l .drive .image) (l .drive .map) g t (found .below) (found .holds) row (length-madeRow (s .user) (l .fcb))
-      (named-intro false (s .user) (l .fcb) 1 row (user-made (s .user) (l .fcb)) (like-intro (l .fcb) 1 row 1 (λ i h. sym (name-made (s .user) (l .fcb) i h))))
-      (subst (GoodOutcome G) (at t (m .entry .is)) good) WritesNone))
-    where
-      at : (t : ℕ) → findEmpty G (rowsOf G l) ≡ At t → created G s l ≡ createdAt G s l t
-      at t q = rw q
+      let nm = named-intro false (s .user) (l .fcb) 1 row (user-made (s .user) (l .fcb)) (like-intro (l .fcb) 1 row 1 (λ i h. sym (name-made (s .user) (l .fcb) i h))) in
+      rw (m .entry .is)
+      (by-name n (createdAt G s l t) asItWas (k .uses) (k .plain) (λ u. rw q)
+      (made-change S (byName (s .user) (l .fcb)) (l .drive .image) (l .drive .map) g t (found .below) (found .holds) row (length-madeRow (s .user) (l .fcb)) nm
+      (fine-made G (s .user) (l .fcb) (f .user-low) (m .name) (m .ex)) (λ j h. slot-made (s .user) (l .fcb) G j) (s .user) (l .fcb) 1 (exOf (l .fcb))
+      (file-intro G (s .user) (l .fcb) 1 (exOf (l .fcb)) row nm (ap (runOf G) (extent-made (s .user) (l .fcb))))
+      (no-file-says G (rowsOf G l) (s .user) (l .fcb) 1 (exOf (l .fcb)) (m .new)) WritesNone))
 
   -- 23
   renamed-carries : (n : ℕ) → kindOf n ≡ Rename → Renames G l s → Carries G n l s (renamed G s l)
@@ -224,7 +245,7 @@ module _ {G : Geometry} (S : Sound G) (l : Lent) (s : Session) (f : Fits G l s) 
   carried asked c Settle q z a = clash z
   carried asked c Close q z a = closed-carries (asked .number) q (closes-of G asked l s (c .none) q)
   carried asked c Delete q z a = deleted-carries (asked .number) q
-  carried asked c Create q z a = let m = makes-of G asked l s (c .none) q in created-carries (asked .number) q m (carried-good S l s f g asked c Create q)
+  carried asked c Create q z a = created-carries (asked .number) q (makes-of G asked l s (c .none) q)
   carried asked c Rename q z a = renamed-carries (asked .number) q (renames-of G asked l s (c .none) q)
   carried asked c Read q z a = read-carries (asked .number) q (reads-ok S (asked .number) l s g f (reads-of G asked l s (c .none) (c .ready .image-right) (f .user-low) q))
   carried asked c Write q z a = written-carries (asked .number) q a (written-ok S (asked .number) l s g f (writes-by G asked l s (c .none) q))
@@ -238,40 +259,61 @@ freed-settles : (G : Geometry) (l : Lent) (s : Session) → Tracks G nothingHeld
 unfolding freed
 freed-settles G l s = freed-tracks G (noteAt (l .drive .map)) (noteAt (freedMap G (l .drive .map))) (freed-at G (l .drive .map))
 
-settles : (G : Geometry) (asked : Asked) (l : Lent) (s : Session) → kindOf (asked .number) ≡ Settle
-    → acceptedAnswer (asked .number) (settled G asked l s .answer) ≡ true → StepOk G (asked .number) l s (settled G asked l s)
+-- image and map of a call that was carried out were good before, unless it is 13
+pub ready-good : {G : Geometry} {asked : Asked} {l : Lent} {s : Session} → Ready G asked l s → (asked .number ≡ 13 → ⊥) → Good G (l .drive .image) (l .drive .map)
+ready-good {G} {asked} {l} {s} r q = good-of G (l .drive .image) (l .drive .map) (r .fits .image-long) (r .fits .map-long) (r .image-right) (r .map-right q)
+
+settles : (G : Geometry) (asked : Asked) (l : Lent) (s : Session) → Ready G asked l s → kindOf (asked .number) ≡ Settle
+    → acceptedAnswer (asked .number) (settled G asked l s .answer) ≡ true → CarriedOk G (asked .number) l s (settled G asked l s)
 unfolding settled loggedIn freed
-settles G asked l s q a =
-    settles-ok G (asked .number) l s (settled G asked l s) a q
-    (split (bool-cases (eqb (asked .number) 13)) (λ t. rw t) (λ t. rw t))
-    (split (bool-cases (eqb (asked .number) 13)) (λ t. rw t (logged-in-tracks G l s)) (λ t. rw t (freed-settles G l s)))
+settles G asked l s r q =
+    split (eq-or-ne (asked .number) 13)
+    (λ e. rw (eq-eqb (asked .number) 13 e)
+    (settles-ok G (asked .number) l s (loggedIn G s l) (r .fits) q refl (good-fresh G (l .drive .image) (r .fits .image-long) (r .image-right)) (logged-in-tracks G l s)))
+    (λ e. rw (ne-eqb (asked .number) 13 e)
+    (settles-ok G (asked .number) l s (freed G s l) (r .fits) q refl (good-freed G (l .drive .image) (l .drive .map) (ready-good r e)) (freed-settles G l s)))
 
 -- ---- every call
 not-login : (n : ℕ) (k : Kind) → kindOf n ≡ k → same k Settle ≡ false → n ≡ 13 → ⊥
 unfolding kindOf
 not-login n k q z e = not-both (same k Settle) (ap (λ (j : Kind). same j Settle) (sym q ∙ ap kindOf e)) z
 
--- image and map of a call that was carried out were good before, unless it is 13
-pub ready-good : {G : Geometry} {asked : Asked} {l : Lent} {s : Session} → Ready G asked l s → (asked .number ≡ 13 → ⊥) → Good G (l .drive .image) (l .drive .map)
-ready-good {G} {asked} {l} {s} r q = good-of G (l .drive .image) (l .drive .map) (r .fits .image-long) (r .fits .map-long) (r .image-right) (r .map-right q)
-
 module _ {G : Geometry} (S : Sound G) (asked : Asked) (l : Lent) (s : Session) where
-  pub carried-ok : CarriedOut G asked l s → StepOk G (asked .number) l s (step G asked l s)
+  -- a call of this kind, where its answer says that it was accepted
+  abbrev CarriedBy : Kind → Type 0
+  CarriedBy k = acceptedAnswer (asked .number) (does G asked l s k .answer) ≡ true → CarriedOk G (asked .number) l s (does G asked l s k)
+
+  carried-ok : CarriedOut G asked l s → CarriedOk G (asked .number) l s (step G asked l s)
   unfolding effect
   carried-ok c =
-      subst (StepOk G (asked .number) l s) (sym (c .is))
+      subst (CarriedOk G (asked .number) l s) (sym (c .is))
       (go (kindOf (asked .number)) refl (ap (λ (o : Outcome). acceptedAnswer (asked .number) (o .answer)) (sym (c .is)) ∙ carried-says G asked l s c))
     where
-      go : (k : Kind) → kindOf (asked .number) ≡ k → acceptedAnswer (asked .number) (does G asked l s k .answer) ≡ true
-          → StepOk G (asked .number) l s (does G asked l s k)
+      go : (k : Kind) → kindOf (asked .number) ≡ k → CarriedBy k
       go k q a =
-          split (bool-cases (same k Settle)) (λ z. let e = same-is k Settle z in
-          subst (λ (j : Kind). acceptedAnswer (asked .number) (does G asked l s j .answer) ≡ true → StepOk G (asked .number) l s (does G asked l s j)) (sym e) (settles G asked l s (q ∙ e)) a)
-          (λ z. carries-ok G (asked .number) l s (does G asked l s k) a
-          (carried S l s (c .facts .ready .fits) (ready-good (c .facts .ready) (not-login (asked .number) k q z)) asked (c .facts) k q z a))
+          let ready = c .facts .ready in
+          split (bool-cases (same k Settle)) (λ z. let e = same-is k Settle z in subst CarriedBy (sym e) (settles G asked l s ready (q ∙ e)) a)
+          (λ z. carries-ok G (asked .number) l s (does G asked l s k) (ready .fits) a
+          (carried S l s (ready .fits) (ready-good ready (not-login (asked .number) k q z)) asked (c .facts) k q z a))
 
   pub step-ok : StepOk G (asked .number) l s (step G asked l s)
   step-ok =
       split (total G asked l s)
       (λ r. refused-ok G (asked .number) l s (step G asked l s) (r .1 .kept) (refused-says G asked l s (r .0) (r .1)))
-      (λ c. carried-ok c)
+      (λ c. carried-ok c .ok)
+
+  -- ---- image and map stay good, and are good after every call that was carried out, since the table has looked
+  pub step-accepted : CarriedOut G asked l s → GoodOutcome G (step G asked l s)
+  step-accepted c = carried-ok c .good
+
+  pub step-good : Good G (l .drive .image) (l .drive .map) → GoodOutcome G (step G asked l s)
+  step-good g = split (total G asked l s) (λ r. subst (λ (t : Lent). Good G (t .drive .image) (t .drive .map)) (sym (r .1 .kept)) g) (λ c. step-accepted c)
+
+-- they are never refused with 255, 1
+pub good-never-one : (G : Geometry) (asked : Asked) (l : Lent) (s : Session) → Good G (l .drive .image) (l .drive .map) → step G asked l s .answer .h ≡ 1 → ⊥
+unfolding verdict
+good-never-one G asked l s g q =
+    split (total G asked l s)
+    (λ r. never-bad-disk G asked l s (r .0) (sym (r .1 .is-h) ∙ q) (good-consistent G (l .drive .image) (l .drive .map) g) (good-right G (l .drive .image) (l .drive .map) g)
+    (decides-refused (r .0) (table G asked l s) (r .1 .row)))
+    (λ c. let z : 0 ≡ 1 = sym (c .done .no-error) ∙ q in omega arith)

@@ -1,11 +1,10 @@
 -- For those who build above the calls: the FCB handed back by an accepted 16, 20, 21, 33 or 34 is current under the session handed back,
 -- and so is that of an accepted 15 or 22 whose cr is at most 128.
-use mathlib.Core.Path.{_≡_, refl, sym, _∙_, subst}
+use mathlib.Core.Path.{_≡_, refl, sym, subst}
 use mathlib.Core.Bool.{true, false}
 use mathlib.Core.List.{List, [], _∷_}
 use Prim.Native.Nat.{ℕ, _≤_}
 use native.Mathlib.Omega.{arith}
-use Rattle.lists.specs.Tests.{_or_}
 use Rattle.format.specs.Diskette.{Bytes, Geometry, Sound}
 use Rattle.format.specs.Entries.{entryAt, exOf}
 use Rattle.format.specs.Fcb.{crOf, current}
@@ -33,7 +32,6 @@ use Rattle.table.specs.Accept.{opens-of, closes-of, makes-of, reads-of, writes-
 use Rattle.table.specs.Facts.{Fits, Opens, Closes, Makes, Reads, Writes, AcceptedCall}
 use Rattle.model.specs.Step.{told, effect}
 use Rattle.invariant.specs.Good.{Good}
-use Rattle.invariant.specs.Step.{step-accepted}
 use Rattle.effects.specs.View.{viewOf}
 use Rattle.effects.specs.Cur.{Cur, cur-current}
 use Rattle.effects.specs.Where.{WritesNone}
@@ -41,7 +39,7 @@ use Rattle.effects.specs.Entered.{entered-cur, copied-cur, closed-cur}
 use Rattle.effects.specs.Came.{present-cur}
 use Rattle.effects.specs.Write.{written-ok, reads-ok}
 use Rattle.demands.specs.Accepted.{accepted-carried}
-use Rattle.demands.specs.StepOk.{ready-good}
+use Rattle.demands.specs.StepOk.{ready-good, step-accepted}
 use Rattle.demands.specs.Runs.{Request, Disk, lentTo, outcomeOf, accepts, after}
 use Rattle.demands.specs.ReadBack.{user-stays}
 

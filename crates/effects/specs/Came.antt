@@ -1,6 +1,7 @@
 -- A record call comes to the target's extent: it stays, moves to an entry, or makes one. Wherever it came to, the change so far is by
 -- the name of the FCB, and the FCB is current there.
 use mathlib.Core.Path.{_≡_, refl, ap, sym, _∙_}
+use mathlib.Core.Logic.{inl}
 use mathlib.Core.Bool.{true, false}
 use Prim.Native.Nat.{ℕ, _≤_, _<_}
 use native.Mathlib.Omega.{arith}
@@ -11,11 +12,11 @@ use Rattle.format.specs.Notes.{freeNote, noteAt}
 use Rattle.format.specs.Found.{numberOf}
 use Rattle.format.specs.Fcb.{fcbBytes}
 use Rattle.format.specs.declared.Found.the-variants.{At, Nothing}
-use Rattle.facts.specs.Names.{like-at}
+use Rattle.facts.specs.Names.{like-at, like-trans, like-intro}
 use Rattle.consistency.specs.Facts.{Fine, SameFile}
 use Rattle.consistency.specs.Reflect.{empty-elsewhere}
 use Rattle.rows.specs.Entries.{length-entryAt}
-use Rattle.facts.specs.Find.{empty-says}
+use Rattle.facts.specs.Find.{no-file-says, empty-says}
 use Rattle.model.specs.declared.Session.{Session}
 use Rattle.model.specs.Lent.{Lent, rowsOf}
 use Rattle.model.specs.Closing.{closedImage, closedMap}
@@ -24,16 +25,17 @@ use Rattle.model.specs.Target.{targetExtent, targetSlot, presentEntry, stays, w
 use Rattle.lists.specs.Cases.{split, bool-cases}
 use Rattle.fields.specs.Agree.{SameName, isFile-cong}
 use Rattle.fields.specs.Fine.{fine-next}
-use Rattle.fields.specs.Making.{length-nextRow, slot-next, user-next, extent-next}
+use Rattle.fields.specs.Making.{length-nextRow, slot-next, user-next, name-next, extent-next}
 use Rattle.fields.specs.Entering.{length-entered, slot-entered, first-entered, name-entered, extent-entered}
-use Rattle.facts.specs.Naming.{named-like, file-named, file-user, file-run}
+use Rattle.facts.specs.Naming.{named-intro, named-like, file-intro, file-named, file-user, file-like, file-run}
 use Rattle.fields.specs.Target.{stays-extent}
 use Rattle.table.specs.Facts.{Fits}
 use Rattle.invariant.specs.Good.{Good}
 use Rattle.invariant.specs.CloseGood.{closed-free, closed-file}
 use Rattle.table.specs.Present.{stay-block, within-block, beyond-block, make-block}
-use Rattle.invariant.specs.RecordCalls.{present-current, move-block, arrived-used, slot-below, target-file, target-below, target-used, next-file, good-next}
+use Rattle.invariant.specs.RecordCalls.{present-current, move-block, arrived-used, slot-below, target-file, target-below, target-used}
 use Rattle.effects.specs.View.{viewOf, listed}
+use Rattle.effects.specs.Effect.{NoneNew}
 use Rattle.effects.specs.Cur.{Cur, current-cur, cur-uses, cur-mine}
 use Rattle.effects.specs.Where.{Theirs, was-theirs}
 use Rattle.effects.specs.Book.{Book, settledBy, entryBefore, closedBook, movedBook}
@@ -220,9 +222,19 @@ module _ {G : Geometry} (S : Sound G) (n : ℕ) (l : Lent) (s : Session) (g : Go
     unfolding next
     next-extent = extent-next (rowsOf G l e) (targetExtent n (l .fcb)) long
 
-    next-named : byName (s .user) (l .fcb) next ≡ true
+    -- and stands for the target's extent, which no entry has
+    next-file : isFile G (s .user) (l .fcb) 1 (targetExtent n (l .fcb)) next ≡ true
     unfolding next
-    next-named = file-named G (s .user) (l .fcb) 1 (targetExtent n (l .fcb)) next (next-file S n l s g f e at t room none low)
+    next-file =
+        let ext : ℕ = targetExtent n (l .fcb) in
+        file-intro G (s .user) (l .fcb) 1 ext next
+        (named-intro false (s .user) (l .fcb) 1 next next-user
+        (like-trans (l .fcb) 1 (rowsOf G l e) 1 next 1 (file-like G (s .user) (l .fcb) 1 (extentOf (l .fcb)) (rowsOf G l e) (present-cur .file))
+        (like-intro (rowsOf G l e) 1 next 1 (λ i b. sym (name-next (rowsOf G l e) ext long i b)))))
+        (ap (runOf G) next-extent)
+
+    next-named : byName (s .user) (l .fcb) next ≡ true
+    next-named = file-named G (s .user) (l .fcb) 1 (targetExtent n (l .fcb)) next next-file
 
     next-fine : Fine G next
     unfolding next
@@ -243,6 +255,13 @@ module _ {G : Geometry} (S : Sound G) (n : ℕ) (l : Lent) (s : Session) (g : Go
         ap empty (row-closedImage-other S (l .drive .image) (g .image-long) e (present-cur .low) (l .fcb) t room-below elsewhere)
         ∙ empty-says G (rowsOf G l) t room .holds
 
+    next-alone : (k : ℕ) → k < G .entries → isFile G (s .user) (l .fcb) 1 (targetExtent n (l .fcb)) (entryAt G mid k) ≡ false
+    unfolding mid targetEntry
+    next-alone k h =
+        isFile-cong G (s .user) (l .fcb) 1 (targetExtent n (l .fcb)) (entryAt G (closedImage G (l .drive .image) e (l .fcb)) k) (rowsOf G l k)
+        (closed-file S (l .drive .image) (l .drive .map) g (s .user) (f .user-low) (l .fcb) e (present-current S n l s g f e at) k h)
+        ∙ no-file-says G (rowsOf G l) (s .user) (l .fcb) 1 (targetExtent n (l .fcb)) none k h
+
     new : Bytes
     new = withEntry G mid t next
 
@@ -250,20 +269,24 @@ module _ {G : Geometry} (S : Sound G) (n : ℕ) (l : Lent) (s : Session) (g : Go
     unfolding mid mid-map
     mid-good = closed-by .good
 
-    new-good : Good G new mid-map
-    unfolding new next mid mid-map made
-    new-good = good-next S n l s g f e at t room none low
-
     next-here : entryAt G new t ≡ next
     unfolding new
     next-here = made-here S (byName (s .user) (l .fcb)) mid mid-map mid-good t room-below void next whole next-named
 
+    -- the close makes no entry: only the FCB's own changes, which is used
+    closed-none : NoneNew G (viewOf G (l .drive .image) (l .drive .map)) (viewOf G mid mid-map)
+    unfolding mid
+    closed-none k h z =
+        row-closedImage-other S (l .drive .image) (g .image-long) e (present-cur .low) (l .fcb) k h
+        (empty-elsewhere (rowsOf G l) k e z (cur-uses G (viewOf G (l .drive .image) (l .drive .map)) (s .user) (f .user-low) (l .fcb) e present-cur))
+
     closed-then-made : Change G (byName (s .user) (l .fcb)) W (settledBy G (rowsOf G l e) (l .fcb)) (l .drive .image) (l .drive .map) new mid-map
-    unfolding mid mid-map new
+    unfolding mid mid-map new next
     closed-then-made =
         then-change G (byName (s .user) (l .fcb)) W (settledBy G (rowsOf G l e) (l .fcb)) asItWas (l .drive .image) (l .drive .map) mid mid-map new mid-map (g .inv .dir) closed-by
-        (made-change S (byName (s .user) (l .fcb)) mid mid-map mid-good t room-below void next whole next-named new-good W)
-        (made-names-stay S (byName (s .user) (l .fcb)) mid mid-map mid-good t room-below void next whole next-named)
+        (made-change S (byName (s .user) (l .fcb)) mid mid-map mid-good t room-below void next whole next-named next-fine
+        (λ j h. slot-next (rowsOf G l e) (targetExtent n (l .fcb)) long G j) (s .user) (l .fcb) 1 (targetExtent n (l .fcb)) next-file next-alone W)
+        (made-names-stay S (byName (s .user) (l .fcb)) mid mid-map mid-good t room-below void next whole next-named) (inl closed-none)
 
     make-slot : blockThere G n (s .user) l ≡ 0
     make-slot = make-block G n (s .user) l e at none

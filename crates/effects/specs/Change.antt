@@ -1,7 +1,7 @@
 -- One change of an image and a map by a call that names N: what it may do, byte by byte too, that it leaves both good, and what the book
--- becomes. Changes follow one another.
+-- becomes. Changes follow one another, where one of the two makes no entry.
 use mathlib.Core.Path.{_≡_, refl, ap, sym, _∙_}
-use mathlib.Core.Logic.{inl, inr}
+use mathlib.Core.Logic.{_⊎_, inl, inr}
 use mathlib.Core.Bool.{true, false}
 use Prim.Native.Nat.{ℕ, _<_}
 use Rattle.lists.specs.Cases.{split, bool-cases, not-both}
@@ -12,8 +12,8 @@ use Rattle.consistency.specs.Facts.{Consistent}
 use Rattle.consistency.specs.Reflect.{used-full}
 use Rattle.invariant.specs.Good.{Good}
 use Rattle.effects.specs.View.{viewOf, Names}
-use Rattle.effects.specs.Effect.{Effect, Keeps, NamesStay, nothing-done, nothing-kept, then-effect, then-keeps, more-effect, more-keeps}
-use Rattle.effects.specs.Where.{Where, in-entry, in-new, in-record, Frame, frame-more}
+use Rattle.effects.specs.Effect.{Effect, Keeps, NamesStay, NoneNew, nothing-done, nothing-kept, then-effect, then-keeps, more-effect, more-keeps}
+use Rattle.effects.specs.Where.{Where, in-entry, in-new, in-record, Bytewise, frame-more}
 use Rattle.effects.specs.Book.{Book}
 use Rattle.effects.specs.Tracks.{Tracks}
 
@@ -21,7 +21,7 @@ use Rattle.effects.specs.Tracks.{Tracks}
 pub record Change (G : Geometry) (N : Names) (W : ℕ → Type 0) (B : Book → Book) (img map img′ map′ : Bytes) : Type 0 where
   pub effect : Effect G (viewOf G img map) (viewOf G img′ map′) N
   pub keeps : Keeps G (viewOf G img map) (viewOf G img′ map′) N
-  pub frame : Frame G img img′ N W
+  pub frame : Bytewise G img img′ N W
   pub good : Good G img′ map′
   pub book : (u : Book) → Tracks G u (noteAt map) → Tracks G (B u) (noteAt map′)
 
@@ -77,9 +77,11 @@ module _ (G : Geometry) (N : Names) (img map mid mid-map img′ : Bytes) (c : Co
 
 module _ (G : Geometry) (N : Names) (W : ℕ → Type 0) (B C : Book → Book) (img map mid mid-map img′ map′ : Bytes) where
   pub then-change : Consistent G (entryAt G img) → Change G N W B img map mid mid-map → Change G N W C mid mid-map img′ map′
-      → NamesStay G (viewOf G mid mid-map) (viewOf G img′ map′) N → Change G N W (λ (u : Book). C (B u)) img map img′ map′
-  then-change c a b stay = record {
-    effect = then-effect G (viewOf G img map) (viewOf G mid mid-map) N (a .effect) (a .keeps) (viewOf G img′ map′) (b .effect) stay;
+      → NamesStay G (viewOf G mid mid-map) (viewOf G img′ map′) N
+      → NoneNew G (viewOf G img map) (viewOf G mid mid-map) ⊎ NoneNew G (viewOf G mid mid-map) (viewOf G img′ map′)
+      → Change G N W (λ (u : Book). C (B u)) img map img′ map′
+  then-change c a b stay made = record {
+    effect = then-effect G (viewOf G img map) (viewOf G mid mid-map) N (a .effect) (a .keeps) (viewOf G img′ map′) (b .effect) stay made;
     keeps = then-keeps G (viewOf G img map) (viewOf G mid mid-map) N (a .effect) (a .keeps) (viewOf G img′ map′) (b .keeps);
     frame = λ i. split (b .frame i)
         (λ q. split (a .frame i) (λ p. inl (q ∙ p)) (λ p. inr (where-after G N img map mid mid-map img′ c (a .effect) W stay i p)))

@@ -9,7 +9,7 @@ use Rattle.format.specs.Entries.{slotOf, empty, used}
 use Rattle.format.specs.Notes.{pendingFor}
 use Rattle.disk.specs.Places.{blockRecords, block-record}
 use Rattle.rows.specs.Entries.{areaRecords, block-past}
-use Rattle.effects.specs.View.{View, Right, Names, Mine, listed, pending, mine-low, mine-high}
+use Rattle.effects.specs.View.{View, Right, Names, NewRow, Mine, listed, pending, mine-low, mine-high}
 
 -- a used entry that the call does not name
 pub record Foreign (G : Geometry) (s : View) (N : Names) (e : ℕ) : Type 0 where
@@ -17,11 +17,12 @@ pub record Foreign (G : Geometry) (s : View) (N : Names) (e : ℕ) : Type 0 wher
   pub uses : used (s .rows e) ≡ true
   pub other : N (s .rows e) ≡ false
 
--- from s to t, by a call that names N: other entries stay, an empty entry stays or becomes theirs, and so do the records of the
--- blocks of other entries
+-- from s to t, by a call that names N: other entries stay, and so do the records of the blocks of other entries; an empty entry stays or
+-- becomes theirs, and at most one does
 pub record Effect (G : Geometry) (s t : View) (N : Names) : Type 0 where
   pub row : (e : ℕ) → Foreign G s N e → t .rows e ≡ s .rows e
   pub new : (e : ℕ) → e < G .entries → empty (s .rows e) ≡ true → (t .rows e ≡ s .rows e) ⊎ (N (t .rows e) ≡ true)
+  pub one-new : (e k : ℕ) → NewRow G (s .rows) (t .rows) e → NewRow G (s .rows) (t .rows) k → e ≡ k
   pub dat : (b k e : ℕ) → k < G .perBlock → Mine G s b e → Foreign G s N e → t .recs (diskRecord G b k) ≡ s .recs (diskRecord G b k)
 
 -- what is pending for other entries stays so: not after 13 and 98
@@ -32,9 +33,16 @@ Keeps G s t N = (b e j : ℕ) → b < G .blocks → j < slotCount → Foreign G 
 abbrev pub NamesStay : Geometry → View → View → Names → Type 0
 NamesStay G s t N = (e : ℕ) → e < G .entries → N (s .rows e) ≡ true → N (t .rows e) ≡ true
 
+-- no empty entry changes
+abbrev pub NoneNew : Geometry → View → View → Type 0
+NoneNew G s t = (e : ℕ) → e < G .entries → empty (s .rows e) ≡ true → t .rows e ≡ s .rows e
+
+pub none-one : (G : Geometry) (s t : View) → NoneNew G s t → (e k : ℕ) → NewRow G (s .rows) (t .rows) e → NewRow G (s .rows) (t .rows) k → e ≡ k
+none-one G s t none e k a b = absurd (a .changed (none e (a .low) (a .was)))
+
 -- ---- nothing done
 pub nothing-done : (G : Geometry) (s : View) (N : Names) → Effect G s s N
-nothing-done G s N = record { row = λ e f. refl; new = λ e l z. inl refl; dat = λ b k e l m f. refl }
+nothing-done G s N = record { row = λ e f. refl; new = λ e l z. inl refl; one-new = none-one G s s (λ e l z. refl); dat = λ b k e l m f. refl }
 
 pub notes-stay : (G : Geometry) (s t : View) (N : Names) → ((b : ℕ) → b < G .blocks → t .notes b ≡ s .notes b) → Keeps G s t N
 unfolding Keeps
@@ -68,12 +76,24 @@ module _ (G : Geometry) (s t : View) (N : Names) (w : Effect G s t N) where
     unfolding Keeps
     then-keeps u kq b e j l h f q = kq b e j l h (foreign-on e f) (kp b e j l h f q)
 
-    pub then-effect : (u : View) → Effect G t u N → NamesStay G t u N → Effect G s u N
-    then-effect u x stay = record {
+    -- what changed from s to u did so in the one step of the two that makes an entry
+    then-new : (u : View) → Effect G t u N → NoneNew G s t ⊎ NoneNew G t u → (e k : ℕ) → NewRow G (s .rows) (u .rows) e → NewRow G (s .rows) (u .rows) k → e ≡ k
+    then-new u x (inl none) e k a b = x .one-new e k (on e a) (on k b)
+      where
+        on : (i : ℕ) → NewRow G (s .rows) (u .rows) i → NewRow G (t .rows) (u .rows) i
+        on i c = let q = none i (c .low) (c .was) in record { low = c .low; was = ap empty q ∙ c .was; changed = λ p. c .changed (p ∙ q) }
+    then-new u x (inr none) e k a b = w .one-new e k (back e a) (back k b)
+      where
+        back : (i : ℕ) → NewRow G (s .rows) (u .rows) i → NewRow G (s .rows) (t .rows) i
+        back i c = record { low = c .low; was = c .was; changed = λ q. c .changed (none i (c .low) (ap empty q ∙ c .was) ∙ q) }
+
+    pub then-effect : (u : View) → Effect G t u N → NamesStay G t u N → NoneNew G s t ⊎ NoneNew G t u → Effect G s u N
+    then-effect u x stay made = record {
       row = λ e f. x .row e (foreign-on e f) ∙ w .row e f;
       new = λ e l z. split (w .new e l z)
           (λ q. split (x .new e l (ap empty q ∙ z)) (λ p. inl (p ∙ q)) (λ p. inr p))
           (λ q. inr (stay e l q));
+      one-new = then-new u x made;
       dat = λ b k e l m f. x .dat b k e l (mine-on b e f m) (foreign-on e f) ∙ w .dat b k e l m f;
     }
 
@@ -90,6 +110,7 @@ module _ (G : Geometry) (s t : View) (M N : Names) (more : (r : Bytes) → M r �
   more-effect w = record {
     row = λ e f. w .row e (less-foreign e f);
     new = λ e l z. split (w .new e l z) (λ q. inl q) (λ q. inr (more (t .rows e) q));
+    one-new = w .one-new;
     dat = λ b k e l m f. w .dat b k e l m (less-foreign e f);
   }
 

@@ -13,7 +13,7 @@ use Rattle.lists.specs.Tests.{_and_, and-left, and-right, and-both}
 use Rattle.lists.specs.Below.{anyBelow, any-some, any-never}
 use Rattle.format.specs.Diskette.{Bytes, Geometry, Sound, entryBytes, slotCount}
 use Rattle.format.specs.Names.{nameRight}
-use Rattle.format.specs.Entries.{entryAt, withEntry, entryPlace, empty, named}
+use Rattle.format.specs.Entries.{entryAt, withEntry, entryPlace, slotOf, empty, named, isFile}
 use Rattle.format.specs.Notes.{freeNote, areaNote, recordedNote, noteAt, pendingFor, releasedNote, releasedMap}
 use Rattle.freeing.specs.Laws.{released-at}
 use Rattle.notes.specs.Numbers.{pending-not}
@@ -23,15 +23,16 @@ use Rattle.model.specs.Calls.{changedRows, erasedRow}
 use Rattle.model.specs.Entering.{renamedRow}
 use Rattle.fields.specs.Changing.{row-unpicked, record-changedRows, byte-changedRows, length-erasedRow}
 use Rattle.fields.specs.Making.{length-renamedRow}
+use Rattle.consistency.specs.Facts.{Fine}
 use Rattle.consistency.specs.Naming.{named-used}
 use Rattle.invariant.specs.Change.{released-kept}
 use Rattle.invariant.specs.Good.{Good}
-use Rattle.invariant.specs.Updates.{good-erased, good-renamed}
+use Rattle.invariant.specs.Updates.{good-made, good-erased, good-renamed}
 use Rattle.facts.specs.Slots.{slot-place}
 use Rattle.effects.specs.View.{viewOf, Names}
 use Rattle.effects.specs.Effect.{Effect, RecsStay, NamesStay, notes-stay}
 use Rattle.effects.specs.Steps.{NamesUsed, named-effect, made-effect, made-stay, keeps-by, held-named}
-use Rattle.effects.specs.Where.{in-entry, in-new, Frame, entry-or-same}
+use Rattle.effects.specs.Where.{in-entry, in-new, Bytewise, entry-or-same}
 use Rattle.effects.specs.Book.{droppedFor}
 use Rattle.effects.specs.Tracks.{spare-unpicked, erased-tracks}
 use Rattle.effects.specs.Change.{Change, asItWas}
@@ -64,7 +65,7 @@ module _ {G : Geometry} (S : Sound G) (picks : Names) (change : Bytes → Bytes)
       (λ h. split (lt-or-le i (entryPlace G e + entryBytes))
       (λ w. not-both (hit i e) (and-both _ _ p (and-both _ _ (le-leb _ _ h) (lt-ltb _ _ w))) f) (λ w. inr w))
 
-  pub picked-frame : (W : ℕ → Type 0) → Frame G img (changedRows G picks change img) picks W
+  pub picked-frame : (W : ℕ → Type 0) → Bytewise G img (changedRows G picks change img) picks W
   unfolding hit
   picked-frame W i =
       split (bool-cases (anyBelow (hit i) (G .entries)))
@@ -143,11 +144,13 @@ module _ {G : Geometry} (S : Sound G) (N : Names) (img map : Bytes) (g : Good G 
   pub made-names-stay : NamesStay G (viewOf G img map) (viewOf G (withEntry G img t row) map) N
   made-names-stay = made-stay G (viewOf G img map) (viewOf G (withEntry G img t row) map) N (g .inv) made-recs t made-there void made-named
 
-  pub made-change : Good G (withEntry G img t row) map → (W : ℕ → Type 0) → Change G N W asItWas img map (withEntry G img t row) map
-  made-change good W = record {
+  -- the row is fine and without blocks, of a file and extent that no entry has
+  pub made-change : Fine G row → ((j : ℕ) → j < slotCount → slotOf G row j ≡ 0) → (user : ℕ) (s : Bytes) (q ext : ℕ) → isFile G user s q ext row ≡ true
+      → ((k : ℕ) → k < G .entries → isFile G user s q ext (entryAt G img k) ≡ false) → (W : ℕ → Type 0) → Change G N W asItWas img map (withEntry G img t row) map
+  made-change fine bare user s q ext is new W = record {
     effect = made-effect G (viewOf G img map) (viewOf G (withEntry G img t row) map) N (g .inv) made-recs t made-there void made-named;
     keeps = notes-stay G (viewOf G img map) (viewOf G (withEntry G img t row) map) N (λ b h. refl);
     frame = λ i. split (entry-or-same S img (g .image-long) t low row whole i) (λ q. inl q) (λ p. inr (in-new t p void made-named));
-    good = good;
+    good = good-made S img map g t low void row whole fine bare user s q ext is new;
     book = λ u tr. tr;
   }

@@ -13,8 +13,8 @@ use Rattle.consistency.specs.Reflect.{used-full, empty-elsewhere}
 use Rattle.notes.specs.Numbers.{pending-once, pending-not}
 use Rattle.disk.specs.Places.{blockRecords, block-once}
 use Rattle.rows.specs.Entries.{areaRecords}
-use Rattle.effects.specs.View.{View, Right, Names, Mine}
-use Rattle.effects.specs.Effect.{Foreign, Effect, Keeps, NamesStay, RecsStay, not-entry, mine-past, mine-below, recs-on}
+use Rattle.effects.specs.View.{View, Right, Names, NewRow, Mine}
+use Rattle.effects.specs.Effect.{Foreign, Effect, Keeps, NoneNew, none-one, NamesStay, RecsStay, not-entry, mine-past, mine-below, recs-on}
 
 -- ---- rows
 -- no empty entry is named
@@ -22,12 +22,16 @@ abbrev pub NamesUsed : Geometry → View → Names → Type 0
 NamesUsed G s N = (e : ℕ) → e < G .entries → N (s .rows e) ≡ true → used (s .rows e) ≡ true
 
 -- named entries change: those of a close, a delete, a rename
+pub named-none : (G : Geometry) (s t : View) (N : Names) → NamesUsed G s N → ((e : ℕ) → e < G .entries → N (s .rows e) ≡ false → t .rows e ≡ s .rows e) → NoneNew G s t
+named-none G s t N sure kept e l z =
+    kept e l (split (bool-cases (N (s .rows e))) (λ y. not-both (empty (s .rows e)) z (used-full (s .rows e) (sure e l y))) (λ y. y))
+
 module _ (G : Geometry) (s t : View) (N : Names) (v : Right G s) (recs : RecsStay G s t) where
   pub named-effect : NamesUsed G s N → ((e : ℕ) → e < G .entries → N (s .rows e) ≡ false → t .rows e ≡ s .rows e) → Effect G s t N
   named-effect sure kept = record {
     row = λ e f. kept e (f .low) (f .other);
-    new = λ e l z. inl (kept e l
-        (split (bool-cases (N (s .rows e))) (λ y. not-both (empty (s .rows e)) z (used-full (s .rows e) (sure e l y))) (λ y. y)));
+    new = λ e l z. inl (named-none G s t N sure kept e l z);
+    one-new = none-one G s t (named-none G s t N sure kept);
     dat = λ b k e l m f. recs-on G s v b k e l m t recs;
   }
 
@@ -42,8 +46,12 @@ module _ (G : Geometry) (s t : View) (N : Names) (v : Right G s) (recs : RecsSta
       made-effect = record {
         row = λ k f. there k (f .low) (λ q. empty-elsewhere (s .rows) e k void (f .uses) (sym q));
         new = λ k l z. split (eq-or-ne k e) (λ q. inr (ap (λ (x : ℕ). N (t .rows x)) q ∙ nm)) (λ q. inl (there k l q));
+        one-new = λ k f a b. made-here k a ∙ sym (made-here f b);
         dat = λ b k f l m g. recs-on G s v b k f l m t recs;
       }
+        where
+          made-here : (k : ℕ) → NewRow G (s .rows) (t .rows) k → k ≡ e
+          made-here k a = split (eq-or-ne k e) (λ q. q) (λ q. absurd (a .changed (there k (a .low) q)))
 
       pub made-stay : NamesStay G s t N
       made-stay k l h = split (eq-or-ne k e) (λ q. ap (λ (x : ℕ). N (t .rows x)) q ∙ nm) (λ q. ap N (there k l q) ∙ h)
@@ -64,6 +72,7 @@ module _ (G : Geometry) (s t : View) (N : Names) (v : Right G s) (b k : ℕ) (hk
   put-effect = record {
     row = λ e f. rows e (f .low);
     new = λ e l z. inl (rows e l);
+    one-new = none-one G s t (λ e l z. rows e l);
     dat = λ c i e l m f. recs (diskRecord G c i) (mine-past G s v c i e l m) (mine-below G s v c i e l m)
         (λ q. own e f (subst (λ (y : ℕ). Mine G s y e) (block-once G c i b k l hk q .0) m));
   }

@@ -1,11 +1,11 @@
 -- A disk seen as rows, notes and records; and whose a block is.
 use mathlib.Core.Path.{_≡_, sym, _∙_}
-use mathlib.Core.Bool.{Bool}
+use mathlib.Core.Bool.{Bool, true}
 use Prim.Native.Nat.{ℕ, _≤_, _<_}
 use native.Mathlib.Omega.{arith}
 use Rattle.lists.specs.Cases.{not-both}
 use Rattle.format.specs.Diskette.{Bytes, Geometry, recordAt, slotCount}
-use Rattle.format.specs.Entries.{Rows, entryAt}
+use Rattle.format.specs.Entries.{Rows, entryAt, empty}
 use Rattle.format.specs.Notes.{freeNote, noteAt, pendingFor}
 use Rattle.consistency.specs.Facts.{Stands}
 use Rattle.consistency.specs.Listed.{somewhere-listed}
@@ -30,6 +30,12 @@ Right G s = Inv G (s .rows) (s .notes)
 -- the rows that a call names: a test of a row
 abbrev pub Names : Type 0
 Names = Bytes → Bool
+
+-- an empty entry that has changed
+pub record NewRow (G : Geometry) (d d′ : Rows) (e : ℕ) : Type 0 where
+  pub low : e < G .entries
+  pub was : empty (d e) ≡ true
+  pub changed : d′ e ≡ d e → ⊥
 
 -- block b is entry e's: listed there, or pending for it
 pub data Mine (G : Geometry) (s : View) (b e : ℕ) : Type 0 where

@@ -12,7 +12,7 @@ use Rattle.disk.specs.Places.{blockRecords}
 use Rattle.disk.specs.Records.{record-byte-left}
 use Rattle.rows.specs.Entries.{entry-byte-left}
 use Rattle.model.specs.Target.{placeIn}
-use Rattle.effects.specs.View.{viewOf, Names, Mine}
+use Rattle.effects.specs.View.{viewOf, Names, NewRow, Mine}
 
 -- byte i lies in entry e, or in disk record d
 pub record InEntry (G : Geometry) (e i : ℕ) : Type 0 where
@@ -31,8 +31,18 @@ pub data Where (G : Geometry) (img img′ : Bytes) (N : Names) (W : ℕ → Type
   in-record : (d : ℕ) → InRecord G d i → W d → Where G img img′ N W i
 
 -- each byte stays, or lies there
-abbrev pub Frame : Geometry → Bytes → Bytes → Names → (ℕ → Type 0) → Type 0
-Frame G img img′ N W = (i : ℕ) → (getD img′ i 0 ≡ getD img i 0) ⊎ Where G img img′ N W i
+abbrev pub Bytewise : Geometry → Bytes → Bytes → Names → (ℕ → Type 0) → Type 0
+Bytewise G img img′ N W = (i : ℕ) → (getD img′ i 0 ≡ getD img i 0) ⊎ Where G img img′ N W i
+
+-- the frame of a call: so for every byte, at most one entry that was empty has changed, and the image is as long as it was
+pub record Frame (G : Geometry) (img img′ : Bytes) (N : Names) (W : ℕ → Type 0) : Type 0 where
+  pub byte : Bytewise G img img′ N W
+  pub one-new : (e k : ℕ) → NewRow G (entryAt G img) (entryAt G img′) e → NewRow G (entryAt G img) (entryAt G img′) k → e ≡ k
+  pub image-length : length img′ ≡ length img
+
+-- an image that stays as it was
+pub same-frame : (G : Geometry) (img img′ : Bytes) (N : Names) (W : ℕ → Type 0) → img′ ≡ img → Frame G img img′ N W
+same-frame G img img′ N W q = record { byte = λ i. inl (rw q); one-new = λ e k a b. absurd (a .changed (rw q)); image-length = rw q }
 
 -- no record is written
 abbrev pub WritesNone : ℕ → Type 0
@@ -51,7 +61,7 @@ pub record OneRecord (G : Geometry) (img map : Bytes) (N : Names) (b rec d : ℕ
 
 -- ---- a naming that has more, and more records allowed
 pub frame-more : (G : Geometry) (img img′ : Bytes) (M N : Names) (U W : ℕ → Type 0) → ((r : Bytes) → M r ≡ true → N r ≡ true)
-    → ((d : ℕ) → U d → W d) → Frame G img img′ M U → Frame G img img′ N W
+    → ((d : ℕ) → U d → W d) → Bytewise G img img′ M U → Bytewise G img img′ N W
 frame-more G img img′ M N U W more wide f i = split (f i) (λ q. inl q) (λ p. inr (go p))
   where
     go : Where G img img′ M U i → Where G img img′ N W i

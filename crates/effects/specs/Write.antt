@@ -1,6 +1,7 @@
 -- 20, 21, 33 and 34, for every plan: one change by the name of the FCB; the FCB handed back is current, and a record that was written
 -- can be read through it.
 use mathlib.Core.Path.{_≡_, refl, ap, sym, _∙_, subst}
+use mathlib.Core.Logic.{inr}
 use mathlib.Core.Bool.{true}
 use Prim.Native.Nat.{ℕ, _≤_, _<_}
 use native.Mathlib.Omega.{arith}
@@ -31,7 +32,7 @@ use Rattle.effects.specs.Where.{WritesNone, Theirs, was-free, OneRecord}
 use Rattle.effects.specs.Book.{Book, movedBook, entryAfter, writtenBook}
 use Rattle.effects.specs.Change.{Change, then-change, as-change}
 use Rattle.effects.specs.Closed.{byName}
-use Rattle.effects.specs.Put.{ForSlot, putBook, put-change, put-stay, put-holds}
+use Rattle.effects.specs.Put.{ForSlot, putBook, put-rows, put-change, put-stay, put-holds}
 use Rattle.current.specs.Current.{fcb-says}
 use Rattle.effects.specs.Entered.{right-written, set-cur}
 use Rattle.effects.specs.Came.{CameTo, present-cur, stay-came, move-came, make-came}
@@ -145,6 +146,8 @@ module _ {G : Geometry} (S : Sound G) (n : ℕ) (l : Lent) (s : Session) (g : Go
         (there .buffer) full (byName (s .user) (l .fcb)) (came .mine) One record { is = refl; below = for-slot .below; theirs = theirs })
         (put-stay S (there .drive .image) (there .drive .map) here-good (s .user) (f .user-low) (there .fcb) (came .long) t (came .cur) r r-below j slot-is b for-slot
         (there .buffer) full (byName (s .user) (l .fcb)) (came .mine))
+        (inr (λ e h z. put-rows S (there .drive .image) (there .drive .map) here-good (s .user) (f .user-low) (there .fcb) (came .long) t (came .cur) r r-below j slot-is b for-slot
+        (there .buffer) full e h))
 
     held : Holds G (viewOf G (withRecord G (there .drive .image) (placeIn G b r) (there .buffer)) (writtenMap G (there .drive .map) (there .fcb) t j b)) (s .user)
         (writtenFcb G (there .fcb) count j b r (crAfter n (l .fcb))) t r (there .buffer)

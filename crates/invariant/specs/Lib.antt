@@ -7,5 +7,3 @@ pub mod Good
 pub mod Updates
 pub mod CloseGood
 pub mod RecordCalls
-pub mod Calls
-pub mod Step

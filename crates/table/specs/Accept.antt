@@ -31,7 +31,7 @@ use Rattle.table.specs.First.{_&_, NoneHolds, passed-none, none-passed, 
 use Rattle.table.specs.Own.{calling, AtEach, at-kind, rowsFor, verdict-rows, verdict-unlisted}
 use Rattle.table.specs.Present.{there-target, file-extent-below}
 use Rattle.table.specs.Facts.{Opens, Closes, Makes, Renames, Sizes, Positions, Reads, Writes, Ready, AcceptedCall}
-use Rattle.table.specs.Reflect.{found, missed, either-found, either-missed, pattern-of, pattern-right, argument-of, argument-right, parameters-right, disk-right, ready-of, some-of, some-right, none-of, none-right, writable-of, writable-right, positions-of, positions-right}
+use Rattle.table.specs.Reflect.{found, missed, either-found, either-missed, argument-of, parameters-right, disk-right, ready-of, some-of, some-right, none-of, writable-of, positions-right}
 
 -- the target's extent of 33 and 34 is below 2,048 exactly where the random record is at most 262,143
 pub random-below : (n : ℕ) (fcb : Bytes) → isRandom n ≡ true → ltb lastRecord (randomOf fcb) ≡ false → targetExtent n fcb < extents

@@ -13,19 +13,17 @@ use Rattle.format.specs.declared.Found.the-variants.{At}
 use Rattle.model.specs.declared.Session.{Session}
 use Rattle.model.specs.declared.Plan.{Plan}
 use Rattle.model.specs.declared.Plan.the-variants.{Stay, Move, Make}
-use Rattle.model.specs.Codes.{saysOf, aOf, hOf}
 use Rattle.model.specs.Kinds.{kindOf, same}
 use Rattle.model.specs.declared.Asked.{Asked}
 use Rattle.model.specs.declared.Kind.{Kind}
 use Rattle.model.specs.declared.Kind.the-variants.{Unlisted, Quiet, Search, User, Settle, Close, Delete, Create, Rename, Read, Write}
 use Rattle.model.specs.Lent.{Lent, Outcome, rowsOf, ended, searching, withUser}
 use Rattle.model.specs.Target.{presentEntry, plan}
-use Rattle.model.specs.Search.{patternOf, findHit}
-use Rattle.model.specs.Table.{askedEntry}
+use Rattle.model.specs.Search.{findHit}
 use Rattle.model.specs.Calls.{entryNumber, loggedIn, freed, userSet, closedAt, closed, foundAt, searched, deleted, createdAt, created, renamed, readAt, reading, read, writtenAt, writing, written}
-use Rattle.model.specs.Step.{told, pattern, place, settled, does, effect}
+use Rattle.model.specs.Step.{told, pattern, place, settled, does}
 use Rattle.table.specs.Own.{not-unlisted}
-use Rattle.table.specs.Facts.{Fits, AcceptedCall}
+use Rattle.table.specs.Facts.{AcceptedCall}
 use Rattle.table.specs.Accept.{closes-of, makes-of, hits-of}
 
 -- the entry that was looked for was found, and A is its number mod 4

@@ -13,7 +13,7 @@ use Rattle.format.specs.Fcb.{fcbBytes, crOf}
 use Rattle.facts.specs.Found.{FoundAt}
 use Rattle.format.specs.declared.Found.the-variants.{Nothing}
 use Rattle.model.specs.declared.Session.{Session}
-use Rattle.model.specs.Lent.{Lent, rowsOf, searchOn}
+use Rattle.model.specs.Lent.{Lent, rowsOf}
 use Rattle.model.specs.Target.{targetExtent, presentEntry, targetEntry, blockThere, recordThere, readOnlyThere}
 use Rattle.model.specs.Search.{patternOf, findHit}
 use Rattle.model.specs.declared.Asked.{Asked}
@@ -48,14 +48,6 @@ module _ (G : Geometry) (l : Lent) (s : Session) where
     pub name : nameRight true (l .fcb) 1 ≡ true
     pub ex : (exOf (l .fcb) ≤ 31) ⊎ (exOf (l .fcb) ≡ 63)
     pub entry : FoundAt (findHit G (rowsOf G l) (s .user) (patternOf (l .fcb)) 0)
-
-  pub record SearchesOn : Type 0 where
-    pub on : searchOn s ≡ true
-    pub entry : FoundAt (findHit G (rowsOf G l) (s .user) (s .pattern) (s .place))
-
-  pub record Deletes : Type 0 where
-    pub name : nameRight true (l .fcb) 1 ≡ true
-    pub files : NamedFiles true
 
   pub record Makes : Type 0 where
     pub name : nameRight false (l .fcb) 1 ≡ true

@@ -1,5 +1,5 @@
 -- One call once the first three rows have passed it: its own rows decide, and then it is carried out. What a call's own function does.
-use mathlib.Core.Path.{_≡_, refl, sym, ap, _∙_}
+use mathlib.Core.Path.{_≡_, sym, ap, _∙_}
 use mathlib.Core.Bool.{true, not}
 use Prim.Native.Nat.{ℕ}
 use Rattle.format.specs.Diskette.{Geometry}

@@ -1,34 +1,37 @@
 -- What a refusal says: which row it came from, and which codes a call can be refused with at all.
 use mathlib.Core.Path.{_≡_, refl, sym, ap, subst, _∙_}
+use mathlib.Core.Logic.{_⊎_}
 use mathlib.Core.Bool.{Bool, true, false, not, cond}
 use mathlib.Core.List.{List, [], _∷_, _++_}
-use Prim.Native.Nat.{ℕ, _<_, _+_, _*_}
+use Prim.Native.Nat.{ℕ, _≤_, _<_, _+_, _*_}
 use lib.Dec.{eqb, ltb}
 use borrow.Author.Tests.{ltb-true, eq-eqb, eqb-true, not-true, not-false}
 use Rattle.lists.specs.Cases.{split, bool-cases, clash, not-both}
-use Rattle.lists.specs.Tests.{_and_, _or_, and-left, and-right, or-then}
+use Rattle.lists.specs.Tests.{_and_, and-right}
 use Rattle.format.specs.Diskette.{Geometry, lastRecord}
+use Rattle.format.specs.Names.{nameRight}
+use Rattle.format.specs.Entries.{exOf}
 use Rattle.format.specs.Consistent.{consistent}
 use Rattle.format.specs.Notes.{mapRight}
 use Rattle.format.specs.Fcb.{randomOf}
 use Rattle.format.specs.Found.{isFound}
-use Rattle.facts.specs.Found.{not-found}
+use Rattle.facts.specs.Found.{not-found, missed-row}
 use Rattle.format.specs.declared.Found.{Found}
 use Rattle.format.specs.declared.Found.the-variants.{Nothing}
 use Rattle.model.specs.declared.Asked.{Asked}
 use Rattle.model.specs.declared.Session.{Session}
 use Rattle.model.specs.declared.Code.{Code}
-use Rattle.model.specs.declared.Code.the-variants.{NotListed, BadParameter, BadDisk, BadRecord, NotClosed}
+use Rattle.model.specs.declared.Code.the-variants.{NotListed, BadParameter, BadDisk, BadRecord, NotCurrent, Failed, BadName, SearchOver, ReadOnly, Exists, NotClosed, NoExtent, NoRecord, NoEntry, DiskFull}
 use Rattle.model.specs.declared.Verdict.the-variants.{Refused}
 use Rattle.model.specs.Codes.{saysOf, hOf}
-use Rattle.model.specs.Kinds.{oneOf, isCall}
+use Rattle.model.specs.Kinds.{Listed, calls, kindOf, isCall, numbersIn, oneOf}
 use Rattle.model.specs.Lent.{Lent, rowsOf, searchOn}
 use Rattle.model.specs.Search.{patternOf, findHit}
 use Rattle.model.specs.Table.{parametersRight, diskRight, Row, RowFor, when, keep, rowsAt, callRows, firstRow, ownRows, verdict}
 use Rattle.table.specs.First.{_&_, NoneHolds, Decides, here, later, passed-refused, refused-same, refused-decides, decides-refused}
 use Rattle.table.specs.Own.{calling, at-one, rowsFor, verdict-rows, verdict-unlisted}
 use Rattle.table.specs.Facts.{Ready}
-use Rattle.table.specs.Reflect.{parameters-right, disk-right, ready-of}
+use Rattle.table.specs.Reflect.{pattern-of, pattern-right, parameters-right, disk-right, ready-of}
 
 -- two tests as one that computes
 both : (a b : Bool) → cond a b false ≡ true → (a ≡ true) × (b ≡ true)
@@ -58,7 +61,7 @@ row-of t n c [] h d = passed-refused c (decides-refused c [] d)
 row-of t n c (r ∷ rs) h d = kept t n c r (rowsAt n rs) (oneOf n (r .calls)) refl (both (t (r .calls) (r .row .code)) (allRows t rs) h .0) (row-of t n c rs (both (t (r .calls) (r .row .code)) (allRows t rs) h .1)) d
 
 -- ---- codes told apart by what they say
-unfoldable key : Code → ℕ
+abbrev key : Code → ℕ
 key c = saysOf c .a + 256 * (saysOf c .h) + cond (saysOf c .over) 65536 0
 
 abbrev isCode : Code → Code → Bool
@@ -97,10 +100,12 @@ module _ (t : Code → Bool) (c : Code) (h : t c ≡ true) where
       let b = behind front rs (a .1) d in
       record { failed = f & b .failed; rest = b .rest }
 
--- a search has found nothing: 17 from the first entry on, or 18, with a search on, from its place on
-pub data SearchEnds (G : Geometry) (l : Lent) (s : Session) : ℕ → Type 0 where
-  ends17 : findHit G (rowsOf G l) (s .user) (patternOf (l .fcb)) 0 ≡ Nothing → SearchEnds G l s 17
-  ends18 : searchOn s ≡ true → findHit G (rowsOf G l) (s .user) (s .pattern) (s .place) ≡ Nothing → SearchEnds G l s 18
+-- a search is over: a 17 whose name and byte 12 are right finds no entry, or an 18, with a search on, finds no more from its place on
+pub data SearchEnds (G : Geometry) (asked : Asked) (l : Lent) (s : Session) : ℕ → Type 0 where
+  ends17 : Ready G (calling 17 asked) l s → nameRight true (l .fcb) 1 ≡ true → (exOf (l .fcb) ≤ 31) ⊎ (exOf (l .fcb) ≡ 63)
+      → findHit G (rowsOf G l) (s .user) (patternOf (l .fcb)) 0 ≡ Nothing → SearchEnds G asked l s 17
+  ends18 : Ready G (calling 18 asked) l s → searchOn s ≡ true → findHit G (rowsOf G l) (s .user) (s .pattern) (s .place) ≡ Nothing
+      → SearchEnds G asked l s 18
 
 -- every number of the one list is in the other
 abbrev within : List ℕ → List ℕ → Bool
@@ -112,18 +117,53 @@ within-one n [] ds w h = clash (sym h)
 within-one n (c ∷ cs) ds w h =
     split (bool-cases (eqb n c)) (λ e. rw (eqb-true n c e) (both (oneOf c ds) (within cs ds) w .0)) (λ e. within-one n cs ds (both (oneOf c ds) (within cs ds) w .1) (rw e at h))
 
+-- a row of this code is among them
+abbrev hasCode : Code → List Row → Bool
+hasCode c [] = false
+hasCode c (r ∷ rs) = cond (isCode c (r .code)) true (hasCode c rs)
+
 module _ (G : Geometry) (asked : Asked) (l : Lent) (s : Session) where
-  -- where a refusal comes from: one of the first three rows, or a row of the call's own
+  -- ---- the table by its codes: the calls to which a row of the code applies. The first three rows, for every call, are not among these
+  unfoldable pub callsWith : Code → List ℕ
+  callsWith c = numbersIn (λ (k : Listed). hasCode c (rowsAt (k .number) (callRows G asked l s))) calls
+
+  abbrev pub ByCode : Type 0
+  ByCode =
+      (callsWith BadRecord ≡ 33 ∷ 34 ∷ [])
+      × (callsWith NotCurrent ≡ 20 ∷ 21 ∷ 33 ∷ 34 ∷ [])
+      × (callsWith Failed ≡ 15 ∷ 16 ∷ 18 ∷ 19 ∷ 22 ∷ 23 ∷ 32 ∷ 35 ∷ 36 ∷ [])
+      × (callsWith BadName ≡ 15 ∷ 17 ∷ 19 ∷ 22 ∷ 23 ∷ 35 ∷ [])
+      × (callsWith SearchOver ≡ 17 ∷ 18 ∷ [])
+      × (callsWith ReadOnly ≡ 19 ∷ 21 ∷ 23 ∷ 34 ∷ [])
+      × (callsWith Exists ≡ 22 ∷ 23 ∷ [])
+      × (callsWith NotClosed ≡ 20 ∷ 21 ∷ 33 ∷ 34 ∷ [])
+      × (callsWith NoExtent ≡ 33 ∷ [])
+      × (callsWith NoRecord ≡ 20 ∷ 21 ∷ 33 ∷ [])
+      × (callsWith NoEntry ≡ 34 ∷ [])
+      × (callsWith DiskFull ≡ 21 ∷ 34 ∷ [])
+
+  pub by-code : ByCode
+  unfolding callsWith
+  by-code = (refl, refl, refl, refl, refl, refl, refl, refl, refl, refl, refl, refl)
+
+  -- a call's own rows refuse it with no other codes
+  own-given : (code : Code) → Decides code (ownRows G asked l s) → oneOf (asked .number) (callsWith code) ≡ true
+  unfolding callsWith
+  own-given code d =
+      let r = row-of (λ (cs : List ℕ) (c : Code). within cs (callsWith c)) (asked .number) code (callRows G asked l s) refl d in
+      within-one (asked .number) (r .calls) (callsWith code) (r .passes) (r .applies)
+
+  -- where a refusal comes from: one of the first three rows, or a row of the call's own, with a code that the table has for the call
   pub data Refuses (code : Code) : Type 0 where
     unlisted : code ≡ NotListed → isCall (asked .number) ≡ false → Refuses code
     parameter : code ≡ BadParameter → parametersRight G l asked s ≡ false → Refuses code
     disk : code ≡ BadDisk → diskRight G l asked ≡ false → Refuses code
-    own : Ready G asked l s → Decides code (ownRows G asked l s) → Refuses code
+    own : oneOf (asked .number) (callsWith code) ≡ true → Ready G asked l s → Decides code (ownRows G asked l s) → Refuses code
 
   refuses-call : (code : Code) → Decides code (rowsFor G asked l s) → Refuses code
   refuses-call code (here t q) = parameter (sym q) (not-true _ t)
   refuses-call code (later f (here t q)) = disk (sym q) (not-true _ t)
-  refuses-call code (later f (later g d)) = own (ready-of G asked l s (not-false _ f) (not-false _ g)) d
+  refuses-call code (later f (later g d)) = own (own-given code d) (ready-of G asked l s (not-false _ f) (not-false _ g)) d
 
   pub refuses : (code : Code) → verdict G asked l s ≡ Refused code → Refuses code
   refuses code q =
@@ -133,26 +173,25 @@ module _ (G : Geometry) (asked : Asked) (l : Lent) (s : Session) where
 
   -- a code that none of the first three rows has comes from the call's own
   pub own-decides : (t : Code → Bool) (code : Code) → t code ≡ true → t NotListed ≡ false → t BadParameter ≡ false → t BadDisk ≡ false
-      → Refuses code → Decides code (ownRows G asked l s)
+      → Refuses code → Ready G asked l s × Decides code (ownRows G asked l s)
   own-decides t code h u p d (unlisted e f) = other t code h NotListed u (sym e)
   own-decides t code h u p d (parameter e f) = other t code h BadParameter p (sym e)
   own-decides t code h u p d (disk e f) = other t code h BadDisk d (sym e)
-  own-decides t code h u p d (own r w) = w
+  own-decides t code h u p d (own g r w) = (r, w)
 
-  -- the codes that pass a test are of these calls alone, where the table says so
-  pub code-calls : (t : Code → Bool) (ds : List ℕ) (code : Code) → t code ≡ true
-      → allRows (λ (cs : List ℕ) (d : Code). cond (t d) (within cs ds) true) (callRows G asked l s) ≡ true
-      → Decides code (ownRows G asked l s) → oneOf (asked .number) ds ≡ true
-  code-calls t ds code h all d =
-      let r = row-of (λ (cs : List ℕ) (c : Code). cond (t c) (within cs ds) true) (asked .number) code (callRows G asked l s) all d in
-      within-one (asked .number) (r .calls) ds (rw h at (r .passes)) (r .applies)
+  -- a row of the call's own decides, once the first three have failed
+  pub refused-own : (code : Code) → isCall (asked .number) ≡ true → Ready G asked l s → Decides code (ownRows G asked l s) → verdict G asked l s ≡ Refused code
+  refused-own code t r d =
+      verdict-rows G asked l s t
+      ∙ decides-refused code (rowsFor G asked l s)
+      (later (ap not (parameters-right G asked l s (r .fits) (r .drive))) (later (ap not (disk-right G asked l s (r .image-right) (r .map-right))) d))
 
   -- ---- a consistent image with a right map is never refused for the disk
   bad-disk : (code : Code) → eqb (hOf code) 1 ≡ true → Refuses code → diskRight G l asked ≡ false
   bad-disk code h (unlisted e f) = other (λ (c : Code). eqb (hOf c) 1) code h NotListed refl (sym e)
   bad-disk code h (parameter e f) = other (λ (c : Code). eqb (hOf c) 1) code h BadParameter refl (sym e)
   bad-disk code h (disk e f) = f
-  bad-disk code h (own r d) =
+  bad-disk code h (own g r d) =
       not-both (eqb (hOf code) 1) h
       (not-true _ (row-of (λ (cs : List ℕ) (c : Code). not (eqb (hOf c) 1)) (asked .number) code (callRows G asked l s) refl d .passes))
 
@@ -170,11 +209,11 @@ no-three X Y front rs a b current d =
 
 module _ (G : Geometry) (asked : Asked) (l : Lent) (s : Session) where
   pub never-not-closed : verdict G asked l s ≡ Refused NotClosed → ⊥
-  unfolding key
+  unfolding callsWith
   never-not-closed q =
-      let d = own-decides G asked l s (isCode NotClosed) NotClosed refl refl refl refl (refuses G asked l s NotClosed q) in
+      let d = own-decides G asked l s (isCode NotClosed) NotClosed refl refl refl refl (refuses G asked l s NotClosed q) .1 in
       at-one (λ (n : ℕ). Decides NotClosed (ownRows G (calling n asked) l s) → ⊥) (asked .number) (20 ∷ 21 ∷ 33 ∷ 34 ∷ [])
-      (code-calls G asked l s (isCode NotClosed) (20 ∷ 21 ∷ 33 ∷ 34 ∷ []) NotClosed refl refl d)
+      (own-given G asked l s NotClosed d)
       ((λ v. no-three _ _ (_ ∷ []) _ (refl & tt) (refl & tt) (λ h. h .0) v)
       & (λ v. no-three _ _ (_ ∷ _ ∷ []) _ (refl & refl & tt) (refl & refl & refl & tt) (λ h. h .0) v)
       & (λ v. no-three _ _ (_ ∷ _ ∷ []) _ (refl & refl & tt) (refl & refl & tt) (λ h. h .1 .0) v)
@@ -182,29 +221,31 @@ module _ (G : Geometry) (asked : Asked) (l : Lent) (s : Session) where
 
   -- ---- code 6 comes out only where the random record is over 262,143
   pub random-over : verdict G asked l s ≡ Refused BadRecord → lastRecord < randomOf (l .fcb)
-  unfolding key
+  unfolding callsWith
   random-over q =
-      let d = own-decides G asked l s (isCode BadRecord) BadRecord refl refl refl refl (refuses G asked l s BadRecord q) in
+      let d = own-decides G asked l s (isCode BadRecord) BadRecord refl refl refl refl (refuses G asked l s BadRecord q) .1 in
       ltb-true _ _ (at-one (λ (n : ℕ). Decides BadRecord (ownRows G (calling n asked) l s) → ltb lastRecord (randomOf (l .fcb)) ≡ true) (asked .number) (33 ∷ 34 ∷ [])
-      (code-calls G asked l s (isCode BadRecord) (33 ∷ 34 ∷ []) BadRecord refl refl d)
+      (own-given G asked l s BadRecord d)
       ((λ v. only-row (isCode BadRecord) BadRecord refl _ BadRecord _ v (refl & refl & refl & refl & tt))
       & (λ v. only-row (isCode BadRecord) BadRecord refl _ BadRecord _ v (refl & refl & refl & refl & refl & tt)) & tt) d)
 
-  -- ---- a search ends exactly where it has found nothing
-  pub search-over : (code : Code) → saysOf code .over ≡ true → Refuses G asked l s code → SearchEnds G l s (asked .number)
+  -- ---- a search is over exactly where its row decides
+  pub search-over : (code : Code) → saysOf code .over ≡ true → Refuses G asked l s code → SearchEnds G asked l s (asked .number)
   search-over code h q =
       let d = own-decides G asked l s (λ (c : Code). saysOf c .over) code h refl refl refl q in
-      at-one (λ (n : ℕ). Decides code (ownRows G (calling n asked) l s) → SearchEnds G l s n) (asked .number) (17 ∷ 18 ∷ [])
-      (code-calls G asked l s (λ (c : Code). saysOf c .over) (17 ∷ 18 ∷ []) code h refl d)
-      ((λ v. ends17 (last-row _ _ (behind (λ (c : Code). saysOf c .over) code h (_ ∷ _ ∷ []) _ (refl & refl & tt) v .rest)))
-      & (λ v. let p = behind (λ (c : Code). saysOf c .over) code h (_ ∷ []) _ (refl & tt) v in ends18 (not-false _ (p .failed .0)) (last-row _ _ (p .rest))) & tt) d
+      let r = row-of (λ (cs : List ℕ) (c : Code). cond (saysOf c .over) (within cs (17 ∷ 18 ∷ [])) true) (asked .number) code (callRows G asked l s) refl (d .1) in
+      at-one (λ (n : ℕ). Ready G (calling n asked) l s → Decides code (ownRows G (calling n asked) l s) → SearchEnds G asked l s n) (asked .number) (17 ∷ 18 ∷ [])
+      (within-one (asked .number) (r .calls) (17 ∷ 18 ∷ []) (rw h at (r .passes)) (r .applies))
+      ((λ r v. let p = behind (λ (c : Code). saysOf c .over) code h (_ ∷ _ ∷ []) _ (refl & refl & tt) v in
+      ends17 r (not-false _ (p .failed .0)) (pattern-of _ (p .failed .1 .0)) (last-row _ _ (p .rest)))
+      & (λ r v. let p = behind (λ (c : Code). saysOf c .over) code h (_ ∷ []) _ (refl & tt) v in ends18 r (not-false _ (p .failed .0)) (last-row _ _ (p .rest))) & tt)
+      (d .0) (d .1)
     where
       last-row : (r : Found) (c : Code) → Decides code (when (not (isFound r)) c ∷ []) → r ≡ Nothing
       last-row r c v = not-found r (not-true _ (only-row (λ (x : Code). saysOf x .over) code h _ c [] v tt))
 
-  -- a row of the call's own decides, once the first three have failed
-  pub refused-own : (code : Code) → isCall (asked .number) ≡ true → Ready G asked l s → Decides code (ownRows G asked l s) → verdict G asked l s ≡ Refused code
-  refused-own code t r d =
-      verdict-rows G asked l s t
-      ∙ decides-refused code (rowsFor G asked l s)
-      (later (ap not (parameters-right G asked l s (r .fits) (r .drive))) (later (ap not (disk-right G asked l s (r .image-right) (r .map-right))) d))
+  pub over-search : (n : ℕ) → SearchEnds G asked l s n → verdict G (calling n asked) l s ≡ Refused SearchOver
+  unfolding isCall kindOf
+  over-search n (ends17 r name ex none) =
+      refused-own G (calling 17 asked) l s SearchOver refl r (later (ap not name) (later (pattern-right _ ex) (here (missed-row _ none) refl)))
+  over-search n (ends18 r is-on none) = refused-own G (calling 18 asked) l s SearchOver refl r (later (ap not is-on) (here (missed-row _ none) refl))

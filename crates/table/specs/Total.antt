@@ -1,17 +1,14 @@
 -- Demand 1: every call either is refused, by the first row of the table that holds, with nothing changed, or is carried out.
-use mathlib.Core.Path.{_≡_, refl, sym, ap, subst, _∙_}
+use mathlib.Core.Path.{_≡_, refl, sym, ap, _∙_}
 use mathlib.Core.Logic.{_⊎_, inl, inr}
-use mathlib.Core.Bool.{true, false, not, cond}
-use Prim.Native.Nat.{ℕ, _≤_, _<_}
+use mathlib.Core.Bool.{true, false, cond}
+use Prim.Native.Nat.{_≤_, _<_}
 use native.Mathlib.Omega.{arith}
 use lib.Dec.{eqb}
 use borrow.Author.Tests.{eq-eqb, ne-eqb}
-use Rattle.lists.specs.Cases.{split, bool-cases}
-use Rattle.format.specs.Diskette.{Bytes, Geometry, eightInch}
-use Rattle.format.specs.Names.{nameRight}
-use Rattle.format.specs.Entries.{exOf}
-use Rattle.format.specs.declared.Found.the-variants.{Nothing}
-use Rattle.facts.specs.Found.{first-says, missed-row}
+use Rattle.lists.specs.Cases.{split, bool-cases, not-both}
+use Rattle.format.specs.Diskette.{Geometry, eightInch}
+use Rattle.facts.specs.Found.{first-says}
 use Rattle.model.specs.declared.Asked.{Asked}
 use Rattle.model.specs.declared.Session.{Session}
 use Rattle.model.specs.declared.Code.{Code}
@@ -20,17 +17,15 @@ use Rattle.model.specs.declared.Verdict.{Verdict}
 use Rattle.model.specs.declared.Verdict.the-variants.{Passed, Refused}
 use Rattle.model.specs.Codes.{saysOf, aOf, hOf}
 use Rattle.model.specs.Kinds.{kindOf, isCall}
-use Rattle.model.specs.Lent.{Lent, Outcome, rowsOf, ended, withUser, searchOn}
-use Rattle.model.specs.Search.{patternOf, findHit}
+use Rattle.model.specs.Lent.{Lent, Outcome, ended, withUser}
+use Rattle.model.specs.Search.{findHit}
 use Rattle.model.specs.Table.{ownRows, table, verdict}
 use Rattle.model.specs.Step.{refusedSession, refused, place, effect, step}
-use Rattle.table.specs.First.{NoneHolds, Decides, here, later, passed-none, refused-decides}
-use Rattle.table.specs.Own.{calling}
+use Rattle.table.specs.First.{NoneHolds, Decides, passed-none, refused-same, refused-decides}
 use Rattle.table.specs.Facts.{Ready, AcceptedCall}
-use Rattle.table.specs.Reflect.{pattern-right}
 use Rattle.table.specs.Accept.{accepted, passes, sets-of}
-use Rattle.table.specs.Refuse.{SearchEnds, search-over, Refuses, refuses, refused-own}
-use Rattle.table.specs.Carried.{GoesOn, Leaves, over, on, sets, Done, carried-done}
+use Rattle.table.specs.Refuse.{SearchEnds, search-over, over-search, Refuses, refuses, refused-own}
+use Rattle.table.specs.Carried.{Leaves, over, on, sets, Done, carried-done}
 
 module _ (G : Geometry) (asked : Asked) (l : Lent) (s : Session) where
   -- a refusal with code c
@@ -44,7 +39,9 @@ module _ (G : Geometry) (asked : Asked) (l : Lent) (s : Session) where
     pub is-h : step G asked l s .answer .h ≡ hOf c
     -- nothing changes
     pub kept : step G asked l s .lent ≡ l
-    pub session : (step G asked l s .answer .session ≡ s) ⊎ (SearchEnds G l s (asked .number) × (step G asked l s .answer .session ≡ ended s))
+    -- the session ends its search exactly where the search is over, and stays as it was everywhere else
+    pub session : (SearchEnds G asked l s (asked .number) × (step G asked l s .answer .session ≡ ended s))
+        ⊎ ((SearchEnds G asked l s (asked .number) → ⊥) × (step G asked l s .answer .session ≡ s))
 
   -- a call that is carried out
   pub record CarriedOut : Type 0 where
@@ -63,10 +60,16 @@ module _ (G : Geometry) (asked : Asked) (l : Lent) (s : Session) where
   unfolding step
   passed-is q = rw q
 
-  session-of : (c : Code) → Refuses G asked l s c
-      → (refusedSession c s ≡ s) ⊎ (SearchEnds G l s (asked .number) × (refusedSession c s ≡ ended s))
-  session-of c r =
-      split (bool-cases (saysOf c .over)) (λ t. inr (search-over G asked l s c t r, rw t)) (λ f. inl (rw f))
+  -- a code that ends no search is another than that of a search that is over
+  not-over : (c : Code) → saysOf c .over ≡ false → verdict G asked l s ≡ Refused c → SearchEnds G asked l s (asked .number) → ⊥
+  not-over c f q e =
+      let z : SearchOver ≡ c = refused-same SearchOver c (sym (over-search G asked l s (asked .number) e) ∙ q) in
+      not-both (saysOf c .over) (ap (λ (x : Code). saysOf x .over) (sym z)) f
+
+  session-of : (c : Code) → verdict G asked l s ≡ Refused c
+      → (SearchEnds G asked l s (asked .number) × (refusedSession c s ≡ ended s)) ⊎ ((SearchEnds G asked l s (asked .number) → ⊥) × (refusedSession c s ≡ s))
+  session-of c q =
+      split (bool-cases (saysOf c .over)) (λ t. inl (search-over G asked l s c t (refuses G asked l s c q), rw t)) (λ f. inr (not-over c f q, rw f))
 
   pub total-refused : (c : Code) → verdict G asked l s ≡ Refused c → RefusedBy c
   unfolding verdict
@@ -79,7 +82,7 @@ module _ (G : Geometry) (asked : Asked) (l : Lent) (s : Session) where
         is-a = rw is;
         is-h = rw is;
         kept = rw is;
-        session = rw is (session-of c (refuses G asked l s c q));
+        session = rw is (session-of c q);
       }
 
   effect-done : AcceptedCall G asked l s → Done G asked l s (kindOf (asked .number)) (effect G asked l s)
@@ -118,22 +121,6 @@ module _ (G : Geometry) (asked : Asked) (l : Lent) (s : Session) where
   pub exact : (o p : Outcome) → o ≡ step G asked l s → p ≡ step G asked l s → o ≡ p
   exact o p a b = a ∙ sym b
 
--- ---- a search that finds no entry, or no more, is over
-module _ (G : Geometry) (asked : Asked) (l : Lent) (s : Session) where
-  pub over-first : Ready G (calling 17 asked) l s → nameRight true (l .fcb) 1 ≡ true → (exOf (l .fcb) ≤ 31) ⊎ (exOf (l .fcb) ≡ 63)
-      → findHit G (rowsOf G l) (s .user) (patternOf (l .fcb)) 0 ≡ Nothing → step G (calling 17 asked) l s .answer .session ≡ ended s
-  unfolding isCall kindOf
-  over-first r name ex none =
-      ap (λ (o : Outcome). o .answer .session)
-      (step-refused G (calling 17 asked) l s SearchOver refl r (later (ap not name) (later (pattern-right _ ex) (here (missed-row _ none) refl))))
-
-  pub over-next : Ready G (calling 18 asked) l s → searchOn s ≡ true → findHit G (rowsOf G l) (s .user) (s .pattern) (s .place) ≡ Nothing
-      → step G (calling 18 asked) l s .answer .session ≡ ended s
-  unfolding isCall kindOf
-  over-next r is-on none =
-      ap (λ (o : Outcome). o .answer .session)
-      (step-refused G (calling 18 asked) l s SearchOver refl r (later (ap not is-on) (here (missed-row _ none) refl)))
-
 -- ---- the session stays in range: its user at most 15, its place at most the number of entries
 pub record InRange (G : Geometry) (s : Session) : Type 0 where
   pub user : s .user ≤ 15
@@ -160,7 +147,7 @@ module _ (G : Geometry) (asked : Asked) (l : Lent) (s : Session) (r : InRange G 
 pub step-range : (G : Geometry) (asked : Asked) (l : Lent) (s : Session) → InRange G s → InRange G (step G asked l s .answer .session)
 step-range G asked l s r =
     split (total G asked l s)
-    (λ w. split (w .1 .session) (λ e. rw e r) (λ e. rw (e .1) (ended-range G s r)))
+    (λ w. split (w .1 .session) (λ e. rw (e .1) (ended-range G s r)) (λ e. rw (e .1) r))
     (λ w. leaves-range G asked l s r (step G asked l s .answer .session) (w .facts) (w .done .leaves))
 
 -- ---- the 8-inch disk
