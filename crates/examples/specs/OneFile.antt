@@ -81,11 +81,11 @@ file-asked : (r : ℕ) → named false 0 fileFcb 1 (fileRow r) ≡ true
 unfolding named nameLike byteLike allBelow fileFcb fileRow _and_ _or_
 file-asked r = refl
 
-drive-low : getD fileFcb 0 0 ≤ 1
+pub drive-low : getD fileFcb 0 0 ≤ 1
 unfolding fileFcb
 drive-low = omega arith
 
-fcb-name : nameRight false fileFcb 1 ≡ true
+pub fcb-name : nameRight false fileFcb 1 ≡ true
 unfolding nameRight nameByte allBelow fileFcb _and_ _or_
 fcb-name = refl
 
