@@ -9,7 +9,7 @@ use lib.Dec.{eqb}
 use lib.ListN.{length, getD, replicate, length-replicate}
 use borrow.Author.Tests.{eq-eqb, not-true}
 use Rattle.lists.specs.Cases.{split, eq-or-ne, not-both}
-use Rattle.lists.specs.Tests.{_and_, _or_}
+use Rattle.lists.specs.Tests.{_and_}
 use Rattle.lists.specs.Splice.{splice}
 use Rattle.table.specs.Own.{ask, verdict-unlisted}
 use Rattle.format.specs.Diskette.{Bytes, recordBytes, imageBytes, eightInch, LongBy, Long}
@@ -23,7 +23,7 @@ use Rattle.model.specs.declared.Session.{Session}
 use Rattle.model.specs.declared.Code.{Code}
 use Rattle.model.specs.declared.Code.the-variants.{Accepted, NotListed}
 use Rattle.model.specs.declared.Kind.the-variants.{Write}
-use Rattle.model.specs.Codes.{aOf, hOf}
+use Rattle.model.specs.Codes.{aOf}
 use Rattle.model.specs.Target.{targetExtent, targetRecord}
 use Rattle.model.specs.Lent.{Lent, lend, Outcome, ends, ended}
 use Rattle.model.specs.Kinds.{isCall, kindOf, usesFcb}
@@ -42,8 +42,8 @@ use Rattle.demands.specs.Reading.{Gives, atRecord, recordNumber}
 use Rattle.demands.specs.ReadBack.{readFcb}
 use Rattle.demands.specs.Begins.{Asks}
 use Rattle.demands.specs.Eight.{eight-read-back, eight-begins}
-use Rattle.examples.specs.Erased.{Fitting, login-step, space-step, erased-count}
-use Rattle.examples.specs.OneFile.{oneFile, fileFcb, length-fileFcb, drive-low, fcb-name, one-long, one-consistent, one-count, one-sized}
+use Rattle.examples.specs.Erased.{start, blank, notes, fitting, login-step, space-step, erased-count}
+use Rattle.examples.specs.OneFile.{oneFile, fileFcb, length-fileFcb, InRange, Entry, entryOf, drive-low, fcb-name, one-long, one-consistent, one-count, one-sized}
 
 -- a build answers a call by its place in a run, counted from 0, and by what is asked, lent and handed on
 abbrev pub Build : Type 0
@@ -100,25 +100,7 @@ unfolding outcomeOf after run readFcb
 right-remembers f =
     f .lost (eight-read-back (runBy right 0 (f .begin) (f .earlier)) (f .write) (f .writes) (f .accepted) [] tt (f .reading) (f .reads) (f .buffer) (f .buffer-long))
 
--- ---- what the builds are run on: user 0 with no search, an empty buffer, an FCB of file A, and any map
-abbrev start : Session
-start = record { user = 0; pattern = replicate 12 0; place = 0; on = 0 }
-
-abbrev blank : Bytes
-blank = replicate 128 0
-
-abbrev notes : Bytes
-notes = replicate 243 0
-
-fitting : Fitting eightInch notes fileFcb blank start
-fitting = record {
-  map-long = length-replicate {A = ℕ} 243 0;
-  fcb-long = length-fileFcb;
-  buffer-long = length-replicate {A = ℕ} 128 0;
-  user-low = omega arith;
-  place-low = omega arith;
-}
-
+-- ---- what the builds are run on: what fits, with an FCB of file A
 -- what a log-in leaves, and the outcome of a call on it
 abbrev pub lentAfter : Bytes → Lent
 lentAfter img = lend img (freshMap eightInch (entryAt eightInch img)) fileFcb blank
@@ -128,14 +110,21 @@ onLogged n img = step eightInch (ask n) (lentAfter img) (ended start)
 
 module _ (img : Bytes) (long : Long eightInch img) (right : consistent eightInch img ≡ true) where
   pub logged-is : step eightInch (ask 13) (lend img notes fileFcb blank) start ≡ done 0 start (lentAfter img)
-  logged-is = login-step eightInch img long right notes fileFcb blank start fitting (ask 0)
+  logged-is = login-step eightInch img long right notes fileFcb blank start (fitting fileFcb length-fileFcb) (ask 0)
 
   space-answers : (onLogged 46 img .answer .a ≡ 0) × (onLogged 46 img .answer .h ≡ 0)
-  space-answers = let two = space-step eightInch img long right notes fileFcb blank start fitting (ask 0) in (rw two, rw two)
+  space-answers = let two = space-step eightInch img long right notes fileFcb blank start (fitting fileFcb length-fileFcb) (ask 0) in (rw two, rw two)
 
   space-byte : (count : ℕ) → freeCount eightInch (freshMap eightInch (entryAt eightInch img)) ≡ count → getD (onLogged 46 img .lent .buffer) 0 0 ≡ 8 * count % 256
   unfolding splice
-  space-byte count q = let two = space-step eightInch img long right notes fileFcb blank start fitting (ask 0) in rw (two, q)
+  space-byte count q = let two = space-step eightInch img long right notes fileFcb blank start (fitting fileFcb length-fileFcb) (ask 0) in rw (two, q)
+
+-- a file of r records in block 2
+abbrev small : ℕ → Entry
+small r = entryOf 0 r 2
+
+in-range : (r : ℕ) → r ≤ 128 → InRange (small r)
+in-range r h = record { extent = omega arith; count = h; low = omega arith; high = omega arith }
 
 module _ (img : Bytes) (erased : ErasedDisk eightInch img) where
   -- the erased disk: 46 answers 0, 0, and the first byte is 88H
@@ -146,13 +135,14 @@ module _ (img : Bytes) (erased : ErasedDisk eightInch img) where
   erased-byte = space-byte img (erased .long) (erased-consistent eightInch img erased) 241 (erased-count eight-sound img erased)
 
   -- with a file of r records: the first byte is 80H, and file A has r records
-  one-byte : (r : ℕ) → r ≤ 128 → getD (onLogged 46 (oneFile img r) .lent .buffer) 0 0 ≡ 128
-  one-byte r h = space-byte (oneFile img r) (one-long img erased r h) (one-consistent img erased r h) 240 (one-count img erased r h)
+  one-byte : (r : ℕ) → r ≤ 128 → getD (onLogged 46 (oneFile img (small r)) .lent .buffer) 0 0 ≡ 128
+  one-byte r h =
+      space-byte (oneFile img (small r)) (one-long img erased (small r) (in-range r h)) (one-consistent img erased (small r) (in-range r h)) 240
+      (one-count img erased (small r) (in-range r h) refl)
 
-  one-size : (r : ℕ) → r ≤ 128 → getD (onLogged 35 (oneFile img r) .lent .fcb) 33 0 ≡ r
+  one-size : (r : ℕ) → r ≤ 128 → getD (onLogged 35 (oneFile img (small r)) .lent .fcb) 33 0 ≡ r
   unfolding splice fileFcb
-  one-size r h =
-      let two = one-sized img erased r h notes blank start refl fitting (ask 0) in rw two (omega arith)
+  one-size r h = let two = one-sized img erased (small r) (in-range r h) notes blank start refl (fitting fileFcb length-fileFcb) (ask 0) in rw two (omega arith)
 
 -- ---- a write that `step` accepts: the first one to a file made on an erased disk that is logged in
 abbrev asking : ℕ → Bytes → Bytes → Request
@@ -301,14 +291,14 @@ module _ (img : Bytes) (erased : ErasedDisk eightInch img) where
 
   pub space-falls : (b : Build) → MakesUpSpace b → Falls b
   space-falls b f =
-      one-of-two b (ask 46) (lentAfter img) (lentAfter (oneFile img 1)) (ended start) (λ (o : Outcome). getD (o .lent .buffer) 0 0)
-      (ap (λ (l : Bytes). getD l 0 0) (f 1 (lentAfter img) (lentAfter (oneFile img 1)) (ended start) record { same-fcb = refl; same-buffer = refl }))
+      one-of-two b (ask 46) (lentAfter img) (lentAfter (oneFile img (small 1))) (ended start) (λ (o : Outcome). getD (o .lent .buffer) 0 0)
+      (ap (λ (l : Bytes). getD l 0 0) (f 1 (lentAfter img) (lentAfter (oneFile img (small 1))) (ended start) record { same-fcb = refl; same-buffer = refl }))
       (λ q. omega (arith, erased-byte img erased, one-byte img erased 1 (omega arith)))
 
   pub sizes-fall : (b : Build) → MakesUpSizes b → Falls b
   sizes-fall b f =
-      one-of-two b (ask 35) (lentAfter (oneFile img 1)) (lentAfter (oneFile img 2)) (ended start) (λ (o : Outcome). getD (o .lent .fcb) 33 0)
-      (ap (λ (l : Bytes). getD l 33 0) (f 1 (lentAfter (oneFile img 1)) (lentAfter (oneFile img 2)) (ended start) record { same-fcb = refl; same-buffer = refl }))
+      one-of-two b (ask 35) (lentAfter (oneFile img (small 1))) (lentAfter (oneFile img (small 2))) (ended start) (λ (o : Outcome). getD (o .lent .fcb) 33 0)
+      (ap (λ (l : Bytes). getD l 33 0) (f 1 (lentAfter (oneFile img (small 1))) (lentAfter (oneFile img (small 2))) (ended start) record { same-fcb = refl; same-buffer = refl }))
       (λ q. omega (arith, one-size img erased 1 (omega arith), one-size img erased 2 (omega arith)))
 
 -- ---- together, on a disk of E5H throughout
