@@ -5,7 +5,7 @@ use mathlib.Core.List.{List, [], _∷_, _++_, append-assoc}
 use Prim.Native.Nat.{ℕ, suc, _+_, _-_, _%_, _≤_, _<_}
 use native.Mathlib.Omega.{arith}
 use lib.ListN.{length, getD, take, drop, length-append, length-drop, drop-of-length-le}
-use lib.Seq.{take-all, drop-cons, drop-at, length-take-le}
+use lib.Seq.{take-all, take-append-seam, drop-append-seam, drop-cons, drop-at, length-take-le}
 use Rattle.format.specs.Diskette.{Bytes, eightInch}
 use Rattle.model.specs.declared.Asked.{Asked}
 use Rattle.model.specs.declared.Session.{Session}
@@ -31,6 +31,35 @@ requests (n ∷ a ∷ f ∷ []) fcbs buffers = []
 
 abbrev pub diskOf : Bytes → Bytes → Session → Disk
 diskOf image map s = record { drive = record { image = image; map = map }; session = s }
+
+-- every list of calls of bytes is that of a script
+abbrev numbersOf : List Request → List ℕ
+numbersOf [] = []
+numbersOf (q ∷ qs) = q .asked .number ∷ q .asked .argument ∷ length (q .fcb) ∷ length (q .buffer) ∷ numbersOf qs
+
+abbrev joined : (Request → Bytes) → List Request → Bytes
+joined bytes [] = []
+joined bytes (q ∷ qs) = bytes q ++ joined bytes qs
+
+abbrev AllBytes : List Request → Type 0
+AllBytes [] = Unit {0}
+AllBytes (q ∷ qs) = (q .asked .number < 256) × (q .asked .argument < 256) × AllBytes qs
+
+pub scripted : (qs : List Request) → AllBytes qs → requests (numbersOf qs) (joined (λ (q : Request). q .fcb) qs) (joined (λ (q : Request). q .buffer) qs) ≡ qs
+unfolding requests
+scripted [] all = refl
+scripted (q ∷ qs) all =
+    let n : q .asked .number % 256 ≡ q .asked .number = omega (arith, all .0) in
+    let a : q .asked .argument % 256 ≡ q .asked .argument = omega (arith, all .1) in
+    rw (
+      n,
+      a,
+      take-append-seam (q .fcb) (joined (λ (r : Request). r .fcb) qs),
+      take-append-seam (q .buffer) (joined (λ (r : Request). r .buffer) qs),
+      drop-append-seam (q .fcb) (joined (λ (r : Request). r .fcb) qs),
+      drop-append-seam (q .buffer) (joined (λ (r : Request). r .buffer) qs),
+      scripted qs (all .2),
+    )
 
 -- ---- the loop that makes them
 -- the disk that is come to by the calls from `at` on, from a point of a run

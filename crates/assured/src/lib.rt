@@ -1,4 +1,4 @@
-// The demands once more, of `call` itself: functions above it that go by its contract alone.
+// The demands once more, of `call` itself: functions above it that go by its contract alone, and ask nothing of what they are handed.
 ghost use mathlib.Core.Path.{_≡_};
 ghost use mathlib.Core.Bool.{true};
 ghost use Prim.Native.Nat.{_+_, _%_, _≤_, _<_};
