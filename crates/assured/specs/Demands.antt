@@ -5,38 +5,48 @@ use mathlib.Core.List.{List}
 use Prim.Native.Nat.{ℕ, _+_, _*_, _<_}
 use lib.ListN.{length}
 use Rattle.lists.specs.Cases.{split}
-use Rattle.lists.specs.Splice.{copies, splice}
+use Rattle.lists.specs.Tests.{_and_, and-left, and-right}
+use Rattle.lists.specs.Splice.{splice}
 use Rattle.format.specs.Diskette.{Bytes, eightInch, recordBytes, extents, extentRecords}
 use Rattle.format.specs.Fcb.{fcbBytes}
 use Rattle.disk.specs.Eight.{eight-sound}
 use Rattle.model.specs.declared.Asked.{Asked}
 use Rattle.model.specs.declared.Session.{Session}
+use Rattle.model.specs.declared.Answer.{Answer}
 use Rattle.model.specs.declared.Code.{Code}
 use Rattle.model.specs.Lent.{Lent, lend, Outcome, outcome}
 use Rattle.model.specs.Naming.{names}
 use Rattle.model.specs.Entering.{threeBytes}
 use Rattle.model.specs.Target.{targetExtent, targetRecord}
-use Rattle.model.specs.Kinds.{kindOf}
+use Rattle.model.specs.Kinds.{kindOf, same}
 use Rattle.model.specs.declared.Kind.the-variants.{Write}
 use Rattle.model.specs.Step.{refused, effect, step}
-use Rattle.table.specs.Own.{ask}
+use Rattle.table.specs.Own.{ask, same-is}
 use Rattle.table.specs.Total.{RefusedBy, CarriedOut, eight-total}
 use Rattle.effects.specs.Where.{Frame}
 use Rattle.effects.specs.Book.{Book, nothingHeld, acceptedAnswer}
-use Rattle.demands.specs.Runs.{Request, Disk, outcomeOf, left, accepts, after, run, bookRun}
+use Rattle.demands.specs.Runs.{Request, Disk, lentTo, outcomeOf, left, accepts, after, run, bookRun}
 use Rattle.demands.specs.NothingLost.{NothingLost}
 use Rattle.demands.specs.StepOk.{MayWrite, step-ok}
 use Rattle.demands.specs.Reading.{Gives, atRecord}
 use Rattle.demands.specs.ReadBack.{AllLeaveAlone, readFcb, wrote}
+use Rattle.demands.specs.Accepted.{accepted-carried}
 use Rattle.demands.specs.Eight.{eight-nothing-lost, eight-read-back}
+use Rattle.targets.specs.declared.Target.{Target}
+use Rattle.targets.specs.Target.{TargetOf}
 use Rattle.assured.specs.declared.ReadBack.{ReadBack}
+use Rattle.assured.specs.Script.{request}
 
-abbrev pub request : Asked → Bytes → Bytes → Request
-request asked fcb buffer = record { asked = asked; fcb = fcb; buffer = buffer }
+-- a log-in, with whatever argument, FCB and buffer
+abbrev pub logIn : ℕ → Bytes → Bytes → Request
+logIn argument fcb buffer = request (record { number = 13; argument = argument }) fcb buffer
 
--- the log-in that a run begins with: its FCB and its buffer are zeros
-unfoldable pub logIn : Request
-logIn = request (ask 13) (copies fcbBytes 0) (copies recordBytes 0)
+-- an answer to a write that says that it was accepted
+unfoldable pub writesAnswer : ℕ → Answer → Bool
+writesAnswer n a = same (kindOf n) Write and acceptedAnswer n a
+
+abbrev pub writesTo : Disk → Request → Bool
+writesTo d w = writesAnswer (w .asked .number) (outcomeOf eightInch d w .answer)
 
 -- the book of the calls that follow a log-in
 abbrev pub bookFrom : Disk → Request → List Request → Book
@@ -85,8 +95,9 @@ module _ (d : Disk) (q : Request) (o : Outcome) (f b : Bytes) (meets : o ≡ ste
   met-after = rw met
 
   -- what its answer says is what the request's says
-  pub met-accepts : (r v : Bool) → r ≡ acceptedAnswer (q .asked .number) (o .answer) → r ≡ v → accepts eightInch d q ≡ v
-  met-accepts r v h e = ap (λ (x : Outcome). acceptedAnswer (q .asked .number) (x .answer)) (sym met) ∙ sym h ∙ e
+  pub met-says : (says : ℕ → Answer → Bool) (r v : Bool) → r ≡ says (q .asked .number) (o .answer) → r ≡ v
+      → says (q .asked .number) (outcomeOf eightInch d q .answer) ≡ v
+  met-says says r v h e = ap (λ (x : Outcome). says (q .asked .number) (x .answer)) (sym met) ∙ sym h ∙ e
 
   -- calls made on the disk that it left
   pub met-run : (qs : List Request) (e : Disk) → e ≡ run eightInch (left o) qs → e ≡ run eightInch (after eightInch d q) qs
@@ -94,28 +105,40 @@ module _ (d : Disk) (q : Request) (o : Outcome) (f b : Bytes) (meets : o ≡ ste
 
 -- ---- demand 3: a log-in that was refused leaves the disk as a refusal does; after one that was accepted the calls are made, and
 -- nothing is lost
-pub data LoggedIn (d : Disk) (qs : List Request) (accepted : Bool) (e : Disk) : Type 0 where
-  login-refused : accepted ≡ false → accepts eightInch d logIn ≡ false → e ≡ after eightInch d logIn → LoggedIn d qs accepted e
-  calls-made : accepted ≡ true → accepts eightInch d logIn ≡ true → e ≡ run eightInch (after eightInch d logIn) qs
-      → NothingLost eightInch e (bookFrom d logIn qs) → LoggedIn d qs accepted e
+pub data LoggedIn (d : Disk) (q : Request) (qs : List Request) (accepted : Bool) (e : Disk) : Type 0 where
+  login-refused : accepted ≡ false → accepts eightInch d q ≡ false → e ≡ after eightInch d q → LoggedIn d q qs accepted e
+  calls-made : accepted ≡ true → accepts eightInch d q ≡ true → e ≡ run eightInch (after eightInch d q) qs
+      → NothingLost eightInch e (bookFrom d q qs) → LoggedIn d q qs accepted e
 
-pub logged-in : (d : Disk) (qs : List Request) (e : Disk) → accepts eightInch d logIn ≡ true → e ≡ run eightInch (after eightInch d logIn) qs
-    → LoggedIn d qs true e
-unfolding logIn
-logged-in d qs e a m =
-    calls-made refl a m (subst (λ (x : Disk). NothingLost eightInch x (bookFrom d logIn qs)) (sym m) (eight-nothing-lost d logIn refl a qs))
+pub logged-in : (d : Disk) (q : Request) → q .asked .number ≡ 13 → (qs : List Request) (e : Disk) → accepts eightInch d q ≡ true
+    → e ≡ run eightInch (after eightInch d q) qs → LoggedIn d q qs true e
+logged-in d q n qs e a m =
+    calls-made refl a m (subst (λ (x : Disk). NothingLost eightInch x (bookFrom d q qs)) (sym m) (eight-nothing-lost d q n a qs))
 
--- ---- demand 2: a write that was refused leaves what a refusal does; after one that was accepted the calls are made, and then call 33
--- through the FCB that the write handed back, with r0 to r2 set to its record. Where the calls leave the file alone, it gives what was
--- written. written and back are the two buffers afterwards
+-- ---- demand 2: a call that is no write, or was refused, leaves what it does; after a write that was accepted the calls are made, and then
+-- call 33 through the FCB that the write handed back, with r0 to r2 set to its record. Where the calls leave the file alone and the buffer
+-- lent to 33 has 128 bytes, it gives what was written. written and back are the two buffers afterwards
 pub data ReadsBack (d : Disk) (w : Request) (qs : List Request) (empty : Bytes) (r : ReadBack) (image map fcb written back : Bytes) : Type 0 where
-  write-refused : r .accepted ≡ false → accepts eightInch d w ≡ false → outcome (r .answer) image map fcb written ≡ outcomeOf eightInch d w
+  not-written : r .accepted ≡ false → writesTo d w ≡ false → outcome (r .answer) image map fcb written ≡ outcomeOf eightInch d w
       → back ≡ empty → ReadsBack d w qs empty r image map fcb written back
-  write-read : r .accepted ≡ true → accepts eightInch d w ≡ true → written ≡ outcomeOf eightInch d w .lent .buffer
+  write-read : r .accepted ≡ true → writesTo d w ≡ true → written ≡ outcomeOf eightInch d w .lent .buffer
       → outcome (r .answer) image map fcb back ≡ readAfter d w qs empty
-      → (LeftAlone d w qs → Gives (outcome (r .answer) image map fcb back) (w .buffer)) → ReadsBack d w qs empty r image map fcb written back
+      → (length empty ≡ recordBytes → LeftAlone d w qs → Gives (outcome (r .answer) image map fcb back) (w .buffer))
+      → ReadsBack d w qs empty r image map fcb written back
 
-module _ (d : Disk) (w : Request) (writes : kindOf (w .asked .number) ≡ Write) (accepted : accepts eightInch d w ≡ true) where
+module _ (d : Disk) (w : Request) (took : writesTo d w ≡ true) where
+  writes : kindOf (w .asked .number) ≡ Write
+  unfolding writesAnswer
+  writes = same-is (kindOf (w .asked .number)) Write (and-left _ _ took)
+
+  accepted : accepts eightInch d w ≡ true
+  unfolding writesAnswer
+  accepted = and-right _ _ took
+
+  pub fcb-long : length (w .fcb) ≡ fcbBytes
+  unfolding outcomeOf
+  fcb-long = accepted-carried eightInch (w .asked) (lentTo d w) (d .session) accepted .facts .ready .fits .fcb-long
+
   pub extent-low : targetExtent (w .asked .number) (w .fcb) < extents
   extent-low = wrote eight-sound d w writes accepted .extent
 
@@ -124,11 +147,11 @@ module _ (d : Disk) (w : Request) (writes : kindOf (w .asked .number) ≡ Write)
 
   -- call 33 on the disk after the calls
   module _ (o : Outcome) (met : o ≡ outcomeOf eightInch d w) (qs : List Request) (e : Disk) (made : e ≡ run eightInch (after eightInch d w) qs)
-      (x r : ℕ) (ext : x ≡ targetExtent (w .asked .number) (w .fcb)) (rec : r ≡ targetRecord (w .asked .number) (w .fcb)) (empty : Bytes) (p : Outcome)
-      (last : p ≡ step eightInch (ask 33) (lend (e .drive .image) (e .drive .map) (targetSet (o .lent .fcb) x r) empty) (e .session)) where
+      (t : Target) (is : TargetOf (w .asked .number) (w .fcb) t) (empty : Bytes) (p : Outcome)
+      (last : p ≡ step eightInch (ask 33) (lend (e .drive .image) (e .drive .map) (targetSet (o .lent .fcb) (t .extent) (t .at)) empty) (e .session)) where
     pub read-last : p ≡ readAfter d w qs empty
     unfolding readAfter readFcb atRecord outcomeOf
-    read-last = last ∙ rw (made, ext, rec, met)
+    read-last = last ∙ rw (made, is .extent, is .at, met)
 
     pub reads-again : length empty ≡ recordBytes → LeftAlone d w qs → Gives p (w .buffer)
     unfolding readAfter

@@ -1,52 +1,162 @@
--- Lists of calls as code is handed them: a script has for each call its number, its argument, its FCB and its buffer.
-use mathlib.Core.Path.{_≡_}
-use mathlib.Core.List.{List, [], _∷_}
-use Prim.Native.Nat.{ℕ, zero, suc, _+_, _*_, _-_, _<_}
+-- Lists of calls as code is handed them. A script has four numbers a call: its own, its argument, and the lengths of its FCB and of its
+-- buffer. The FCBs stand one after the other in one slice, the buffers in another.
+use mathlib.Core.Path.{_≡_, refl, ap, sym, _∙_}
+use mathlib.Core.List.{List, [], _∷_, _++_, append-assoc}
+use Prim.Native.Nat.{ℕ, suc, _+_, _-_, _%_, _≤_, _<_}
 use native.Mathlib.Omega.{arith}
-use lib.ListN.{getD}
-use Rattle.lists.specs.Splice.{part}
-use Rattle.format.specs.Diskette.{Bytes, Geometry, recordBytes}
-use Rattle.format.specs.Fcb.{fcbBytes}
+use lib.ListN.{length, getD, take, drop, length-append, length-drop, drop-of-length-le}
+use lib.Seq.{take-all, take-append-seam, drop-append-seam, drop-cons, drop-at, length-take-le}
+use Rattle.format.specs.Diskette.{Bytes, eightInch}
+use Rattle.model.specs.declared.Asked.{Asked}
 use Rattle.model.specs.declared.Session.{Session}
-use Rattle.demands.specs.Runs.{Request, Disk, after, run}
+use Rattle.model.specs.Lent.{lend, Outcome}
+use Rattle.model.specs.Step.{step}
+use Rattle.demands.specs.Runs.{Request, Disk, outcomeOf, after, run}
+use Rattle.assured.specs.declared.Point.{Point}
 
--- a number, an argument, an FCB and a buffer
-abbrev pub callBytes : ℕ
-callBytes = 2 + fcbBytes + recordBytes
+abbrev pub request : Asked → Bytes → Bytes → Request
+request asked fcb buffer = record { asked = asked; fcb = fcb; buffer = buffer }
 
--- call i
-unfoldable pub requestAt : Bytes → ℕ → Request
-requestAt script i =
-    record {
-      asked = record { number = getD script (callBytes * i) 0; argument = getD script (callBytes * i + 1) 0 };
-      fcb = part script (callBytes * i + 2) fcbBytes;
-      buffer = part script (callBytes * i + (2 + fcbBytes)) recordBytes;
-    }
+-- a call's number and argument are bytes
+abbrev pub askedBy : ℕ → ℕ → Asked
+askedBy n a = record { number = n % 256; argument = a % 256 }
 
--- n calls, from call i on
-unfoldable pub requestsFrom : Bytes → ℕ → ℕ → List Request
-requestsFrom script i zero = []
-requestsFrom script i (suc n) = requestAt script i ∷ requestsFrom script (i + 1) n
-
--- the first n calls
-abbrev pub requests : Bytes → ℕ → List Request
-requests script n = requestsFrom script 0 n
+-- the calls that a script stands for. One that ends within a call ends before it; where FCBs or buffers run out, what is left is lent
+unfoldable pub requests : List ℕ → Bytes → Bytes → List Request
+requests (n ∷ a ∷ f ∷ b ∷ script) fcbs buffers = request (askedBy n a) (take f fcbs) (take b buffers) ∷ requests script (drop f fcbs) (drop b buffers)
+requests [] fcbs buffers = []
+requests (n ∷ []) fcbs buffers = []
+requests (n ∷ a ∷ []) fcbs buffers = []
+requests (n ∷ a ∷ f ∷ []) fcbs buffers = []
 
 abbrev pub diskOf : Bytes → Bytes → Session → Disk
 diskOf image map s = record { drive = record { image = image; map = map }; session = s }
 
--- ---- the loop that makes them: what is left to be made comes to the same
-module _ (G : Geometry) (script : Bytes) where
-  pub run-start : (d : Disk) (n : ℕ) → run G d (requestsFrom script 0 (n - 0)) ≡ run G d (requests script n)
-  run-start d n = let q : n - 0 ≡ n = omega arith in rw q
+-- every list of calls of bytes is that of a script
+abbrev numbersOf : List Request → List ℕ
+numbersOf [] = []
+numbersOf (q ∷ qs) = q .asked .number ∷ q .asked .argument ∷ length (q .fcb) ∷ length (q .buffer) ∷ numbersOf qs
 
-  pub run-none : (d : Disk) (i n : ℕ) → (i < n → ⊥) → run G d (requestsFrom script i (n - i)) ≡ d
-  unfolding run requestsFrom
-  run-none d i n h = let q : n - i ≡ 0 = omega arith in rw q
+abbrev joined : (Request → Bytes) → List Request → Bytes
+joined bytes [] = []
+joined bytes (q ∷ qs) = bytes q ++ joined bytes qs
 
-  pub run-more : (d e : Disk) (i n : ℕ) → i < n → e ≡ after G d (requestAt script i)
-      → run G e (requestsFrom script (i + 1) (n - (i + 1))) ≡ run G d (requestsFrom script i (n - i))
-  unfolding run requestsFrom
-  run-more d e i n h q =
-      let k : n - i ≡ suc (n - (i + 1)) = omega arith in
-      rw (k, q)
+abbrev AllBytes : List Request → Type 0
+AllBytes [] = Unit {0}
+AllBytes (q ∷ qs) = (q .asked .number < 256) × (q .asked .argument < 256) × AllBytes qs
+
+pub scripted : (qs : List Request) → AllBytes qs → requests (numbersOf qs) (joined (λ (q : Request). q .fcb) qs) (joined (λ (q : Request). q .buffer) qs) ≡ qs
+unfolding requests
+scripted [] all = refl
+scripted (q ∷ qs) all =
+    let n : q .asked .number % 256 ≡ q .asked .number = omega (arith, all .0) in
+    let a : q .asked .argument % 256 ≡ q .asked .argument = omega (arith, all .1) in
+    rw (
+      n,
+      a,
+      take-append-seam (q .fcb) (joined (λ (r : Request). r .fcb) qs),
+      take-append-seam (q .buffer) (joined (λ (r : Request). r .buffer) qs),
+      drop-append-seam (q .fcb) (joined (λ (r : Request). r .fcb) qs),
+      drop-append-seam (q .buffer) (joined (λ (r : Request). r .buffer) qs),
+      scripted qs (all .2),
+    )
+
+-- ---- the loop that makes them
+-- the disk that is come to by the calls from `at` on, from a point of a run
+unfoldable pub callsLeft : List ℕ → ℕ → Bytes → Bytes → Bytes → Bytes → Point → Disk
+callsLeft script at fcbs buffers image map p =
+    run eightInch (diskOf image map (p .session)) (requests (drop at script) (drop (p .fcbs) fcbs) (drop (p .buffers) buffers))
+
+-- `to` is where the next n bytes end, or all that is left
+pub record Ends (bytes : Bytes) (from n to : ℕ) : Type 0 where
+  pub low : from ≤ to
+  pub high : to ≤ length bytes
+  pub taken : take (to - from) (drop from bytes) ≡ take n (drop from bytes)
+  pub left : drop (to - from) (drop from bytes) ≡ drop n (drop from bytes)
+
+pub ends-within : (bytes : Bytes) (from n : ℕ) → from ≤ length bytes → n < length bytes - from → Ends bytes from n (from + n)
+ends-within bytes from n h l =
+    let q : (from + n) - from ≡ n = omega arith in
+    record { low = omega arith; high = omega arith; taken = rw q; left = rw q }
+
+pub ends-short : (bytes : Bytes) (from n : ℕ) → from ≤ length bytes → (n < length bytes - from → ⊥) → Ends bytes from n (length bytes)
+ends-short bytes from n h l =
+    let q : length (drop from bytes) ≡ length bytes - from = length-drop from bytes in
+    record {
+      low = h;
+      high = omega arith;
+      taken = take-all (length bytes - from) (drop from bytes) (omega arith) ∙ sym (take-all n (drop from bytes) (omega arith));
+      left = drop-of-length-le (drop from bytes) {i = length bytes - from} (omega arith) ∙ sym (drop-of-length-le (drop from bytes) {i = n} (omega arith));
+    }
+
+part-long : (bytes : Bytes) (from n to : ℕ) → Ends bytes from n to → length (take (to - from) (drop from bytes)) ≡ to - from
+part-long bytes from n to e =
+    let q = length-drop from bytes in
+    length-take-le (to - from) (drop from bytes) (omega (arith, e .high))
+
+-- the bytes past a part stay, whatever that becomes
+past-part : (bytes part : Bytes) (from n to : ℕ) → Ends bytes from n to → length part ≡ to - from
+    → drop to (take from bytes ++ (part ++ drop (to - from) (drop from bytes))) ≡ drop n (drop from bytes)
+past-part bytes part from n to e h =
+    let low = e .low in
+    let high = e .high in
+    let front : length (take from bytes) ≡ from = length-take-le from bytes (omega arith) in
+    ap (drop to) (sym (append-assoc (take from bytes) part (drop (to - from) (drop from bytes))))
+    ∙ drop-at (take from bytes ++ part) (drop (to - from) (drop from bytes)) to (length-append (take from bytes) part ∙ omega arith) ∙ e .left
+
+-- the numbers of a call, and what comes after
+next : (xs : List ℕ) (k m : ℕ) → k < length xs → m ≡ suc k → drop k xs ≡ getD xs k 0 ∷ drop m xs
+next xs k m h q = rw q (drop-cons xs k 0 h)
+
+four : (xs : List ℕ) (at : ℕ) → at + 4 ≤ length xs
+    → drop at xs ≡ getD xs at 0 ∷ getD xs (at + 1) 0 ∷ getD xs (at + 2) 0 ∷ getD xs (at + 3) 0 ∷ drop (at + 4) xs
+four xs at h =
+    next xs at (at + 1) (omega arith) (omega arith)
+    ∙ ap (λ (r : List ℕ). getD xs at 0 ∷ r) (next xs (at + 1) (at + 2) (omega arith) (omega arith)
+    ∙ ap (λ (r : List ℕ). getD xs (at + 1) 0 ∷ r) (next xs (at + 2) (at + 3) (omega arith) (omega arith)
+    ∙ ap (λ (r : List ℕ). getD xs (at + 2) 0 ∷ r) (next xs (at + 3) (at + 4) (omega arith) (omega arith))))
+
+none-left : (xs : List ℕ) (fcbs buffers : Bytes) → length xs < 4 → requests xs fcbs buffers ≡ []
+unfolding requests
+none-left [] fcbs buffers h = refl
+none-left (n ∷ []) fcbs buffers h = refl
+none-left (n ∷ a ∷ []) fcbs buffers h = refl
+none-left (n ∷ a ∷ f ∷ []) fcbs buffers h = refl
+none-left (n ∷ a ∷ f ∷ b ∷ xs) fcbs buffers h = absurd (omega arith)
+
+-- a slice whose part came back
+abbrev pub mended : Bytes → ℕ → ℕ → Bytes → Bytes
+mended bytes from to part = take from bytes ++ (part ++ drop (to - from) (drop from bytes))
+
+module _ (script : List ℕ) (at : ℕ) (fcbs buffers image map : Bytes) (p : Point) where
+  pub calls-none : length script - at < 4 → callsLeft script at fcbs buffers image map p ≡ diskOf image map (p .session)
+  unfolding callsLeft run
+  calls-none h =
+      let q = length-drop at script in
+      let none = none-left (drop at script) (drop (p .fcbs) fcbs) (drop (p .buffers) buffers) (omega arith) in
+      ap (run eightInch (diskOf image map (p .session))) none
+
+  -- one call is made
+  pub calls-next : at + 4 ≤ length script → (f b n a : ℕ) → Ends fcbs (p .fcbs) (getD script (at + 2) 0) f → Ends buffers (p .buffers) (getD script (at + 3) 0) b
+      → n ≡ getD script at 0 % 256 → a ≡ getD script (at + 1) 0 % 256 → (o : Outcome)
+      → o ≡ step eightInch (record { number = n; argument = a })
+      (lend image map (take (f - p .fcbs) (drop (p .fcbs) fcbs)) (take (b - p .buffers) (drop (p .buffers) buffers))) (p .session)
+      → length (o .lent .fcb) ≡ length (take (f - p .fcbs) (drop (p .fcbs) fcbs))
+      → length (o .lent .buffer) ≡ length (take (b - p .buffers) (drop (p .buffers) buffers))
+      → callsLeft script (at + 4) (mended fcbs (p .fcbs) f (o .lent .fcb)) (mended buffers (p .buffers) b (o .lent .buffer)) (o .lent .drive .image) (o .lent .drive .map)
+      record { fcbs = f; buffers = b; session = o .answer .session }
+      ≡ callsLeft script at fcbs buffers image map p
+  unfolding callsLeft run requests after outcomeOf
+  calls-next h f b n a ef eb qn qa o meets lf lb =
+      let x : ℕ = getD script (at + 2) 0 in
+      let y : ℕ = getD script (at + 3) 0 in
+      rw (
+        past-part fcbs (o .lent .fcb) (p .fcbs) x f ef (lf ∙ part-long fcbs (p .fcbs) x f ef),
+        past-part buffers (o .lent .buffer) (p .buffers) y b eb (lb ∙ part-long buffers (p .buffers) y b eb),
+        four script at h,
+        meets,
+        qn,
+        qa,
+        ef .taken,
+        eb .taken,
+      )

@@ -1,28 +1,34 @@
-// The demands once more, of `call` itself: functions above it that go by its contract alone.
+// The demands once more, of `call` itself: functions above it that go by its contract alone, and ask nothing of what they are handed.
 ghost use mathlib.Core.Path.{_≡_};
 ghost use mathlib.Core.Bool.{true};
-ghost use Prim.Native.Nat.{_+_, _*_, _≤_, _<_};
+ghost use Prim.Native.Nat.{_+_, _%_, _≤_, _<_};
 ghost use lib.ListN.{length};
-ghost use Rattle.format.specs.Diskette.{eightInch, recordBytes, extents, extentRecords};
+ghost use Rattle.format.specs.Diskette.{eightInch, extents, extentRecords};
 ghost use Rattle.format.specs.Fcb.{fcbBytes};
 ghost use Rattle.model.specs.Lent.{lend, outcome};
-ghost use Rattle.model.specs.Kinds.{kindOf};
+ghost use Rattle.model.specs.Kinds.{kindOf, same};
 ghost use Rattle.model.specs.declared.Kind.the-variants.{Write};
 ghost use Rattle.model.specs.Step.{step};
 ghost use Rattle.table.specs.Own.{ask};
 ghost use Rattle.effects.specs.Book.{ofRecord, acceptedAnswer};
-ghost use Rattle.demands.specs.Runs.{after, run};
-ghost use Rattle.assured.specs.Script.{callBytes, requestAt, requests, diskOf};
-ghost use Rattle.assured.specs.Demands.{request, targetSet, Told, Framed, LoggedIn, ReadsBack};
+ghost use Rattle.demands.specs.Runs.{run};
+ghost use Rattle.targets.specs.Target.{TargetOf};
+ghost use Rattle.assured.specs.Script.{request, requests, callsLeft, Ends, diskOf};
+ghost use Rattle.assured.specs.Demands.{logIn, writesAnswer, targetSet, Told, Framed, LoggedIn, ReadsBack};
 use model::Answer;
 use model::Asked;
 use model::Session;
 use targets::Target;
 
-// The bytes of a call in a script: its number, its argument, its FCB and its buffer.
-const BUFFER_AT: usize = 2 + format::FCB_BYTES;
+// The numbers of a call in a script: its own, its argument, and the lengths of its FCB and of its buffer.
+const CALL_NUMBERS: usize = 4;
 
-const CALL_BYTES: usize = BUFFER_AT + format::RECORD_BYTES;
+// Where a run stands: past the FCBs and the buffers of the calls that were made, and the session that these left.
+pub struct Point {
+    pub fcbs: usize,
+    pub buffers: usize,
+    pub session: Session,
+}
 
 // What a run comes to: whether its first call was accepted, and the session that it left.
 pub struct Ran {
@@ -30,7 +36,7 @@ pub struct Ran {
     pub session: Session,
 }
 
-// What a write and a read after it come to: whether the write was accepted, and what the last call made answered.
+// What a write and a read after it come to: whether a write was accepted, and what the last call made answered.
 pub struct ReadBack {
     pub accepted: bool,
     pub answer: Answer,
@@ -52,23 +58,30 @@ pub fn one_call(
         × Framed asked (lend (now (image .entry)) (now (map .entry)) (now (fcb .entry)) (now (buffer .entry))) session
         (outcome r (now (image .exit)) (now (map .exit)) (now (fcb .exit)) (now (buffer .exit))) ⌝ }
 {
-    bdos::call(asked, image, map, fcb, buffer, session)
+    benzokamuri::benzo_call(asked, image, map, fcb, buffer, session)
 }
 
-// Whether a call moves a record: 20, 21, 33 and 34.
+// Whether a call writes: 21 and 34.
+fn writes(number: u8) -> bool
+    ensures { λ r. ⌜ r ≡ same (kindOf number) Write ⌝ }
+{
+    if number == 21 {
+        return true;
+    }
+    number == 34
+}
+
+// Whether a call moves a record: 20 and 33, and those that write.
 fn moves_record(number: u8) -> bool
     ensures { λ r. ⌜ r ≡ ofRecord (kindOf number) ⌝ }
 {
     if number == 20 {
         return true;
     }
-    if number == 21 {
-        return true;
-    }
     if number == 33 {
         return true;
     }
-    number == 34
+    writes(number)
 }
 
 // Whether an answer to a call says that it was accepted.
@@ -84,71 +97,121 @@ fn accepted(number: u8, answer: Answer) -> bool
     answer.a != 255
 }
 
-// One call of a script.
-fn make_call(
-    script: &[u8],
-    i: usize,
-    image: &mut [u8],
-    map: &mut [u16],
-    session: Session,
-) -> Session
-    requires { ⌜ callBytes * (i + 1) ≤ length (now script) ⌝ }
-    ensures { λ r. ⌜ diskOf (now (image .exit)) (now (map .exit)) r
-        ≡ after eightInch (diskOf (now (image .entry)) (now (map .entry)) session) (requestAt (now (script .entry)) i) ⌝ }
+// Whether an answer is that of a write that was accepted.
+fn wrote(number: u8, answer: Answer) -> bool
+    ensures { λ r. ⌜ r ≡ writesAnswer number answer ⌝ }
 {
-    let at = CALL_BYTES * i;
-    let mut fcb = [0u8; format::FCB_BYTES];
-    lists::get(script, at + 2, &mut fcb);
-    let mut buffer = [0u8; format::RECORD_BYTES];
-    lists::get(script, at + BUFFER_AT, &mut buffer);
-    let asked = Asked {
-        number: script[at],
-        argument: script[at + 1],
-    };
-    let r = bdos::call(asked, image, map, &mut fcb, &mut buffer, session);
-    r.session
-}
-
-// The first n calls of a script, one after the other.
-pub fn run_calls(
-    script: &[u8],
-    n: usize,
-    image: &mut [u8],
-    map: &mut [u16],
-    session: Session,
-) -> Session
-    requires { ⌜ callBytes * n ≤ length (now script) ⌝ }
-    ensures { λ r. ⌜ diskOf (now (image .exit)) (now (map .exit)) r
-        ≡ run eightInch (diskOf (now (image .entry)) (now (map .entry)) session) (requests (now (script .entry)) n) ⌝ }
-{
-    let mut s = session;
-    let mut i = 0;
-    while i < n {
-        s = make_call(script, i, image, map, s);
-        i += 1;
+    if writes(number) {
+        return accepted(number, answer);
     }
-    s
+    false
 }
 
-// Demand 3, of `call` itself: a log-in and, where it is accepted, the first n calls of any script, and nothing is lost.
+// A number of a script as a byte.
+fn low_byte(x: usize) -> u8
+    ensures { λ r. ⌜ r ≡ x % 256 ⌝ }
+{
+    (x % 256) as u8
+}
+
+// Where the next n bytes end, or the bytes themselves if they are fewer.
+fn ends_at(bytes: &[u8], from: usize, n: usize) -> usize
+    requires { ⌜ from ≤ length (now bytes) ⌝ }
+    ensures { λ r. ⌜ Ends (now (bytes .entry)) from n r ⌝ }
+{
+    if n < bytes.len() - from {
+        return from + n;
+    }
+    bytes.len()
+}
+
+// The next call of a script: those that are left, made on what it leaves, come to what they and it came to before.
+fn make_call(
+    script: &[usize],
+    at: usize,
+    fcbs: &mut [u8],
+    buffers: &mut [u8],
+    image: &mut [u8],
+    map: &mut [u16],
+    p: Point,
+) -> Point
+    requires { ⌜ (at + 4 ≤ length (now script)) × (p .fcbs ≤ length (now fcbs)) × (p .buffers ≤ length (now buffers)) ⌝ }
+    ensures { λ r. ⌜ (callsLeft (now (script .entry)) (at + 4) (now (fcbs .exit)) (now (buffers .exit)) (now (image .exit)) (now (map .exit)) r
+        ≡ callsLeft (now (script .entry)) at (now (fcbs .entry)) (now (buffers .entry)) (now (image .entry)) (now (map .entry)) p)
+        × (r .fcbs ≤ length (now (fcbs .entry))) × (r .buffers ≤ length (now (buffers .entry))) ⌝ }
+{
+    let s = p.session;
+    let fcb_from = p.fcbs;
+    let fcb_to = ends_at(fcbs, fcb_from, script[at + 2]);
+    let from = p.buffers;
+    let to = ends_at(buffers, from, script[at + 3]);
+    let asked = Asked {
+        number: low_byte(script[at]),
+        argument: low_byte(script[at + 1]),
+    };
+    let r = bdos::call(
+        asked,
+        image,
+        map,
+        &mut fcbs[fcb_from..fcb_to],
+        &mut buffers[from..to],
+        s,
+    );
+    let t = r.session;
+    Point {
+        fcbs: fcb_to,
+        buffers: to,
+        session: t,
+    }
+}
+
+// The calls of a script, one after the other, with FCBs and buffers of any length.
+pub fn run_calls(
+    script: &[usize],
+    fcbs: &mut [u8],
+    buffers: &mut [u8],
+    image: &mut [u8],
+    map: &mut [u16],
+    session: Session,
+) -> Session
+    ensures { λ r. ⌜ diskOf (now (image .exit)) (now (map .exit)) r
+        ≡ run eightInch (diskOf (now (image .entry)) (now (map .entry)) session)
+        (requests (now (script .entry)) (now (fcbs .entry)) (now (buffers .entry))) ⌝ }
+{
+    let mut p = Point {
+        fcbs: 0,
+        buffers: 0,
+        session: session,
+    };
+    let mut at = 0;
+    while CALL_NUMBERS <= script.len() - at {
+        p = make_call(script, at, fcbs, buffers, image, map, p);
+        at += CALL_NUMBERS;
+    }
+    p.session
+}
+
+// Demand 3, of `call` itself: a log-in and, where it is accepted, the calls of any script, and nothing is lost.
 pub fn log_in_and_run(
-    script: &[u8],
-    n: usize,
+    argument: u8,
+    fcb: &mut [u8],
+    buffer: &mut [u8],
+    script: &[usize],
+    fcbs: &mut [u8],
+    buffers: &mut [u8],
     image: &mut [u8],
     map: &mut [u16],
     session: Session,
 ) -> Ran
-    requires { ⌜ callBytes * n ≤ length (now script) ⌝ }
-    ensures { λ r. ⌜ LoggedIn (diskOf (now (image .entry)) (now (map .entry)) session) (requests (now (script .entry)) n)
+    ensures { λ r. ⌜ LoggedIn (diskOf (now (image .entry)) (now (map .entry)) session) (logIn argument (now (fcb .entry)) (now (buffer .entry)))
+        (requests (now (script .entry)) (now (fcbs .entry)) (now (buffers .entry)))
         (r .accepted) (diskOf (now (image .exit)) (now (map .exit)) (r .session)) ⌝ }
 {
-    let mut fcb = [0u8; format::FCB_BYTES];
-    let mut buffer = [0u8; format::RECORD_BYTES];
     let asked = Asked {
         number: 13,
-        argument: 0,
+        argument: argument,
     };
-    let login = bdos::call(asked, image, map, &mut fcb, &mut buffer, session);
+    let login = bdos::call(asked, image, map, fcb, buffer, session);
     let s = login.session;
     if !accepted(13, login) {
         return Ran {
@@ -158,7 +221,21 @@ pub fn log_in_and_run(
     }
     Ran {
         accepted: true,
-        session: run_calls(script, n, image, map, s),
+        session: run_calls(script, fcbs, buffers, image, map, s),
+    }
+}
+
+// The target of a record call; any, where the FCB has another length than 36, with which every call is refused.
+fn target_of(number: u8, fcb: &[u8]) -> Target
+    ensures { λ r. ⌜ (length (now (fcb .entry)) ≡ fcbBytes → TargetOf number (now (fcb .entry)) r) ⌝ }
+{
+    if fcb.len() == format::FCB_BYTES {
+        return targets::target_of(number, fcb);
+    }
+    Target {
+        extent: 0,
+        at: 0,
+        after: 0,
     }
 }
 
@@ -185,12 +262,13 @@ fn read_again(
     bdos::call(asked, image, map, fcb, back, session)
 }
 
-// Demand 2, of `call` itself: a write and, where it is accepted, the first n calls of any script and call 33 for the record written.
-// Where these calls leave the file alone, 33 is accepted and gives the bytes that were written.
+// Demand 2, of `call` itself: a call and, where it is a write and accepted, the calls of any script and call 33 for the record written.
+// Where these calls leave the file alone and back has 128 bytes, 33 is accepted and gives the bytes that were written.
 pub fn write_and_read(
     asked: Asked,
-    script: &[u8],
-    n: usize,
+    script: &[usize],
+    fcbs: &mut [u8],
+    buffers: &mut [u8],
     image: &mut [u8],
     map: &mut [u16],
     fcb: &mut [u8],
@@ -198,21 +276,19 @@ pub fn write_and_read(
     back: &mut [u8],
     session: Session,
 ) -> ReadBack
-    requires { ⌜ (kindOf (asked .number) ≡ Write) × (callBytes * n ≤ length (now script))
-        × (length (now fcb) ≡ fcbBytes) × (length (now back) ≡ recordBytes) ⌝ }
     ensures { λ r. ⌜ ReadsBack (diskOf (now (image .entry)) (now (map .entry)) session)
-        (request asked (now (fcb .entry)) (now (written .entry))) (requests (now (script .entry)) n) (now (back .entry))
-        r (now (image .exit)) (now (map .exit)) (now (fcb .exit)) (now (written .exit)) (now (back .exit)) ⌝ }
+        (request asked (now (fcb .entry)) (now (written .entry))) (requests (now (script .entry)) (now (fcbs .entry)) (now (buffers .entry)))
+        (now (back .entry)) r (now (image .exit)) (now (map .exit)) (now (fcb .exit)) (now (written .exit)) (now (back .exit)) ⌝ }
 {
-    let target = targets::target_of(asked.number, fcb);
+    let target = target_of(asked.number, fcb);
     let write = bdos::call(asked, image, map, fcb, written, session);
-    if !accepted(asked.number, write) {
+    if !wrote(asked.number, write) {
         return ReadBack {
             accepted: false,
             answer: write,
         };
     }
-    let s = run_calls(script, n, image, map, write.session);
+    let s = run_calls(script, fcbs, buffers, image, map, write.session);
     ReadBack {
         accepted: true,
         answer: read_again(target, image, map, fcb, back, s),

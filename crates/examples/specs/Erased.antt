@@ -4,10 +4,9 @@ use mathlib.Core.Bool.{true, false}
 use mathlib.Core.List.{[], _∷_}
 use Prim.Native.Nat.{ℕ, _-_, _*_, _≤_, _<_}
 use native.Mathlib.Omega.{arith}
-use lib.ListN.{length, getD}
+use lib.ListN.{length, getD, replicate, length-replicate}
 use borrow.Author.Tests.{lt-ltb, le-ltb}
 use Rattle.lists.specs.Cases.{split, lt-or-le, clash}
-use Rattle.lists.specs.Tests.{_or_}
 use Rattle.lists.specs.Splice.{part, splice, part-splice-same}
 use Rattle.lists.specs.Count.{count-from}
 use Rattle.table.specs.Own.{calling}
@@ -21,7 +20,6 @@ use Rattle.notes.specs.Right.{length-fresh, fresh-at, fresh-right}
 use Rattle.fields.specs.Erased.{ErasedDisk, erased-consistent, erased-unlisted}
 use Rattle.model.specs.declared.Asked.{Asked}
 use Rattle.model.specs.declared.Session.{Session}
-use Rattle.model.specs.Codes.{aOf, hOf}
 use Rattle.model.specs.Lent.{lend, Outcome, ended}
 use Rattle.model.specs.Entering.{threeBytes}
 use Rattle.model.specs.Kinds.{usesFcb, isCall, kindOf}
@@ -70,6 +68,25 @@ pub record Fitting (G : Geometry) (map fcb buffer : Bytes) (s : Session) : Type 
   pub buffer-long : length buffer ≡ recordBytes
   pub user-low : s .user ≤ 15
   pub place-low : s .place ≤ G .entries
+
+-- user 0 with no search, any map, a blank buffer
+abbrev pub start : Session
+start = record { user = 0; pattern = replicate 12 0; place = 0; on = 0 }
+
+abbrev pub blank : Bytes
+blank = replicate 128 0
+
+abbrev pub notes : Bytes
+notes = replicate 243 0
+
+pub fitting : (fcb : Bytes) → length fcb ≡ fcbBytes → Fitting eightInch notes fcb blank start
+fitting fcb long = record {
+  map-long = length-replicate {A = ℕ} 243 0;
+  fcb-long = long;
+  buffer-long = length-replicate {A = ℕ} 128 0;
+  user-low = omega arith;
+  place-low = omega arith;
+}
 
 module _ (G : Geometry) (img : Bytes) (long : Long G img) (right : consistent G img ≡ true)
     (map fcb buffer : Bytes) (s : Session) (fit : Fitting G map fcb buffer s) where

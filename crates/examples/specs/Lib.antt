@@ -4,6 +4,7 @@ pub mod Random
 pub mod Numbers
 pub mod Pattern
 pub mod Slots
-pub mod Examples
 pub mod OneFile
+pub mod Met
+pub mod Examples
 pub mod Useless

@@ -20,7 +20,6 @@ use Rattle.format.specs.Found.{isFound}
 use Rattle.facts.specs.Found.{FoundAt, is-found, not-found, none-says}
 use Rattle.model.specs.declared.Asked.{Asked}
 use Rattle.model.specs.declared.Session.{Session}
-use Rattle.model.specs.Codes.{aOf, hOf}
 use Rattle.model.specs.Lent.{Lent, lend, rowsOf}
 use Rattle.model.specs.Entering.{threeBytes}
 use Rattle.model.specs.Calls.{done, fileSize, sized, positioned}

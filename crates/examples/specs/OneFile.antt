@@ -1,8 +1,8 @@
--- A disk with one file: entry 0 of an erased disk is user 0's file A, of r records, and lists block 2.
+-- A disk with one entry: entry 0 of an erased disk is an extent of user 0's file A, with its count, and lists one block.
 use mathlib.Core.Path.{_≡_, refl, sym, ap, _∙_}
 use mathlib.Core.Bool.{true, false}
 use mathlib.Core.List.{[], _∷_, _++_}
-use Prim.Native.Nat.{ℕ, zero, suc, _≤_, _<_}
+use Prim.Native.Nat.{ℕ, zero, suc, _+_, _*_, _/_, _%_, _≤_, _<_}
 use native.Mathlib.Omega.{arith}
 use lib.ListN.{length, getD, replicate, getD-replicate}
 use borrow.Author.Tests.{eqb-true, le-leb}
@@ -10,7 +10,7 @@ use Rattle.lists.specs.Cases.{split, eq-or-ne, bool-cases, not-both}
 use Rattle.lists.specs.Tests.{_and_, _or_, and-left}
 use Rattle.lists.specs.Below.{allBelow}
 use Rattle.lists.specs.Splice.{part, splice}
-use Rattle.format.specs.Diskette.{Bytes, eightInch, slotCount, Long}
+use Rattle.format.specs.Diskette.{Bytes, eightInch, extents, slotCount, Long}
 use Rattle.format.specs.Names.{nameByte, nameRight, byteLike, nameLike}
 use Rattle.format.specs.Entries.{Rows, entryAt, withEntry, slotOf, userOf, countOf, empty, used, extentOf, endOf, slotIn, slotsOf, named}
 use Rattle.format.specs.Consistent.{consistent}
@@ -35,18 +35,33 @@ use Rattle.model.specs.declared.Asked.{Asked}
 use Rattle.examples.specs.Erased.{Fitting, fresh-count, logged-ready}
 use Rattle.examples.specs.Numbers.{size-step, HasEntry, some-entry}
 
+pub record Entry : Type 0 where
+  pub extent : ℕ
+  pub count : ℕ
+  pub block : ℕ
+
+abbrev pub entryOf : ℕ → ℕ → ℕ → Entry
+entryOf extent count block = record { extent = extent; count = count; block = block }
+
+-- its numbers are in range
+pub record InRange (f : Entry) : Type 0 where
+  pub extent : f .extent < extents
+  pub count : f .count ≤ 128
+  pub low : 2 ≤ f .block
+  pub high : f .block ≤ 242
+
 -- the bytes before the slots
-abbrev fileHead : ℕ → Bytes
-fileHead r = 0 ∷ 65 ∷ 32 ∷ 32 ∷ 32 ∷ 32 ∷ 32 ∷ 32 ∷ 32 ∷ 32 ∷ 32 ∷ 32 ∷ 0 ∷ 0 ∷ 0 ∷ r ∷ []
+abbrev fileHead : Entry → Bytes
+fileHead f = 0 ∷ 65 ∷ 32 ∷ 32 ∷ 32 ∷ 32 ∷ 32 ∷ 32 ∷ 32 ∷ 32 ∷ 32 ∷ 32 ∷ f .extent % 32 ∷ 0 ∷ f .extent / 32 ∷ f .count ∷ []
 
-abbrev fileSlots : Bytes
-fileSlots = 2 ∷ replicate 15 0
+abbrev fileSlots : Entry → Bytes
+fileSlots f = f .block ∷ replicate 15 0
 
-unfoldable pub fileRow : ℕ → Bytes
-fileRow r = fileHead r ++ fileSlots
+unfoldable pub fileRow : Entry → Bytes
+fileRow f = fileHead f ++ fileSlots f
 
-unfoldable pub oneFile : Bytes → ℕ → Bytes
-oneFile img r = withEntry eightInch img 0 (fileRow r)
+unfoldable pub oneFile : Bytes → Entry → Bytes
+oneFile img f = withEntry eightInch img 0 (fileRow f)
 
 -- an FCB of file A
 unfoldable pub fileFcb : Bytes
@@ -57,75 +72,72 @@ unfolding fileFcb
 length-fileFcb = refl
 
 -- ---- the row
-length-file : (r : ℕ) → length (fileRow r) ≡ 32
-unfolding fileRow
-length-file r = refl
-
-file-used : (r : ℕ) → used (fileRow r) ≡ true
-unfolding fileRow used
-file-used r = refl
-
-file-slot : (r j : ℕ) → slotOf eightInch (fileRow r) j ≡ getD fileSlots j 0
-unfolding slotOf slotIn slotsOf part fileRow
-file-slot r j = refl
-
-slot-first : (j : ℕ) → j < slotCount → (getD fileSlots j 0 ≡ 0 → ⊥) → j ≡ 0
-slot-first zero h real = refl
-slot-first (suc j) h real = absurd (real (getD-replicate 15 j 0 0 (omega arith)))
-
-file-name : (r : ℕ) → nameRight false (fileRow r) 1 ≡ true
-unfolding nameRight nameByte allBelow fileRow _and_ _or_
-file-name r = refl
-
-file-asked : (r : ℕ) → named false 0 fileFcb 1 (fileRow r) ≡ true
-unfolding named nameLike byteLike allBelow fileFcb fileRow _and_ _or_
-file-asked r = refl
-
-drive-low : getD fileFcb 0 0 ≤ 1
+pub drive-low : getD fileFcb 0 0 ≤ 1
 unfolding fileFcb
 drive-low = omega arith
 
-fcb-name : nameRight false fileFcb 1 ≡ true
+pub fcb-name : nameRight false fileFcb 1 ≡ true
 unfolding nameRight nameByte allBelow fileFcb _and_ _or_
 fcb-name = refl
 
-file-size : (r : ℕ) → endOf (fileRow r) ≡ r
-unfolding extentOf endOf fileRow
-file-size r = omega arith
+module _ (f : Entry) where
+  length-file : length (fileRow f) ≡ 32
+  unfolding fileRow
+  length-file = refl
 
-file-run : (r : ℕ) → extentOf (fileRow r) ≡ 0
-unfolding extentOf fileRow
-file-run r = refl
+  file-used : used (fileRow f) ≡ true
+  unfolding fileRow used
+  file-used = refl
 
-file-count : (r : ℕ) → countOf (fileRow r) ≡ r
-unfolding fileRow
-file-count r = refl
+  file-slot : (j : ℕ) → slotOf eightInch (fileRow f) j ≡ getD (fileSlots f) j 0
+  unfolding slotOf slotIn slotsOf part fileRow
+  file-slot j = refl
 
-file-fine : (r : ℕ) → r ≤ 128 → Fine eightInch (fileRow r)
-unfolding fileRow
-file-fine r h = record {
-  user = omega arith;
-  name = file-name r;
-  numbers = record { ex = omega arith; s2 = omega arith; rc = h };
-  low = λ j l real. let q : j ≡ 0 = slot-first j l (λ z. real (file-slot r j ∙ z)) in rw (file-slot r j, q) (omega arith);
-  high = λ j l real. let q : j ≡ 0 = slot-first j l (λ z. real (file-slot r j ∙ z)) in rw (file-slot r j, q) (omega arith);
-}
+  slot-first : (j : ℕ) → j < slotCount → (getD (fileSlots f) j 0 ≡ 0 → ⊥) → j ≡ 0
+  slot-first zero h real = refl
+  slot-first (suc j) h real = absurd (real (getD-replicate 15 j 0 0 (omega arith)))
 
-module _ (img : Bytes) (erased : ErasedDisk eightInch img) (r : ℕ) (low : r ≤ 128) where
+  file-name : nameRight false (fileRow f) 1 ≡ true
+  unfolding nameRight nameByte allBelow fileRow _and_ _or_
+  file-name = refl
+
+  file-asked : named false 0 fileFcb 1 (fileRow f) ≡ true
+  unfolding named nameLike byteLike allBelow fileFcb fileRow _and_ _or_
+  file-asked = refl
+
+  file-extent : extentOf (fileRow f) ≡ f .extent
+  unfolding extentOf fileRow
+  file-extent = omega arith
+
+  file-count : countOf (fileRow f) ≡ f .count
+  unfolding fileRow
+  file-count = refl
+
+  file-fine : InRange f → Fine eightInch (fileRow f)
+  unfolding fileRow
+  file-fine r = record {
+    user = omega arith;
+    name = file-name;
+    numbers = record { ex = omega arith; s2 = omega (arith, r .extent); rc = r .count };
+    low = λ j l real. let q : j ≡ 0 = slot-first j l (λ z. real (file-slot j ∙ z)) in rw (file-slot j, q) (r .low);
+    high = λ j l real. let q : j ≡ 0 = slot-first j l (λ z. real (file-slot j ∙ z)) in rw (file-slot j, q) (omega (arith, r .high));
+  }
+
+module _ (img : Bytes) (erased : ErasedDisk eightInch img) (f : Entry) (range : InRange f) where
   rows : Rows
-  rows = entryAt eightInch (oneFile img r)
+  rows = entryAt eightInch (oneFile img f)
 
-  pub one-long : Long eightInch (oneFile img r)
+  pub one-long : Long eightInch (oneFile img f)
   unfolding oneFile
-  one-long = long-on eightInch (length-withEntry eight-sound img (erased .long) 0 (omega arith) (fileRow r) (length-file r)) (erased .long)
+  one-long = long-on eightInch (length-withEntry eight-sound img (erased .long) 0 (omega arith) (fileRow f) (length-file f)) (erased .long)
 
-  one-row : rows 0 ≡ fileRow r
+  one-row : rows 0 ≡ fileRow f
   unfolding rows oneFile
-  one-row = entry-stored eight-sound img (erased .long) 0 (omega arith) (fileRow r) (length-file r)
+  one-row = entry-stored eight-sound img (erased .long) 0 (omega arith) (fileRow f) (length-file f)
 
   one-left : (e : ℕ) → e < 64 → (e ≡ 0 → ⊥) → rows e ≡ entryAt eightInch img e
   unfolding rows oneFile
-  one-left e h ne = entry-left eight-sound img (erased .long) 0 (omega arith) (fileRow r) (length-file r) e h (λ q. ne (sym q))
+  one-left e h ne = entry-left eight-sound img (erased .long) 0 (omega arith) (fileRow f) (length-file f) e h (λ q. ne (sym q))
 
   -- no other entry is used
   only : (e : ℕ) → e < 64 → used (rows e) ≡ true → e ≡ 0
@@ -134,75 +146,93 @@ module _ (img : Bytes) (erased : ErasedDisk eightInch img) (r : ℕ) (low : r �
       (λ q. not-both _ (ap used (sym (one-left e h q)) ∙ u) (erased-unused eightInch img erased e h))
 
   -- and no other slot lists a block
-  only-slot : (b e j : ℕ) → Stands eightInch rows b e j → (e ≡ 0) × (j ≡ 0) × (b ≡ 2)
+  only-slot : (b e j : ℕ) → Stands eightInch rows b e j → (e ≡ 0) × (j ≡ 0) × (b ≡ f .block)
   only-slot b e j s =
       let q : e ≡ 0 = only e (s .entry) (s .uses) in
-      let is : slotOf eightInch (fileRow r) j ≡ b = ap (λ (x : Bytes). slotOf eightInch x j) (sym (ap rows q ∙ one-row)) ∙ s .is in
-      let at : getD fileSlots j 0 ≡ b = sym (file-slot r j) ∙ is in
-      let z : j ≡ 0 = slot-first j (s .place) (λ w. s .real (sym at ∙ w)) in
+      let is : slotOf eightInch (fileRow f) j ≡ b = ap (λ (x : Bytes). slotOf eightInch x j) (sym (ap rows q ∙ one-row)) ∙ s .is in
+      let at : getD (fileSlots f) j 0 ≡ b = sym (file-slot f j) ∙ is in
+      let z : j ≡ 0 = slot-first f j (s .place) (λ w. s .real (sym at ∙ w)) in
       (q, z, sym at ∙ rw z)
+
+  pub one-only : (e : ℕ) → e < 64 → used (entryAt eightInch (oneFile img f) e) ≡ true → e ≡ 0
+  unfolding rows
+  one-only = only
+
+  pub one-uses : used (entryAt eightInch (oneFile img f) 0) ≡ true
+  unfolding rows
+  one-uses = rw one-row (file-used f)
 
   one-facts : Consistent eightInch rows
   one-facts = record {
-    fine = λ e h u. let q : e ≡ 0 = only e h u in rw (q, one-row) (file-fine r low);
-    other = λ e h u. split (eq-or-ne e 0) (λ q. not-both _ (file-used r) (ap used (sym (ap rows q ∙ one-row)) ∙ u))
+    fine = λ e h u. let q : e ≡ 0 = only e h u in rw (q, one-row) (file-fine f range);
+    other = λ e h u. split (eq-or-ne e 0) (λ q. not-both _ (file-used f) (ap used (sym (ap rows q ∙ one-row)) ∙ u))
         (λ q. ap empty (one-left e h q) ∙ erased-empty eightInch img erased e h);
-    once-entry = λ b e j f k s t. only-slot b e j s .0 ∙ sym (only-slot b f k t .0);
-    once-slot = λ b e j f k s t. only-slot b e j s .1 ∙ sym (only-slot b f k t .1);
-    apart = λ e f h l u v s. only e h u ∙ sym (only f l v);
+    once-entry = λ b e j g k s t. only-slot b e j s .0 ∙ sym (only-slot b g k t .0);
+    once-slot = λ b e j g k s t. only-slot b e j s .1 ∙ sym (only-slot b g k t .1);
+    apart = λ e g h l u v s. only e h u ∙ sym (only g l v);
   }
 
-  pub one-consistent : consistent eightInch (oneFile img r) ≡ true
+  pub one-consistent : consistent eightInch (oneFile img f) ≡ true
   unfolding rows
-  one-consistent = facts-image eightInch (oneFile img r) one-facts
+  one-consistent = facts-image eightInch (oneFile img f) one-facts
 
-  two-listed : isListed eightInch rows 2 ≡ true
-  two-listed =
-      somewhere-listed eightInch rows 2 0 0 record {
+  its-listed : isListed eightInch rows (f .block) ≡ true
+  its-listed =
+      let low = range .low in
+      somewhere-listed eightInch rows (f .block) 0 0 record {
         entry = omega arith;
         place = omega arith;
-        uses = rw one-row (file-used r);
-        is = rw one-row (file-slot r 0);
+        uses = rw one-row (file-used f);
+        is = rw one-row (file-slot f 0);
         real = λ z. omega arith;
       }
 
-  rest-unlisted : (b : ℕ) → 3 ≤ b → isListed eightInch rows b ≡ false
-  rest-unlisted b h =
-      split (bool-cases (isListed eightInch rows b))
-      (λ t. let s = listed-somewhere eightInch rows b (λ z. omega arith) t in
-      let q : b ≡ 2 = only-slot b (s .e) (s .j) (s .stands) .2 in absurd (omega arith))
-      (λ f. f)
-
-  -- 240 blocks are free after a log-in
-  pub one-count : freeCount eightInch (freshMap eightInch (entryAt eightInch (oneFile img r))) ≡ 240
+  pub rest-unlisted : (b : ℕ) → 2 ≤ b → (b ≡ f .block → ⊥) → isListed eightInch (entryAt eightInch (oneFile img f)) b ≡ false
   unfolding rows
-  one-count =
+  rest-unlisted b h other =
+      split (bool-cases (isListed eightInch rows b))
+      (λ t. let s = listed-somewhere eightInch rows b (λ z. omega arith) t in absurd (other (only-slot b (s .e) (s .j) (s .stands) .2)))
+      (λ n. n)
+
+  -- where it lists the first block past the directory, 240 are free after a log-in
+  pub one-count : f .block ≡ 2 → freeCount eightInch (freshMap eightInch (entryAt eightInch (oneFile img f))) ≡ 240
+  unfolding rows
+  one-count two =
       fresh-count eightInch rows 3 (omega arith) (omega arith)
-      (λ b h l. let q : b ≡ 2 = omega arith in rw q two-listed) rest-unlisted
+      (λ b h l. let q : b ≡ f .block = omega arith in rw q its-listed) (λ b h. rest-unlisted b (omega arith) (λ q. omega arith))
 
   -- ---- the size of file A, by 35
   only-named : (e : ℕ) → e < 64 → named false 0 fileFcb 1 (rows e) ≡ true → e ≡ 0
   unfolding named used
   only-named e h t = let q : userOf (rows e) ≡ 0 = eqb-true _ _ (and-left _ _ t) in only e h (le-leb (userOf (rows e)) 15 (omega arith))
 
-  one-size : fileSize eightInch rows (named false 0 fileFcb 1) ≡ r
+  one-mine : named false 0 fileFcb 1 (rows 0) ≡ true
+  one-mine = rw one-row (file-asked f)
+
+  one-size : fileSize eightInch rows (named false 0 fileFcb 1) ≡ 128 * f .extent + f .count
+  unfolding endOf
   one-size =
-      let mine : named false 0 fileFcb 1 (rows 0) ≡ true = rw one-row (file-asked r) in
-      let is : endOf (rows 0) ≡ r = ap endOf one-row ∙ file-size r in
-      let least = size-covers eightInch rows (named false 0 fileFcb 1) 0 (omega arith) mine in
-      let most = size-high eightInch rows (named false 0 fileFcb 1) r (λ e h t. let q : e ≡ 0 = only-named e h t in rw q (omega arith)) in
+      let is : endOf (rows 0) ≡ 128 * f .extent + f .count = rw (one-row, file-extent f, file-count f) in
+      let least = size-covers eightInch rows (named false 0 fileFcb 1) 0 (omega arith) one-mine in
+      let most = size-high eightInch rows (named false 0 fileFcb 1) (128 * f .extent + f .count) (λ e h t. let q : e ≡ 0 = only-named e h t in rw q (omega arith)) in
       omega arith
 
-  pub one-sized : (map buffer : Bytes) (s : Session) → s .user ≡ 0 → Fitting eightInch map fileFcb buffer s → (x : Asked)
-      → step eightInch (calling 35 x) (lend (oneFile img r) (freshMap eightInch (entryAt eightInch (oneFile img r))) fileFcb buffer) (ended s)
-      ≡ done 0 s (lend (oneFile img r) (freshMap eightInch (entryAt eightInch (oneFile img r))) (splice fileFcb 33 (threeBytes r)) buffer)
-  unfolding rows
-  one-sized map buffer s zero-user fit x =
-      let l : Lent = lend (oneFile img r) (freshMap eightInch (entryAt eightInch (oneFile img r))) fileFcb buffer in
-      let ready : Ready eightInch (calling 35 x) l (ended s) =
-      logged-ready eightInch (oneFile img r) one-long one-consistent map fileFcb buffer s fit (calling 35 x) (λ u. drive-low) in
-      let has : HasEntry eightInch l (ended s) 0 r =
-      record { entry = 0; below = omega arith; mine = rw (zero-user, one-row) (file-asked r); extent = rw one-row (file-run r); counted = rw one-row (file-count r) } in
-      let size : fileSize eightInch (rowsOf eightInch l) (named false (s .user) fileFcb 1) ≡ r = rw zero-user one-size in
-      size-step eightInch x l (ended s) ready record { name = fcb-name; some = some-entry eightInch l (ended s) 0 r has }
-      ∙ ap (λ (k : ℕ). done 0 s (lend (l .drive .image) (l .drive .map) (splice fileFcb 33 (threeBytes k)) buffer)) size
+  -- file A after a log-in, with what fits
+  module _ (map buffer : Bytes) (s : Session) (zero-user : s .user ≡ 0) (fit : Fitting eightInch map fileFcb buffer s) (x : Asked) where
+    abbrev pub oneLent : Lent
+    oneLent = lend (oneFile img f) (freshMap eightInch (entryAt eightInch (oneFile img f))) fileFcb buffer
+
+    pub one-ready : Ready eightInch (calling 35 x) oneLent (ended s)
+    one-ready = logged-ready eightInch (oneFile img f) one-long one-consistent map fileFcb buffer s fit (calling 35 x) (λ u. drive-low)
+
+    pub one-entry : HasEntry eightInch oneLent (ended s) (f .extent) (f .count)
+    unfolding rows
+    one-entry = record { entry = 0; below = omega arith; mine = rw zero-user one-mine; extent = rw one-row (file-extent f); counted = rw one-row (file-count f) }
+
+    pub one-sized : step eightInch (calling 35 x) oneLent (ended s)
+        ≡ done 0 s (lend (oneFile img f) (oneLent .drive .map) (splice fileFcb 33 (threeBytes (128 * f .extent + f .count))) buffer)
+    unfolding rows
+    one-sized =
+        let size : fileSize eightInch (rowsOf eightInch oneLent) (named false (s .user) fileFcb 1) ≡ 128 * f .extent + f .count = rw zero-user one-size in
+        size-step eightInch x oneLent (ended s) one-ready record { name = fcb-name; some = some-entry eightInch oneLent (ended s) (f .extent) (f .count) one-entry }
+        ∙ ap (λ (k : ℕ). done 0 s (lend (oneFile img f) (oneLent .drive .map) (splice fileFcb 33 (threeBytes k)) buffer)) size

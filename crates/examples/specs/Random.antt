@@ -6,14 +6,12 @@ use Prim.Native.Nat.{ℕ, _+_, _*_}
 use native.Mathlib.Omega.{arith}
 use lib.ListN.{getD}
 use borrow.Author.Tests.{lt-ltb}
-use Rattle.lists.specs.Tests.{_or_}
 use Rattle.format.specs.Diskette.{Bytes, Geometry, lastRecord}
 use Rattle.format.specs.Fcb.{randomOf}
 use Rattle.model.specs.declared.Asked.{Asked}
 use Rattle.model.specs.declared.Session.{Session}
 use Rattle.model.specs.declared.Code.the-variants.{BadRecord}
 use Rattle.model.specs.declared.Verdict.the-variants.{Refused}
-use Rattle.model.specs.Codes.{aOf, hOf}
 use Rattle.model.specs.Lent.{Lent}
 use Rattle.model.specs.Kinds.{isCall, isRandom, kindOf, oneOf}
 use Rattle.model.specs.Target.{targetExtent, targetRecord}

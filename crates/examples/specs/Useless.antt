@@ -1,34 +1,49 @@
 -- The useless builds of document 01: for each an input at which it does something else than `step`. The inputs stand on an erased disk,
 -- or on one with a single file, straight after a log-in.
 use mathlib.Core.Path.{_≡_, refl, sym, ap, _∙_}
-use mathlib.Core.Bool.{Bool, true, false}
+use mathlib.Core.Bool.{true, not}
+use mathlib.Core.List.{List, [], _∷_}
 use Prim.Native.Nat.{ℕ, zero, suc, _*_, _%_, _≤_}
 use native.Mathlib.Omega.{arith}
-use lib.ListN.{getD, replicate, length-replicate}
-use Rattle.lists.specs.Cases.{split, eq-or-ne, clash}
-use Rattle.lists.specs.Tests.{_or_}
+use lib.Dec.{eqb}
+use lib.ListN.{length, getD, replicate, length-replicate}
+use borrow.Author.Tests.{eq-eqb, not-true}
+use Rattle.lists.specs.Cases.{split, eq-or-ne, not-both}
+use Rattle.lists.specs.Tests.{_and_}
 use Rattle.lists.specs.Splice.{splice}
 use Rattle.table.specs.Own.{ask, verdict-unlisted}
-use Rattle.format.specs.Diskette.{Bytes, imageBytes, eightInch, LongBy, Long}
-use Rattle.format.specs.Entries.{extentOf, entryAt}
-use Rattle.format.specs.Fcb.{randomOf}
+use Rattle.format.specs.Diskette.{Bytes, recordBytes, imageBytes, eightInch, LongBy, Long}
+use Rattle.format.specs.Entries.{entryAt}
 use Rattle.format.specs.Consistent.{consistent}
+use Rattle.format.specs.Fcb.{fcbBytes}
 use Rattle.format.specs.Notes.{freshMap, freeCount}
 use Rattle.disk.specs.Eight.{eight-sound}
 use Rattle.model.specs.declared.Asked.{Asked}
 use Rattle.model.specs.declared.Session.{Session}
 use Rattle.model.specs.declared.Code.{Code}
-use Rattle.model.specs.declared.Code.the-variants.{Accepted, NotListed, BadParameter, BadDisk, BadRecord, NotCurrent, Failed, BadName, SearchOver, ReadOnly, Exists, NotClosed, NoExtent, NoRecord, NoEntry, DiskFull}
-use Rattle.model.specs.Codes.{aOf, hOf}
+use Rattle.model.specs.declared.Code.the-variants.{Accepted, NotListed}
+use Rattle.model.specs.declared.Kind.the-variants.{Write}
+use Rattle.model.specs.Codes.{aOf}
 use Rattle.model.specs.Target.{targetExtent, targetRecord}
 use Rattle.model.specs.Lent.{Lent, lend, Outcome, ends, ended}
-use Rattle.model.specs.Kinds.{isCall, kindOf, usesFcb, isRandom}
-use Rattle.model.specs.Calls.{done}
-use Rattle.model.specs.Step.{refused, step}
+use Rattle.model.specs.Kinds.{isCall, kindOf, usesFcb}
+use Rattle.model.specs.Table.{callRows}
+use Rattle.model.specs.Calls.{createdAt, created, done}
+use Rattle.model.specs.Entering.{madeRow}
+use Rattle.model.specs.Step.{effect, step}
+use Rattle.fields.specs.Entering.{length-copied}
+use Rattle.fields.specs.Making.{length-madeRow}
 use Rattle.fields.specs.Erased.{ErasedDisk, all-erased, erased-consistent}
-use Rattle.table.specs.Total.{total-refused}
-use Rattle.examples.specs.Erased.{Fitting, login-step, space-step, erased-count}
-use Rattle.examples.specs.OneFile.{oneFile, fileFcb, length-fileFcb, one-long, one-consistent, one-count, one-sized}
+use Rattle.table.specs.Refuse.{row-of, Refuses, unlisted, parameter, disk, own}
+use Rattle.table.specs.Total.{RefusedBy, total, total-refused}
+use Rattle.effects.specs.Book.{acceptedAnswer}
+use Rattle.demands.specs.Runs.{Request, Disk, lentTo, outcomeOf, left, accepts, after, run}
+use Rattle.demands.specs.Reading.{Gives, atRecord, recordNumber}
+use Rattle.demands.specs.ReadBack.{readFcb}
+use Rattle.demands.specs.Begins.{Asks}
+use Rattle.demands.specs.Eight.{eight-read-back, eight-begins}
+use Rattle.examples.specs.Erased.{start, blank, notes, fitting, login-step, space-step, erased-count}
+use Rattle.examples.specs.OneFile.{oneFile, fileFcb, length-fileFcb, InRange, Entry, entryOf, drive-low, fcb-name, one-long, one-consistent, one-count, one-sized}
 
 -- a build answers a call by its place in a run, counted from 0, and by what is asked, lent and handed on
 abbrev pub Build : Type 0
@@ -42,115 +57,139 @@ pub record Falls (b : Build) : Type 0 where
   pub session : Session
   pub differs : b place asked lent session ≡ step eightInch asked lent session → ⊥
 
--- one that takes a write, by its answer, and does not give it back: call 33 comes next, for the same record, through the FCB handed back
+-- the right build: the step of the model at every place
+abbrev pub right : Build
+right k = step eightInch
+
+-- ---- demand 2's write and read, of a build
+abbrev pub doneBy : Build → ℕ → Disk → Request → Outcome
+doneBy b k d q = b k (q .asked) (lentTo d q) (d .session)
+
+-- the disk after calls that a build makes, the first of them at place k
+unfoldable pub runBy : Build → ℕ → Disk → List Request → Disk
+runBy b k d [] = d
+runBy b k d (q ∷ qs) = runBy b (suc k) (left (doneBy b k d q)) qs
+
+-- a build makes the write w at place k, and is asked straight after for its record, through the FCB that it handed back with r0 to r2 alone set
+abbrev pub askedBack : Build → ℕ → Disk → Request → Asked → Bytes → Outcome
+askedBack b k d w asked buffer =
+    doneBy b (suc k) (left (doneBy b k d w)) record {
+      asked = asked;
+      fcb = atRecord (doneBy b k d w .lent .fcb) (recordNumber (targetExtent (w .asked .number) (w .fcb)) (targetRecord (w .asked .number) (w .fcb)));
+      buffer = buffer;
+    }
+
+-- a build that takes a write and does not give it back: on the disk that its own calls left `step` accepts the write, the build says that it
+-- did too, and 33 with a buffer of 128 bytes is not answered 0, 0 with the bytes that were written
 pub record Forgets (b : Build) : Type 0 where
-  pub place : ℕ
-  pub lent : Lent
-  pub session : Session
-  pub empty : Bytes
-  pub taken-a : b place (ask 21) lent session .answer .a ≡ 0
-  pub taken-h : b place (ask 21) lent session .answer .h ≡ 0
-  pub same-extent : targetExtent 33 (b place (ask 21) lent session .lent .fcb) ≡ targetExtent 21 (lent .fcb)
-  pub same-record : targetRecord 33 (b place (ask 21) lent session .lent .fcb) ≡ targetRecord 21 (lent .fcb)
-  pub lost : b (suc place) (ask 33) (lend (b place (ask 21) lent session .lent .drive .image) (b place (ask 21) lent session .lent .drive .map)
-      (b place (ask 21) lent session .lent .fcb) empty) (b place (ask 21) lent session .answer .session) .lent .buffer ≡ lent .buffer → ⊥
+  pub begin : Disk
+  pub earlier : List Request
+  pub write : Request
+  pub writes : kindOf (write .asked .number) ≡ Write
+  pub accepted : accepts eightInch (runBy b 0 begin earlier) write ≡ true
+  pub taken : acceptedAnswer (write .asked .number) (doneBy b (length earlier) (runBy b 0 begin earlier) write .answer) ≡ true
+  pub reading : Asked
+  pub reads : reading .number ≡ 33
+  pub buffer : Bytes
+  pub buffer-long : length buffer ≡ recordBytes
+  pub lost : Gives (askedBack b (length earlier) (runBy b 0 begin earlier) write reading buffer) (write .buffer) → ⊥
 
--- ---- what the builds are run on: user 0 with no search, an empty buffer, an FCB of file A, and any map
-abbrev start : Session
-start = record { user = 0; pattern = replicate 12 0; place = 0; on = 0 }
+-- the right build gives every write back
+pub right-remembers : Forgets right → ⊥
+unfolding outcomeOf after run readFcb
+right-remembers f =
+    f .lost (eight-read-back (runBy right 0 (f .begin) (f .earlier)) (f .write) (f .writes) (f .accepted) [] tt (f .reading) (f .reads) (f .buffer) (f .buffer-long))
 
-abbrev blank : Bytes
-blank = replicate 128 0
-
-abbrev notes : Bytes
-notes = replicate 243 0
-
-fitting : Fitting eightInch notes fileFcb blank start
-fitting = record {
-  map-long = length-replicate {A = ℕ} 243 0;
-  fcb-long = length-fileFcb;
-  buffer-long = length-replicate {A = ℕ} 128 0;
-  user-low = omega arith;
-  place-low = omega arith;
-}
-
+-- ---- what the builds are run on: what fits, with an FCB of file A
 -- what a log-in leaves, and the outcome of a call on it
-abbrev pub after : Bytes → Lent
-after img = lend img (freshMap eightInch (entryAt eightInch img)) fileFcb blank
+abbrev pub lentAfter : Bytes → Lent
+lentAfter img = lend img (freshMap eightInch (entryAt eightInch img)) fileFcb blank
 
 abbrev pub onLogged : ℕ → Bytes → Outcome
-onLogged n img = step eightInch (ask n) (after img) (ended start)
+onLogged n img = step eightInch (ask n) (lentAfter img) (ended start)
 
 module _ (img : Bytes) (long : Long eightInch img) (right : consistent eightInch img ≡ true) where
-  pub logged-is : step eightInch (ask 13) (lend img notes fileFcb blank) start ≡ done 0 start (after img)
-  logged-is = login-step eightInch img long right notes fileFcb blank start fitting (ask 0)
+  pub logged-is : step eightInch (ask 13) (lend img notes fileFcb blank) start ≡ done 0 start (lentAfter img)
+  logged-is = login-step eightInch img long right notes fileFcb blank start (fitting fileFcb length-fileFcb) (ask 0)
 
-  space-answers : onLogged 46 img .answer .a ≡ 0
-  space-answers = let two = space-step eightInch img long right notes fileFcb blank start fitting (ask 0) in rw two
+  space-answers : (onLogged 46 img .answer .a ≡ 0) × (onLogged 46 img .answer .h ≡ 0)
+  space-answers = let two = space-step eightInch img long right notes fileFcb blank start (fitting fileFcb length-fileFcb) (ask 0) in (rw two, rw two)
 
   space-byte : (count : ℕ) → freeCount eightInch (freshMap eightInch (entryAt eightInch img)) ≡ count → getD (onLogged 46 img .lent .buffer) 0 0 ≡ 8 * count % 256
   unfolding splice
-  space-byte count q = let two = space-step eightInch img long right notes fileFcb blank start fitting (ask 0) in rw (two, q)
+  space-byte count q = let two = space-step eightInch img long right notes fileFcb blank start (fitting fileFcb length-fileFcb) (ask 0) in rw (two, q)
+
+-- a file of r records in block 2
+abbrev small : ℕ → Entry
+small r = entryOf 0 r 2
+
+in-range : (r : ℕ) → r ≤ 128 → InRange (small r)
+in-range r h = record { extent = omega arith; count = h; low = omega arith; high = omega arith }
 
 module _ (img : Bytes) (erased : ErasedDisk eightInch img) where
-  -- the erased disk: 46 answers 0, and the first byte is 88H
-  erased-answers : onLogged 46 img .answer .a ≡ 0
+  -- the erased disk: 46 answers 0, 0, and the first byte is 88H
+  erased-answers : (onLogged 46 img .answer .a ≡ 0) × (onLogged 46 img .answer .h ≡ 0)
   erased-answers = space-answers img (erased .long) (erased-consistent eightInch img erased)
 
   erased-byte : getD (onLogged 46 img .lent .buffer) 0 0 ≡ 136
   erased-byte = space-byte img (erased .long) (erased-consistent eightInch img erased) 241 (erased-count eight-sound img erased)
 
   -- with a file of r records: the first byte is 80H, and file A has r records
-  one-byte : (r : ℕ) → r ≤ 128 → getD (onLogged 46 (oneFile img r) .lent .buffer) 0 0 ≡ 128
-  one-byte r h = space-byte (oneFile img r) (one-long img erased r h) (one-consistent img erased r h) 240 (one-count img erased r h)
+  one-byte : (r : ℕ) → r ≤ 128 → getD (onLogged 46 (oneFile img (small r)) .lent .buffer) 0 0 ≡ 128
+  one-byte r h =
+      space-byte (oneFile img (small r)) (one-long img erased (small r) (in-range r h)) (one-consistent img erased (small r) (in-range r h)) 240
+      (one-count img erased (small r) (in-range r h) refl)
 
-  one-size : (r : ℕ) → r ≤ 128 → getD (onLogged 35 (oneFile img r) .lent .fcb) 33 0 ≡ r
+  one-size : (r : ℕ) → r ≤ 128 → getD (onLogged 35 (oneFile img (small r)) .lent .fcb) 33 0 ≡ r
   unfolding splice fileFcb
-  one-size r h =
-      let two = one-sized img erased r h notes blank start refl fitting (ask 0) in rw two (omega arith)
+  one-size r h = let two = one-sized img erased (small r) (in-range r h) notes blank start refl (fitting fileFcb length-fileFcb) (ask 0) in rw two (omega arith)
 
--- ---- one that refuses all, whatever the codes
-unfoldable pub isRefusal : Code → Bool
-isRefusal (Accepted n) = false
-isRefusal NotListed = true
-isRefusal BadParameter = true
-isRefusal BadDisk = true
-isRefusal BadRecord = true
-isRefusal NotCurrent = true
-isRefusal Failed = true
-isRefusal BadName = true
-isRefusal SearchOver = true
-isRefusal ReadOnly = true
-isRefusal Exists = true
-isRefusal NotClosed = true
-isRefusal NoExtent = true
-isRefusal NoRecord = true
-isRefusal NoEntry = true
-isRefusal DiskFull = true
+-- ---- a write that `step` accepts: the first one to a file made on an erased disk that is logged in
+abbrev asking : ℕ → Bytes → Bytes → Request
+asking n fcb buffer = record { asked = ask n; fcb = fcb; buffer = buffer }
 
-refusal-a : (c : Code) → isRefusal c ≡ true → aOf c ≡ 0 → ⊥
-unfolding isRefusal
-refusal-a (Accepted n) h q = clash (sym h)
-refusal-a NotListed h q = omega arith
-refusal-a BadParameter h q = omega arith
-refusal-a BadDisk h q = omega arith
-refusal-a BadRecord h q = omega arith
-refusal-a NotCurrent h q = omega arith
-refusal-a Failed h q = omega arith
-refusal-a BadName h q = omega arith
-refusal-a SearchOver h q = omega arith
-refusal-a ReadOnly h q = omega arith
-refusal-a Exists h q = omega arith
-refusal-a NotClosed h q = omega arith
-refusal-a NoExtent h q = omega arith
-refusal-a NoRecord h q = omega arith
-refusal-a NoEntry h q = omega arith
-refusal-a DiskFull h q = omega arith
+abbrev atHand : Bytes → Disk
+atHand img = record { drive = record { image = img; map = notes }; session = start }
 
-pub record RefusesAll (b : Build) : Type 0 where
-  pub code : ℕ → Asked → Lent → Session → Code
-  pub refusal : (k : ℕ) (asked : Asked) (l : Lent) (s : Session) → isRefusal (code k asked l s) ≡ true
-  pub is : (k : ℕ) (asked : Asked) (l : Lent) (s : Session) → b k asked l s ≡ refused (code k asked l s) s l
+abbrev logged : Bytes → Disk
+logged img = after eightInch (atHand img) (asking 13 fileFcb blank)
+
+abbrev making : Request
+making = asking 22 fileFcb blank
+
+abbrev firstWrite : Bytes → Request
+firstWrite img = asking 21 (outcomeOf eightInch (logged img) making .lent .fcb) (replicate 128 1)
+
+length-made : (img : Bytes) → length (outcomeOf eightInch (logged img) making .lent .fcb) ≡ fcbBytes
+unfolding outcomeOf effect kindOf created createdAt
+length-made img =
+    let d = logged img in
+    let row : Bytes = madeRow (d .session .user) fileFcb in
+    split (total eightInch (ask 22) (lentTo d making) (d .session)) (λ r. ap (λ (l : Lent). length (l .fcb)) (r .1 .kept) ∙ length-fileFcb)
+    (λ c. ap (λ (o : Outcome). length (o .lent .fcb)) (c .is)
+    ∙ length-copied fileFcb row (omega (arith, length-fileFcb)) (omega (arith, length-madeRow (d .session .user) fileFcb)) ∙ length-fileFcb)
+
+first-accepted : (img : Bytes) → ErasedDisk eightInch img → accepts eightInch (after eightInch (logged img) making) (firstWrite img) ≡ true
+unfolding fileFcb
+first-accepted img erased =
+    let asks : (n : ℕ) → Asks (asking n fileFcb blank) n =
+    λ n. record { number = refl; fcb = length-fileFcb; buffer = length-replicate {A = ℕ} 128 0 } in
+    eight-begins (atHand img) erased (length-replicate {A = ℕ} 243 0) record { user = omega arith; place = omega arith }
+    (asking 13 fileFcb blank) making (firstWrite img) (asks 13) (asks 22) drive-low fcb-name (omega arith) (omega arith)
+    record { number = refl; fcb = length-made img; buffer = length-replicate {A = ℕ} 128 1 } refl .2
+
+-- ---- one that refuses all: A and H are never both 0
+abbrev pub RefusesAll : Build → Type 0
+RefusesAll b = (k : ℕ) (asked : Asked) (l : Lent) (s : Session) → b k asked l s .answer .a ≡ 0 → b k asked l s .answer .h ≡ 0 → ⊥
+
+-- as no refusal of the table is: none has A = 0
+refusal-a : (asked : Asked) (l : Lent) (s : Session) (c : Code) → Refuses eightInch asked l s c → aOf c ≡ 0 → ⊥
+refusal-a asked l s c (unlisted e f) q = let z : aOf c ≡ 255 = ap aOf e in omega arith
+refusal-a asked l s c (parameter e f) q = let z : aOf c ≡ 255 = ap aOf e in omega arith
+refusal-a asked l s c (disk e f) q = let z : aOf c ≡ 255 = ap aOf e in omega arith
+refusal-a asked l s c (own w d) q =
+    not-both (eqb (aOf c) 0) (eq-eqb _ _ q)
+    (not-true _ (row-of (λ (cs : List ℕ) (x : Code). not (eqb (aOf x) 0)) (asked .number) c (callRows eightInch asked l s) refl d .passes))
 
 -- one that answers a fixed A
 abbrev pub AnswersFixed : ℕ → Build → Type 0
@@ -183,10 +222,10 @@ module _ (img : Bytes) (erased : ErasedDisk eightInch img) where
   refuses-all-falls b r = record {
     place = 1;
     asked = ask 46;
-    lent = after img;
+    lent = lentAfter img;
     session = ended start;
-    differs = λ q. refusal-a _ (r .refusal 1 (ask 46) (after img) (ended start))
-        (ap (λ (o : Outcome). o .answer .a) (sym (r .is 1 (ask 46) (after img) (ended start)) ∙ q) ∙ erased-answers img erased);
+    differs = λ q. let z = erased-answers img erased in
+        r 1 (ask 46) (lentAfter img) (ended start) (ap (λ (o : Outcome). o .answer .a) q ∙ z .0) (ap (λ (o : Outcome). o .answer .h) q ∙ z .1);
   }
 
   -- call 0 is not listed
@@ -200,44 +239,46 @@ module _ (img : Bytes) (erased : ErasedDisk eightInch img) where
       (λ z. record {
         place = 1;
         asked = ask 0;
-        lent = after img;
+        lent = lentAfter img;
         session = ended start;
-        differs = λ q. let w : a ≡ 255 = sym (f 1 (ask 0) (after img) (ended start)) ∙ ap (λ (o : Outcome). o .answer .a) q
-            ∙ unlisted-answers (after img) (ended start) in omega arith;
+        differs = λ q. let w : a ≡ 255 = sym (f 1 (ask 0) (lentAfter img) (ended start)) ∙ ap (λ (o : Outcome). o .answer .a) q
+            ∙ unlisted-answers (lentAfter img) (ended start) in omega arith;
       })
       (λ z. record {
         place = 1;
         asked = ask 46;
-        lent = after img;
+        lent = lentAfter img;
         session = ended start;
-        differs = λ q. z (sym (f 1 (ask 46) (after img) (ended start)) ∙ ap (λ (o : Outcome). o .answer .a) q ∙ erased-answers img erased);
+        differs = λ q. z (sym (f 1 (ask 46) (lentAfter img) (ended start)) ∙ ap (λ (o : Outcome). o .answer .a) q ∙ erased-answers img erased .0);
       })
 
   -- 46 must change the first byte of the buffer
-  kept-falls : (o : Outcome) → o .lent ≡ after img → o ≡ onLogged 46 img → ⊥
+  kept-falls : (o : Outcome) → o .lent ≡ lentAfter img → o ≡ onLogged 46 img → ⊥
   kept-falls o kept q =
-      let byte : getD (after img .buffer) 0 0 ≡ 136 = ap (λ (l : Lent). getD (l .buffer) 0 0) (sym kept) ∙ ap (λ (o : Outcome). getD (o .lent .buffer) 0 0) q ∙ erased-byte img erased in
+      let byte : getD (lentAfter img .buffer) 0 0 ≡ 136 = ap (λ (l : Lent). getD (l .buffer) 0 0) (sym kept) ∙ ap (λ (o : Outcome). getD (o .lent .buffer) 0 0) q ∙ erased-byte img erased in
       omega arith
 
   pub nothing-falls : (b : Build) → DoesNothing b → Falls b
-  nothing-falls b f = record { place = 1; asked = ask 46; lent = after img; session = ended start; differs = kept-falls _ (f 1 (ask 46) (after img) (ended start)) }
+  nothing-falls b f = record { place = 1; asked = ask 46; lent = lentAfter img; session = ended start; differs = kept-falls _ (f 1 (ask 46) (lentAfter img) (ended start)) }
 
   pub first-only-falls : Falls firstOnly
-  first-only-falls = record { place = 1; asked = ask 46; lent = after img; session = ended start; differs = kept-falls _ refl }
+  first-only-falls = record { place = 1; asked = ask 46; lent = lentAfter img; session = ended start; differs = kept-falls _ refl }
 
-  -- what was written is not what is read: the buffer comes back as it was lent
+  -- it makes a file on a disk that is logged in, as it should; the write after it is lost: 33 hands back the buffer as it was lent
   pub first-only-forgets : Forgets firstOnly
-  unfolding fileFcb targetExtent targetRecord isRandom extentOf randomOf
+  unfolding outcomeOf after runBy acceptedAnswer kindOf _and_
   first-only-forgets = record {
-    place = 1;
-    lent = lend img notes fileFcb (replicate 128 1);
-    session = ended start;
-    empty = blank;
-    taken-a = refl;
-    taken-h = refl;
-    same-extent = refl;
-    same-record = refl;
-    lost = λ q. let z : _≡_ {A = ℕ} 0 1 = ap (λ (x : Bytes). getD x 0 0) q in omega arith;
+    begin = logged img;
+    earlier = making ∷ [];
+    write = firstWrite img;
+    writes = refl;
+    accepted = first-accepted img erased;
+    taken = refl;
+    reading = ask 33;
+    reads = refl;
+    buffer = blank;
+    buffer-long = length-replicate {A = ℕ} 128 0;
+    lost = λ g. let z : _≡_ {A = ℕ} 0 1 = ap (λ (x : Bytes). getD x 0 0) (g .is-buffer) in omega arith;
   }
 
   -- an answer that does not go by the disk is wrong on one of two disks
@@ -250,33 +291,50 @@ module _ (img : Bytes) (erased : ErasedDisk eightInch img) where
 
   pub space-falls : (b : Build) → MakesUpSpace b → Falls b
   space-falls b f =
-      one-of-two b (ask 46) (after img) (after (oneFile img 1)) (ended start) (λ (o : Outcome). getD (o .lent .buffer) 0 0)
-      (ap (λ (l : Bytes). getD l 0 0) (f 1 (after img) (after (oneFile img 1)) (ended start) record { same-fcb = refl; same-buffer = refl }))
+      one-of-two b (ask 46) (lentAfter img) (lentAfter (oneFile img (small 1))) (ended start) (λ (o : Outcome). getD (o .lent .buffer) 0 0)
+      (ap (λ (l : Bytes). getD l 0 0) (f 1 (lentAfter img) (lentAfter (oneFile img (small 1))) (ended start) record { same-fcb = refl; same-buffer = refl }))
       (λ q. omega (arith, erased-byte img erased, one-byte img erased 1 (omega arith)))
 
   pub sizes-fall : (b : Build) → MakesUpSizes b → Falls b
   sizes-fall b f =
-      one-of-two b (ask 35) (after (oneFile img 1)) (after (oneFile img 2)) (ended start) (λ (o : Outcome). getD (o .lent .fcb) 33 0)
-      (ap (λ (l : Bytes). getD l 33 0) (f 1 (after (oneFile img 1)) (after (oneFile img 2)) (ended start) record { same-fcb = refl; same-buffer = refl }))
+      one-of-two b (ask 35) (lentAfter (oneFile img (small 1))) (lentAfter (oneFile img (small 2))) (ended start) (λ (o : Outcome). getD (o .lent .fcb) 33 0)
+      (ap (λ (l : Bytes). getD l 33 0) (f 1 (lentAfter (oneFile img (small 1))) (lentAfter (oneFile img (small 2))) (ended start) record { same-fcb = refl; same-buffer = refl }))
       (λ q. omega (arith, one-size img erased 1 (omega arith), one-size img erased 2 (omega arith)))
 
 -- ---- together, on a disk of E5H throughout
+-- a build that is none of these
+pub record Useful (b : Build) : Type 0 where
+  pub not-refusing : RefusesAll b → ⊥
+  pub not-fixed : (a : ℕ) → AnswersFixed a b → ⊥
+  pub not-idle : DoesNothing b → ⊥
+  pub not-first-only : ((k : ℕ) (asked : Asked) (l : Lent) (s : Session) → firstOnly k asked l s ≡ b k asked l s) → ⊥
+  pub not-forgetting : Forgets b → ⊥
+  pub not-space : MakesUpSpace b → ⊥
+  pub not-sizes : MakesUpSizes b → ⊥
+
 pub record Useless : Type 0 where
+  -- no refusal of the table has A = 0, so that one by refusals alone is such a build
+  pub refusals : (asked : Asked) (l : Lent) (s : Session) (c : Code) → RefusedBy eightInch asked l s c → aOf c ≡ 0 → ⊥
   pub refuses-all : (b : Build) → RefusesAll b → Falls b
   pub fixed : (a : ℕ) (b : Build) → AnswersFixed a b → Falls b
   pub nothing : (b : Build) → DoesNothing b → Falls b
   -- its first call, a log-in, is right, and leaves what its second is asked on
-  pub first-only-runs : (img : Bytes) → ErasedDisk eightInch img → firstOnly 0 (ask 13) (lend img notes fileFcb blank) start ≡ done 0 start (after img)
+  pub first-only-runs : (img : Bytes) → ErasedDisk eightInch img → firstOnly 0 (ask 13) (lend img notes fileFcb blank) start ≡ done 0 start (lentAfter img)
   pub first-only : Falls firstOnly
   pub first-only-write : Forgets firstOnly
   pub made-up-space : (b : Build) → MakesUpSpace b → Falls b
   pub made-up-sizes : (b : Build) → MakesUpSizes b → Falls b
+  -- and the right build does not fall, and is none of them
+  pub right-stands : Falls right → ⊥
+  pub right-useful : Useful right
 
 pub useless : (size : ℕ) → LongBy eightInch size → Useless
 useless size is =
     let img : Bytes = replicate size 229 in
     let erased : ErasedDisk eightInch img = all-erased eight-sound size is in
+    let stands : Falls right → ⊥ = λ f. f .differs refl in
     record {
+      refusals = λ asked l s c r. refusal-a asked l s c (r .source);
       refuses-all = refuses-all-falls img erased;
       fixed = fixed-falls img erased;
       nothing = nothing-falls img erased;
@@ -285,6 +343,16 @@ useless size is =
       first-only-write = first-only-forgets img erased;
       made-up-space = space-falls img erased;
       made-up-sizes = sizes-fall img erased;
+      right-stands = stands;
+      right-useful = record {
+        not-refusing = λ f. stands (refuses-all-falls img erased right f);
+        not-fixed = λ a f. stands (fixed-falls img erased a right f);
+        not-idle = λ f. stands (nothing-falls img erased right f);
+        not-first-only = λ f. let x = first-only-falls img erased in x .differs (f (x .place) (x .asked) (x .lent) (x .session));
+        not-forgetting = right-remembers;
+        not-space = λ f. stands (space-falls img erased right f);
+        not-sizes = λ f. stands (sizes-fall img erased right f);
+      };
     }
 
 pub useless-builds : Useless

@@ -1,18 +1,21 @@
 -- `assured::log_in_and_run` meets its contract: the log-in's answer says whether it was accepted, and the calls are made on what it left.
-use mathlib.Core.Path.{refl}
+use mathlib.Core.Path.{refl, _∙_}
 use mathlib.Core.Bool.{true, false}
 use borrow.Author.Needs.{needs}
 use borrow.Author.Tests.{not-true, not-false}
-use Rattle.lists.specs.Splice.{copies}
-use Rattle.assured.specs.Demands.{logIn, met-after, met-accepts, met-run, login-refused, logged-in}
+use Rattle.effects.specs.Book.{acceptedAnswer}
+use Rattle.demands.specs.Runs.{Request, Disk}
+use Rattle.assured.specs.Script.{diskOf}
+use Rattle.assured.specs.Demands.{logIn, met-after, met-says, met-run, login-refused, logged-in}
 use Rattle.assured.proofs.log_in_and_run.Statement.{statement}
 use Rattle.assured.proofs.log_in_and_run.Tie as tie
 
-slice-aggregate-call : tie.Need-slice-aggregate-call
-slice-aggregate-call c = search needs
+-- the disk and the request that the log-in came with
+abbrev given : tie.Start → Disk
+given c = let a = c .args in diskOf (a .image .now) (a .map .now) (a .session)
 
-slice-aggregate-call-2 : tie.Need-slice-aggregate-call-2
-slice-aggregate-call-2 c = search needs
+abbrev asks : tie.Start → Request
+asks c = let a = c .args in logIn (a .argument) (a .fcb .now) (a .buffer .now)
 
 call-requires : tie.Need-call-requires
 call-requires c κs = search needs
@@ -21,46 +24,69 @@ accepted-requires : tie.Need-accepted-requires
 accepted-requires c κs = search needs
 
 same-length : tie.Need-same-length
-same-length c = search needs
+same-length c = c .before .before .before .before .before .before .before .before .before .before .before .call .kept .1 .1 .1 .0
 
 same-length-2 : tie.Need-same-length-2
-same-length-2 c = search needs
+same-length-2 c = c .before .before .before .before .before .before .before .before .before .before .before .call .kept .1 .1 .1 .1 .0
+
+same-length-3 : tie.Need-same-length-3
+same-length-3 c = c .before .before .before .before .before .before .before .before .before .before .before .call .kept .1 .0
+
+same-length-4 : tie.Need-same-length-4
+same-length-4 c = c .before .before .before .before .before .before .before .before .before .before .before .call .kept .1 .1 .0
 
 returns : tie.Need-returns
-unfolding logIn copies
 returns c =
-    let meets = c .before .before .before .before .before .before .before .before .before .call .ensures in
-    login-refused refl (met-accepts _ logIn _ _ _ meets refl refl _ false (c .before .accepted .ensures) (not-true _ (c .if1 .taken)))
-    (met-after _ logIn _ _ _ meets refl refl)
+    let s = c .before .before .before .before .before .before .before .before .before .before .before .before .before .before .before .before .before .before .before .before .before .before .before in
+    let meets = c .before .before .before .before .before .before .before .before .before .before .before .call .ensures in
+    login-refused refl (met-says (given s) (asks s) _ _ _ meets refl refl acceptedAnswer _ false (c .before .accepted .ensures) (not-true _ (c .if1 .taken)))
+    (met-after (given s) (asks s) _ _ _ meets refl refl)
 
 run-calls-requires : tie.Need-run-calls-requires
 run-calls-requires c κs = search needs
 
-same-length-3 : tie.Need-same-length-3
-same-length-3 c = search needs
+same-length-5 : tie.Need-same-length-5
+same-length-5 c = c .before .before .before .before .before .before .before .before .before .before .before .before .before .before .before .before .before .before .before .before .before .before .before .before .call .kept .1 .1 .1 .0
 
-same-length-4 : tie.Need-same-length-4
-same-length-4 c = search needs
+same-length-6 : tie.Need-same-length-6
+same-length-6 c = c .before .before .before .before .before .before .before .before .before .before .before .before .before .before .before .before .before .before .before .before .before .before .before .before .call .kept .1 .1 .1 .1 .0
+
+same-length-7 : tie.Need-same-length-7
+same-length-7 c = c .before .before .before .before .before .before .before .before .run-calls .kept .1 .0
+
+same-length-8 : tie.Need-same-length-8
+same-length-8 c = c .before .before .before .before .before .before .before .before .run-calls .kept .1 .1 .0
+
+same-length-9 : tie.Need-same-length-9
+same-length-9 c = c .before .before .before .before .before .before .before .before .run-calls .kept .1 .1 .1 .0 ∙ c .before .before .before .before .before .before .before .before .before .before .before .before .before .before .before .before .before .before .before .before .before .before .before .before .call .kept .1 .0
+
+same-length-10 : tie.Need-same-length-10
+same-length-10 c = c .before .before .before .before .before .before .before .before .run-calls .kept .1 .1 .1 .1 .0 ∙ c .before .before .before .before .before .before .before .before .before .before .before .before .before .before .before .before .before .before .before .before .before .before .before .before .call .kept .1 .1 .0
 
 returns-2 : tie.Need-returns-2
-unfolding logIn copies
 returns-2 c =
-    let meets = c .before .before .before .before .before .before .before .before .before .before .before .before .before .before .before .before .call .ensures in
-    logged-in _ _ _ (met-accepts _ logIn _ _ _ meets refl refl _ true (c .before .before .before .before .before .before .before .before .accepted .ensures) (not-false _ (c .before .before .before .before .before .before .before .if1 .left)))
-    (met-run _ logIn _ _ _ meets refl refl _ _ (c .before .before .before .before .run-calls .ensures))
+    let s = c .before .before .before .before .before .before .before .before .before .before .before .before .before .before .before .before .before .before .before .before .before .before .before .before .before .before .before .before .before .before .before .before .before .before .before .before in
+    let meets = c .before .before .before .before .before .before .before .before .before .before .before .before .before .before .before .before .before .before .before .before .before .before .before .before .call .ensures in
+    logged-in (given s) (asks s) refl _ _
+    (met-says (given s) (asks s) _ _ _ meets refl refl acceptedAnswer _ true (c .before .before .before .before .before .before .before .before .before .before .before .before .before .before .accepted .ensures) (not-false _ (c .before .before .before .before .before .before .before .before .before .before .before .before .before .if1 .left)))
+    (met-run (given s) (asks s) _ _ _ meets refl refl _ _ (c .before .before .before .before .before .before .before .before .run-calls .ensures))
 
 pub log-in-and-run-spec : {M : Type 1} → statement M
 log-in-and-run-spec =
     tie.close
     (tie.spec
-    slice-aggregate-call
-    slice-aggregate-call-2
     call-requires
     accepted-requires
     same-length
     same-length-2
-    returns
-    run-calls-requires
     same-length-3
     same-length-4
+    returns
+    run-calls-requires
+    same-length-5
+    same-length-6
+    same-length-7
+    same-length-8
+    same-length-9
+    same-length-10
     returns-2)

@@ -1,45 +1,71 @@
--- `assured::make_call` meets its contract: the FCB and the buffer are the script's, and the call is the step of that request.
+-- `assured::make_call` meets its contract: the call is made of the script's numbers and of the next parts of the two slices.
 use borrow.Author.Needs.{needs}
-use Rattle.assured.specs.Script.{requestAt}
-use Rattle.assured.specs.Demands.{met-after}
+use Rattle.assured.specs.Script.{calls-next}
 use Rattle.assured.proofs.make_call.Statement.{statement}
 use Rattle.assured.proofs.make_call.Tie as tie
 
-mul-at : tie.Need-mul-at
-mul-at c = search needs
+add-ends-at : tie.Need-add-ends-at
+add-ends-at c = search needs
 
-add-get : tie.Need-add-get
-add-get c = search needs
+mul-ends-at : tie.Need-mul-ends-at
+mul-ends-at c = search needs
 
-slice-aggregate-get : tie.Need-slice-aggregate-get
-slice-aggregate-get c = search needs
+shared-slice-read-ends-at : tie.Need-shared-slice-read-ends-at
+shared-slice-read-ends-at c = search needs
 
-get-requires : tie.Need-get-requires
-get-requires c κs = search needs
+ends-at-requires : tie.Need-ends-at-requires
+ends-at-requires c κs = search needs
 
-add-get-2 : tie.Need-add-get-2
-add-get-2 c = search needs
+add-ends-at-2 : tie.Need-add-ends-at-2
+add-ends-at-2 c = search needs
 
-slice-aggregate-get-2 : tie.Need-slice-aggregate-get-2
-slice-aggregate-get-2 c = search needs
+mul-ends-at-2 : tie.Need-mul-ends-at-2
+mul-ends-at-2 c = search needs
 
-get-requires-2 : tie.Need-get-requires-2
-get-requires-2 c κs = search needs
+shared-slice-read-ends-at-2 : tie.Need-shared-slice-read-ends-at-2
+shared-slice-read-ends-at-2 c = search needs
 
-shared-slice-read-t18 : tie.Need-shared-slice-read-t18
-shared-slice-read-t18 c = search needs
+ends-at-requires-2 : tie.Need-ends-at-requires-2
+ends-at-requires-2 c κs = search needs
 
-add-t12 : tie.Need-add-t12
-add-t12 c = search needs
+mul-low-byte : tie.Need-mul-low-byte
+mul-low-byte c = search needs
 
-shared-slice-read-t20 : tie.Need-shared-slice-read-t20
-shared-slice-read-t20 c = search needs
+shared-slice-read-low-byte : tie.Need-shared-slice-read-low-byte
+shared-slice-read-low-byte c = search needs
 
-slice-aggregate-call : tie.Need-slice-aggregate-call
-slice-aggregate-call c = search needs
+low-byte-requires : tie.Need-low-byte-requires
+low-byte-requires c κs = search needs
 
-slice-aggregate-call-2 : tie.Need-slice-aggregate-call-2
-slice-aggregate-call-2 c = search needs
+add-low-byte : tie.Need-add-low-byte
+add-low-byte c = search needs
+
+mul-low-byte-2 : tie.Need-mul-low-byte-2
+mul-low-byte-2 c = search needs
+
+shared-slice-read-low-byte-2 : tie.Need-shared-slice-read-low-byte-2
+shared-slice-read-low-byte-2 c = search needs
+
+low-byte-requires-2 : tie.Need-low-byte-requires-2
+low-byte-requires-2 c κs = search needs
+
+sub-call : tie.Need-sub-call
+sub-call c = search needs
+
+part-call-start : tie.Need-part-call-start
+part-call-start c = search needs
+
+part-call-end : tie.Need-part-call-end
+part-call-end c = search needs
+
+sub-call-2 : tie.Need-sub-call-2
+sub-call-2 c = search needs
+
+part-call-start-2 : tie.Need-part-call-start-2
+part-call-start-2 c = search needs
+
+part-call-end-2 : tie.Need-part-call-end-2
+part-call-end-2 c = search needs
 
 call-requires : tie.Need-call-requires
 call-requires c κs = search needs
@@ -50,27 +76,53 @@ same-length c = search needs
 same-length-2 : tie.Need-same-length-2
 same-length-2 c = search needs
 
+same-length-3 : tie.Need-same-length-3
+same-length-3 c = c .before .before .before .before .before .before .before .before .before .call .kept .1 .0
+
+same-length-4 : tie.Need-same-length-4
+same-length-4 c = c .before .before .before .before .before .before .before .before .before .call .kept .1 .1 .0
+
 returns : tie.Need-returns
-unfolding requestAt
-returns c = met-after _ (requestAt (c .before .before .before .before .before .before .before .before .before .before .before .before .before .before .before .before .before .before .before .before .before .before .before .args .script .now) (c .before .before .before .before .before .before .before .before .before .before .before .before .before .before .before .before .before .before .before .before .before .before .before .args .i)) _ _ _ (c .before .before .before .before .before .before .before .call .ensures) (c .before .before .before .before .before .before .before .before .before .before .before .before .before .before .before .before .before .before .get .ensures) (c .before .before .before .before .before .before .before .before .before .before .before .before .before .before .before .get2 .ensures)
+returns c =
+    let s = c .before .before .before .before .before .before .before .before .before .before .before .before .before .before .before .before .before .before .before .before .before .before .before .before .before .before .before .before .before .before in
+    let a = s .args in
+    let f = c .before .before .before .before .before .before .before .before .before .before .before .before .before .before .before .before .before .before .before .before .before .ends-at .ensures in
+    let g = c .before .before .before .before .before .before .before .before .before .before .before .before .before .before .before .before .before .before .ends-at2 .ensures in
+    let m = c .before .before .before .before .before .before .before .before .before .call in (
+      calls-next (a .script .now) (a .at) (a .fcbs .now) (a .buffers .now) (a .image .now) (a .map .now) (a .p) (s .pre .0) _ _ _ _ f g
+          (c .before .before .before .before .before .before .before .before .before .before .before .before .before .before .before .before .low-byte .ensures) (c .before .before .before .before .before .before .before .before .before .before .before .before .before .before .low-byte2 .ensures) _ (m .ensures) (m .kept .1 .1 .1 .0) (m .kept .1 .1 .1 .1 .0),
+      f .high,
+      g .high,
+    )
 
 pub make-call-spec : {M : Type 1} → statement M
 make-call-spec =
     tie.close
     (tie.spec
-    mul-at
-    add-get
-    slice-aggregate-get
-    get-requires
-    add-get-2
-    slice-aggregate-get-2
-    get-requires-2
-    shared-slice-read-t18
-    add-t12
-    shared-slice-read-t20
-    slice-aggregate-call
-    slice-aggregate-call-2
+    add-ends-at
+    mul-ends-at
+    shared-slice-read-ends-at
+    ends-at-requires
+    add-ends-at-2
+    mul-ends-at-2
+    shared-slice-read-ends-at-2
+    ends-at-requires-2
+    mul-low-byte
+    shared-slice-read-low-byte
+    low-byte-requires
+    add-low-byte
+    mul-low-byte-2
+    shared-slice-read-low-byte-2
+    low-byte-requires-2
+    sub-call
+    part-call-start
+    part-call-end
+    sub-call-2
+    part-call-start-2
+    part-call-end-2
     call-requires
     same-length
     same-length-2
+    same-length-3
+    same-length-4
     returns)

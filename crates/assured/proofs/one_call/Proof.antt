@@ -4,8 +4,8 @@ use Rattle.assured.specs.Demands.{told, framed}
 use Rattle.assured.proofs.one_call.Statement.{statement}
 use Rattle.assured.proofs.one_call.Tie as tie
 
-call-requires : tie.Need-call-requires
-call-requires c κs = search needs
+benzo-call-requires : tie.Need-benzo-call-requires
+benzo-call-requires c κs = search needs
 
 same-length : tie.Need-same-length
 same-length c = search needs
@@ -21,10 +21,10 @@ same-length-4 c = search needs
 
 returns : tie.Need-returns
 returns c =
-    let meets = c .before .before .before .before .before .before .before .before .call .ensures in
+    let meets = c .before .before .before .before .before .before .before .before .benzo-call .ensures in
     (told _ _ _ _ meets, framed _ _ _ _ meets)
 
 pub one-call-spec : {M : Type 1} → statement M
 one-call-spec =
     tie.close
-    (tie.spec call-requires same-length same-length-2 same-length-3 same-length-4 returns)
+    (tie.spec benzo-call-requires same-length same-length-2 same-length-3 same-length-4 returns)

@@ -4,47 +4,67 @@ use Prim.Native.Nat.{_-_, _≤_}
 use native.Mathlib.Omega.{arith}
 use borrow.Author.Needs.{needs}
 use lib.ListN.{length}
-use Rattle.format.specs.Diskette.{eightInch}
-use Rattle.demands.specs.Runs.{run}
-use Rattle.assured.specs.Script.{requestsFrom, requests, diskOf, run-start, run-none, run-more}
+use Rattle.assured.specs.Script.{callsLeft, calls-none}
 use Rattle.assured.proofs.run_calls.Statement.{statement}
 use Rattle.assured.proofs.run_calls.Tie as tie
 
 abbrev Inv-loop : tie.InvT-loop
-Inv-loop script n image₀ map₀ s₀ i₀ image map s i =
-    (run eightInch (diskOf image map s) (requestsFrom script i (n - i)) ≡ run eightInch (diskOf image₀ map₀ s₀) (requests script n))
-    × (i ≤ n) × (length image ≡ length image₀) × (length map ≡ length map₀)
+Inv-loop script fcbs₀ buffers₀ image₀ map₀ p₀ at₀ fcbs buffers image map p at =
+    (callsLeft script at fcbs buffers image map p ≡ callsLeft script at₀ fcbs₀ buffers₀ image₀ map₀ p₀)
+    × (at ≤ length script) × (p .fcbs ≤ length fcbs) × (p .buffers ≤ length buffers)
+    × (length fcbs ≡ length fcbs₀) × (length buffers ≡ length buffers₀) × (length image ≡ length image₀) × (length map ≡ length map₀)
 
 abbrev μ-loop : tie.MeasureT-loop
-μ-loop script n image₀ map₀ s₀ i₀ image map s i = n - i
+μ-loop script fcbs₀ buffers₀ image₀ map₀ p₀ at₀ fcbs buffers image map p at = length script - at
 
 loop-holds : tie.Need-loop-holds Inv-loop μ-loop
-loop-holds c = (run-start eightInch _ _ _, omega arith, refl, refl)
+loop-holds c = (refl, omega arith, omega arith, omega arith, refl, refl, refl, refl)
+
+sub-loop : tie.Need-sub-loop Inv-loop μ-loop
+sub-loop c = omega arith
 
 make-call-requires : tie.Need-make-call-requires Inv-loop μ-loop
-make-call-requires c κs = omega arith
+make-call-requires c κs = let l = c .before .before .before .before .before .loop .inv in (omega arith, l .2, l .3)
 
-add-i : tie.Need-add-i Inv-loop μ-loop
-add-i c = omega arith
+add-at : tie.Need-add-at Inv-loop μ-loop
+add-at c = omega arith
 
 loop-less : tie.Need-loop-less Inv-loop μ-loop
 loop-less c = omega arith
 
 loop-again : tie.Need-loop-again Inv-loop μ-loop
 loop-again c =
-    let l = c .before .before .before .before .before .before .before .before .loop in
-    let m = c .before .before .before .before .make-call in
-    (run-more eightInch _ _ _ _ _ (omega arith) (m .ensures) ∙ l .inv .0, omega arith, m .kept .1 .1 .0 ∙ l .inv .2, m .kept .1 .1 .1 .0 ∙ l .inv .3)
+    let l = c .before .before .before .before .before .before .before .before .before .before .before .before .before .before .loop .inv in
+    let m = c .before .before .before .before .before .before .before .before .make-call in
+    let k = m .kept .1 .1 in (
+      m .ensures .0 ∙ l .0,
+      omega arith,
+      rw (k .0) (m .ensures .1),
+      rw (k .1 .0) (m .ensures .2),
+      k .0 ∙ l .4,
+      k .1 .0 ∙ l .5,
+      k .1 .1 .0 ∙ l .6,
+      k .1 .1 .1 .0 ∙ l .7,
+    )
 
 same-length : tie.Need-same-length Inv-loop μ-loop
-same-length c = search needs
+same-length c = c .before .before .loop .inv .4
 
 same-length-2 : tie.Need-same-length-2 Inv-loop μ-loop
-same-length-2 c = search needs
+same-length-2 c = c .before .before .loop .inv .5
+
+same-length-3 : tie.Need-same-length-3 Inv-loop μ-loop
+same-length-3 c = c .before .before .loop .inv .6
+
+same-length-4 : tie.Need-same-length-4 Inv-loop μ-loop
+same-length-4 c = c .before .before .loop .inv .7
 
 returns : tie.Need-returns Inv-loop μ-loop
+unfolding callsLeft
 returns c =
-    let l = c .before .loop in sym (run-none eightInch _ _ _ _ (λ h. omega arith)) ∙ l .inv .0
+    let l = c .before .before .loop in
+    sym (calls-none (c .before .before .before .before .before .before .before .before .args .script .now) (l .at) (l .fcbs) (l .buffers) (l .image) (l .map) (l .p)
+    (c .before .loop-test .left)) ∙ l .inv .0
 
 pub run-calls-spec : {M : Type 1} → statement M
 run-calls-spec =
@@ -53,10 +73,13 @@ run-calls-spec =
     Inv-loop
     μ-loop
     loop-holds
+    sub-loop
     make-call-requires
-    add-i
+    add-at
     loop-less
     loop-again
     same-length
     same-length-2
+    same-length-3
+    same-length-4
     returns)

@@ -1,14 +1,13 @@
--- `assured::write_and_read` meets its contract: what the write's answer says of it is so; where it was accepted, its target is in range, and the
--- record is read on the disk that the calls leave.
+-- `assured::write_and_read` meets its contract: what the answer says of the write is so; where it was accepted, its target is in range, and
+-- the record is read on the disk that the calls leave.
 use mathlib.Core.Path.{_≡_, refl, ap, _∙_}
 use mathlib.Core.Bool.{true, false}
 use borrow.Author.Needs.{needs}
 use borrow.Author.Tests.{not-true, not-false}
-use Rattle.format.specs.Diskette.{eightInch}
 use Rattle.model.specs.Lent.{Outcome}
-use Rattle.demands.specs.Runs.{Request, Disk, accepts}
-use Rattle.assured.specs.Script.{diskOf}
-use Rattle.assured.specs.Demands.{request, met, met-accepts, met-run, write-refused, write-read, extent-low, record-low, read-last, reads-again}
+use Rattle.demands.specs.Runs.{Request, Disk}
+use Rattle.assured.specs.Script.{request, diskOf}
+use Rattle.assured.specs.Demands.{writesAnswer, writesTo, met, met-says, met-run, not-written, write-read, fcb-long, extent-low, record-low, read-last, reads-again}
 use Rattle.assured.proofs.write_and_read.Statement.{statement}
 use Rattle.assured.proofs.write_and_read.Tie as tie
 
@@ -19,11 +18,13 @@ given c = let a = c .args in diskOf (a .image .now) (a .map .now) (a .session)
 abbrev asks : tie.Start → Request
 asks c = let a = c .args in request (a .asked) (a .fcb .now) (a .written .now)
 
--- past the test the write was accepted
-took : (c : tie.Else1) → accepts eightInch (given (c .before .before .before .before .before .before .before .before .before .before .before .before .before .before .before .before .before .before .before .before .before .before .before)) (asks (c .before .before .before .before .before .before .before .before .before .before .before .before .before .before .before .before .before .before .before .before .before .before .before)) ≡ true
+-- past the test a write was accepted
+abbrev start : tie.Else1 → tie.Start
+start c = c .before .before .before .before .before .before .before .before .before .before .before .before .before .before .before .before .before .before .before .before .before .before .before .before .before
+
+took : (c : tie.Else1) → writesTo (given (start c)) (asks (start c)) ≡ true
 took c =
-    let s = c .before .before .before .before .before .before .before .before .before .before .before .before .before .before .before .before .before .before .before .before .before .before .before in
-    met-accepts (given s) (asks s) _ _ _ (c .before .before .before .before .before .before .before .before .before .before .call .ensures) refl refl _ true (c .before .accepted .ensures) (not-false _ (c .if1 .left))
+    met-says (given (start c)) (asks (start c)) _ _ _ (c .before .before .before .before .before .before .before .before .before .before .call .ensures) refl refl writesAnswer _ true (c .before .wrote .ensures) (not-false _ (c .if1 .left))
 
 target-of-requires : tie.Need-target-of-requires
 target-of-requires c κs = search needs
@@ -31,27 +32,26 @@ target-of-requires c κs = search needs
 call-requires : tie.Need-call-requires
 call-requires c κs = search needs
 
-accepted-requires : tie.Need-accepted-requires
-accepted-requires c κs = search needs
+wrote-requires : tie.Need-wrote-requires
+wrote-requires c κs = search needs
 
 same-length : tie.Need-same-length
-same-length c = search needs
+same-length c = c .before .before .before .before .before .before .before .before .before .before .call .kept .1 .0
 
 same-length-2 : tie.Need-same-length-2
-same-length-2 c = search needs
+same-length-2 c = c .before .before .before .before .before .before .before .before .before .before .call .kept .1 .1 .0
 
 same-length-3 : tie.Need-same-length-3
-same-length-3 c = search needs
+same-length-3 c = c .before .before .before .before .before .before .before .before .before .before .call .kept .1 .1 .1 .0
 
 same-length-4 : tie.Need-same-length-4
-same-length-4 c = search needs
+same-length-4 c = c .before .before .before .before .before .before .before .before .before .before .call .kept .1 .1 .1 .1 .0
 
 returns : tie.Need-returns
 returns c =
-    let s = c .before .before .before .before .before .before .before .before .before .before .before .before .before .before .before .before .before .before .before .before .before .before .before in
+    let s = c .before .before .before .before .before .before .before .before .before .before .before .before .before .before .before .before .before .before .before .before .before .before .before .before .before in
     let meets = c .before .before .before .before .before .before .before .before .before .before .call .ensures in
-    write-refused refl
-    (met-accepts (given s) (asks s) _ _ _ meets refl refl _ false (c .before .accepted .ensures) (not-true _ (c .if1 .taken)))
+    not-written refl (met-says (given s) (asks s) _ _ _ meets refl refl writesAnswer _ false (c .before .wrote .ensures) (not-true _ (c .if1 .taken)))
     (met (given s) (asks s) _ _ _ meets refl refl) refl
 
 run-calls-requires : tie.Need-run-calls-requires
@@ -59,39 +59,46 @@ run-calls-requires c κs = search needs
 
 read-again-requires : tie.Need-read-again-requires
 read-again-requires c κs =
-    let s = c .before .before .before .before .before .before .before .before .before .before .before .before .before .before .before .before .before .before .before .before .before .before .before .before .before .before .before .before .before .before .before .before .before .before in
-    let o = c .before .before .before .before .before .before .before .before .before .before .before .before .before .before .before .before .before .before .before .before .before .before .before .before .before .before .target-of .ensures in
-    let t = took (c .before .before .before .before .before .before .before .before .before .before .before) in
-    (c .before .before .before .before .before .before .before .before .before .before .before .before .before .before .before .before .before .before .before .before .before .call .kept .1 .1 .1 .0 ∙ s .pre .2, rw (o .extent) (extent-low (given s) (asks s) (s .pre .0) t), rw (o .at) (record-low (given s) (asks s) (s .pre .0) t))
+    let s = c .before .before .before .before .before .before .before .before .before .before .before .before .before .before .before .before .before .before .before .before .before .before .before .before .before .before .before .before .before .before .before .before .before .before .before .before .before .before .before .before .before .before in
+    let t = took (c .before .before .before .before .before .before .before .before .before .before .before .before .before .before .before .before .before) in
+    let long = fcb-long (given s) (asks s) t in
+    let o = c .before .before .before .before .before .before .before .before .before .before .before .before .before .before .before .before .before .before .before .before .before .before .before .before .before .before .before .before .before .before .before .before .target-of .ensures long in
+    (c .before .before .before .before .before .before .before .before .before .before .before .before .before .before .before .before .before .before .before .before .before .before .before .before .before .before .before .call .kept .1 .1 .1 .0 ∙ long, rw (o .extent) (extent-low (given s) (asks s) t), rw (o .at) (record-low (given s) (asks s) t))
 
 same-length-5 : tie.Need-same-length-5
-same-length-5 c = c .before .before .before .before .before .before .before .before .read-again .kept .1 .0 ∙ c .before .before .before .before .before .before .before .before .before .before .before .before .before .before .before .before .before .run-calls .kept .1 .1 .0 ∙ c .before .before .before .before .before .before .before .before .before .before .before .before .before .before .before .before .before .before .before .before .before .before .before .before .before .before .before .before .before .before .call .kept .1 .0
+same-length-5 c = c .before .before .before .before .before .before .before .before .before .before .before .before .before .before .before .before .before .before .before .before .before .run-calls .kept .1 .0
 
 same-length-6 : tie.Need-same-length-6
-same-length-6 c = c .before .before .before .before .before .before .before .before .read-again .kept .1 .1 .0 ∙ c .before .before .before .before .before .before .before .before .before .before .before .before .before .before .before .before .before .run-calls .kept .1 .1 .1 .0 ∙ c .before .before .before .before .before .before .before .before .before .before .before .before .before .before .before .before .before .before .before .before .before .before .before .before .before .before .before .before .before .before .call .kept .1 .1 .0
+same-length-6 c = c .before .before .before .before .before .before .before .before .before .before .before .before .before .before .before .before .before .before .before .before .before .run-calls .kept .1 .1 .0
 
 same-length-7 : tie.Need-same-length-7
-same-length-7 c = c .before .before .before .before .before .before .before .before .read-again .kept .1 .1 .1 .0 ∙ c .before .before .before .before .before .before .before .before .before .before .before .before .before .before .before .before .before .before .before .before .before .before .before .before .before .before .before .before .before .before .call .kept .1 .1 .1 .0
+same-length-7 c = c .before .before .before .before .before .before .before .before .read-again .kept .1 .0 ∙ c .before .before .before .before .before .before .before .before .before .before .before .before .before .before .before .before .before .before .before .before .before .run-calls .kept .1 .1 .1 .0 ∙ c .before .before .before .before .before .before .before .before .before .before .before .before .before .before .before .before .before .before .before .before .before .before .before .before .before .before .before .before .before .before .before .before .before .before .before .before .call .kept .1 .0
 
 same-length-8 : tie.Need-same-length-8
-same-length-8 c = search needs
+same-length-8 c = c .before .before .before .before .before .before .before .before .read-again .kept .1 .1 .0 ∙ c .before .before .before .before .before .before .before .before .before .before .before .before .before .before .before .before .before .before .before .before .before .run-calls .kept .1 .1 .1 .1 .0 ∙ c .before .before .before .before .before .before .before .before .before .before .before .before .before .before .before .before .before .before .before .before .before .before .before .before .before .before .before .before .before .before .before .before .before .before .before .before .call .kept .1 .1 .0
 
 same-length-9 : tie.Need-same-length-9
-same-length-9 c = search needs
+same-length-9 c = c .before .before .before .before .before .before .before .before .read-again .kept .1 .1 .1 .0 ∙ c .before .before .before .before .before .before .before .before .before .before .before .before .before .before .before .before .before .before .before .before .before .before .before .before .before .before .before .before .before .before .before .before .before .before .before .before .call .kept .1 .1 .1 .0
+
+same-length-10 : tie.Need-same-length-10
+same-length-10 c = c .before .before .before .before .before .before .before .before .before .before .before .before .before .before .before .before .before .before .before .before .before .before .before .before .before .before .before .before .before .before .before .before .before .before .before .before .call .kept .1 .1 .1 .1 .0
+
+same-length-11 : tie.Need-same-length-11
+same-length-11 c = c .before .before .before .before .before .before .before .before .read-again .kept .1 .1 .1 .1 .0
 
 returns-2 : tie.Need-returns-2
 returns-2 c =
-    let s = c .before .before .before .before .before .before .before .before .before .before .before .before .before .before .before .before .before .before .before .before .before .before .before .before .before .before .before .before .before .before .before .before .before .before .before .before .before .before .before .before .before .before .before in
+    let s = c .before .before .before .before .before .before .before .before .before .before .before .before .before .before .before .before .before .before .before .before .before .before .before .before .before .before .before .before .before .before .before .before .before .before .before .before .before .before .before .before .before .before .before .before .before .before .before .before .before .before .before in
     let d = given s in
     let w = asks s in
-    let t = took (c .before .before .before .before .before .before .before .before .before .before .before .before .before .before .before .before .before .before .before .before) in
-    let o = c .before .before .before .before .before .before .before .before .before .before .before .before .before .before .before .before .before .before .before .before .before .before .before .before .before .before .before .before .before .before .before .before .before .before .before .target-of .ensures in
-    let meets = c .before .before .before .before .before .before .before .before .before .before .before .before .before .before .before .before .before .before .before .before .before .before .before .before .before .before .before .before .before .before .call .ensures in
+    let t = took (c .before .before .before .before .before .before .before .before .before .before .before .before .before .before .before .before .before .before .before .before .before .before .before .before .before .before) in
+    let o = c .before .before .before .before .before .before .before .before .before .before .before .before .before .before .before .before .before .before .before .before .before .before .before .before .before .before .before .before .before .before .before .before .before .before .before .before .before .before .before .before .before .target-of .ensures (fcb-long d w t) in
+    let meets = c .before .before .before .before .before .before .before .before .before .before .before .before .before .before .before .before .before .before .before .before .before .before .before .before .before .before .before .before .before .before .before .before .before .before .before .before .call .ensures in
     let same = met d w _ _ _ meets refl refl in
-    let made = met-run d w _ _ _ meets refl refl _ _ (c .before .before .before .before .before .before .before .before .before .before .before .before .before .before .before .before .before .run-calls .ensures) in
+    let made = met-run d w _ _ _ meets refl refl _ _ (c .before .before .before .before .before .before .before .before .before .before .before .before .before .before .before .before .before .before .before .before .before .run-calls .ensures) in
     let last = c .before .before .before .before .before .before .before .before .read-again .ensures in
-    write-read refl t (ap (λ (x : Outcome). x .lent .buffer) same) (read-last d w (s .pre .0) t _ same _ _ made _ _ (o .extent) (o .at) _ _ last)
-    (λ alone. reads-again d w (s .pre .0) t _ same _ _ made _ _ (o .extent) (o .at) _ _ last (s .pre .3) alone)
+    write-read refl t (ap (λ (x : Outcome). x .lent .buffer) same) (read-last d w t _ same _ _ made _ o _ _ last)
+    (λ long alone. reads-again d w t _ same _ _ made _ o _ _ last long alone)
 
 pub write-and-read-spec : {M : Type 1} → statement M
 write-and-read-spec =
@@ -99,7 +106,7 @@ write-and-read-spec =
     (tie.spec
     target-of-requires
     call-requires
-    accepted-requires
+    wrote-requires
     same-length
     same-length-2
     same-length-3
@@ -112,4 +119,6 @@ write-and-read-spec =
     same-length-7
     same-length-8
     same-length-9
+    same-length-10
+    same-length-11
     returns-2)

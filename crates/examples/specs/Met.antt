@@ -1,0 +1,112 @@
+-- The examples speak of something: disks, straight after a log-in, and FCBs on which what each of them asks for holds.
+use mathlib.Core.Path.{_≡_, refl, sym, _∙_}
+use mathlib.Core.Bool.{true, false}
+use mathlib.Core.List.{[], _∷_, _++_}
+use Prim.Native.Nat.{ℕ, _+_, _≤_, _<_}
+use native.Mathlib.Omega.{arith}
+use lib.Dec.{eqb}
+use lib.ListN.{length, getD, replicate}
+use borrow.Author.Tests.{eqb-true}
+use Rattle.lists.specs.Tests.{_and_}
+use Rattle.lists.specs.Below.{allBelow, all-at}
+use Rattle.format.specs.Diskette.{Bytes, eightInch, slotCount, Long}
+use Rattle.format.specs.Names.{nameRight}
+use Rattle.format.specs.Entries.{entryAt, used, extentOf}
+use Rattle.format.specs.Consistent.{consistent}
+use Rattle.format.specs.Notes.{isListed, freshMap}
+use Rattle.format.specs.Fcb.{fcbBytes, crOf}
+use Rattle.model.specs.declared.Asked.{Asked}
+use Rattle.model.specs.declared.Session.{Session}
+use Rattle.model.specs.Lent.{Lent, lend, rowsOf, ended}
+use Rattle.fields.specs.Erased.{ErasedDisk, erased-consistent}
+use Rattle.table.specs.Own.{calling}
+use Rattle.table.specs.Facts.{Ready}
+use Rattle.examples.specs.Erased.{start, blank, notes, fitting, logged-ready}
+use Rattle.examples.specs.Numbers.{Gives, HasEntry, size-largest}
+use Rattle.examples.specs.Random.{RandomIs}
+use Rattle.examples.specs.Pattern.{AllAny}
+use Rattle.examples.specs.OneFile.{InRange, entryOf, oneFile, fileFcb, length-fileFcb, fcb-name, one-long, one-consistent, one-only, one-uses, rest-unlisted, oneLent, one-ready, one-entry}
+
+-- a disk of one entry, of extent 2,047 with rc 128, on which 35 gives 00H 00H 04H
+pub record Largest (asked : Asked) : Type 0 where
+  pub lent : Lent
+  pub session : Session
+  pub ready : Ready eightInch (calling 35 asked) lent session
+  pub name : nameRight false (lent .fcb) 1 ≡ true
+  pub has : HasEntry eightInch lent session 2047 128
+  pub only : (e f : ℕ) → e < eightInch .entries → f < eightInch .entries → used (rowsOf eightInch lent e) ≡ true → used (rowsOf eightInch lent f) ≡ true → e ≡ f
+  pub gives : Gives eightInch 35 asked lent session (0 ∷ 0 ∷ 4 ∷ [])
+
+-- an image that is consistent, and a slot of one of its used entries
+pub record SlotOf (img : Bytes) (e j : ℕ) : Type 0 where
+  pub long : Long eightInch img
+  pub right : consistent eightInch img ≡ true
+  pub entry : e < eightInch .entries
+  pub slot : j < slotCount
+  pub uses : used (entryAt eightInch img e) ≡ true
+
+-- what a call can be lent so that image, map, lengths and drive are right, with an FCB of which P holds
+abbrev pub LentWith : Asked → (Bytes → Type 0) → Type 0
+LentWith asked P = (l : Lent) × (s : Session) × Ready eightInch asked l s × P (l .fcb)
+
+-- extent 1, cr 128
+abbrev atEnd : Bytes
+atEnd = replicate 12 0 ++ (1 ∷ replicate 19 0) ++ (128 ∷ 0 ∷ 0 ∷ 0 ∷ [])
+
+-- eleven 3FH
+abbrev anyName : Bytes
+anyName = 0 ∷ replicate 11 63 ++ replicate 24 0
+
+pub any-met : (fcb : Bytes) × (length fcb ≡ fcbBytes) × AllAny fcb 1
+unfolding allBelow _and_
+any-met = (anyName, refl, λ i h. eqb-true _ _ (all-at (λ (k : ℕ). eqb (getD anyName (1 + k) 0) 63) 11 refl i h))
+
+module _ (img : Bytes) (erased : ErasedDisk eightInch img) where
+  with-fcb : (P : Bytes → Type 0) (asked : Asked) (fcb : Bytes) → length fcb ≡ fcbBytes → getD fcb 0 0 ≤ 1 → P fcb → LentWith asked P
+  with-fcb P asked fcb long drive p = (
+    lend img (freshMap eightInch (entryAt eightInch img)) fcb blank,
+    ended start,
+    logged-ready eightInch img (erased .long) (erased-consistent eightInch img erased) notes fcb blank start (fitting fcb long) asked (λ u. drive),
+    p,
+  )
+
+  pub random-met : (asked : Asked) (r0 r1 r2 : ℕ) → LentWith asked (λ (f : Bytes). RandomIs f r0 r1 r2)
+  random-met asked r0 r1 r2 = with-fcb _ asked (replicate 33 0 ++ (r0 ∷ r1 ∷ r2 ∷ [])) refl (omega arith) record { low = refl; middle = refl; high = refl }
+
+  pub position-met : (asked : Asked) → LentWith asked (λ (f : Bytes). (extentOf f ≡ 1) × (crOf f ≡ 128))
+  unfolding extentOf
+  position-met asked = with-fcb _ asked atEnd refl (omega arith) (refl, refl)
+
+  pub largest-met : (asked : Asked) → Largest asked
+  largest-met asked =
+      let f = entryOf 2047 128 2 in
+      let range : InRange f = record { extent = omega arith; count = omega arith; low = omega arith; high = omega arith } in
+      let fit = fitting fileFcb length-fileFcb in
+      let ready = one-ready img erased f range notes blank start refl fit asked in
+      let has = one-entry img erased f range notes blank start refl fit asked in
+      record {
+        lent = oneLent img erased f range notes blank start refl fit asked;
+        session = ended start;
+        ready = ready;
+        name = fcb-name;
+        has = has;
+        only = λ e g h k u v. one-only img erased f range e h u ∙ sym (one-only img erased f range g k v);
+        gives = size-largest eightInch asked _ (ended start) ready fcb-name has;
+      }
+
+  -- it lists block 3 alone
+  pub slot-met : (i : Bytes) × SlotOf i 0 0 × (isListed eightInch (entryAt eightInch i) 2 ≡ false) × (isListed eightInch (entryAt eightInch i) 242 ≡ false)
+  slot-met =
+      let f = entryOf 0 1 3 in
+      let range : InRange f = record { extent = omega arith; count = omega arith; low = omega arith; high = omega arith } in (
+        oneFile img f,
+        record {
+          long = one-long img erased f range;
+          right = one-consistent img erased f range;
+          entry = omega arith;
+          slot = omega arith;
+          uses = one-uses img erased f range;
+        },
+        rest-unlisted img erased f range 2 (omega arith) (λ q. omega arith),
+        rest-unlisted img erased f range 242 (omega arith) (λ q. omega arith),
+      )
