@@ -10,7 +10,7 @@ ghost use Rattle.model.specs.Kinds.{kindOf};
 ghost use Rattle.model.specs.declared.Kind.the-variants.{Write};
 ghost use Rattle.model.specs.Step.{step};
 ghost use Rattle.table.specs.Own.{ask};
-ghost use Rattle.effects.specs.Book.{ofRecord, acceptedAnswer};
+ghost use Rattle.effects.specs.Book.{acceptedAnswer};
 ghost use Rattle.demands.specs.Runs.{after, run};
 ghost use Rattle.assured.specs.Script.{callBytes, requestAt, requests, diskOf};
 ghost use Rattle.assured.specs.Demands.{request, targetSet, Told, Framed, LoggedIn, ReadsBack};
@@ -55,22 +55,6 @@ pub fn one_call(
     bdos::call(asked, image, map, fcb, buffer, session)
 }
 
-// Whether a call moves a record: 20, 21, 33 and 34.
-fn moves_record(number: u8) -> bool
-    ensures { λ r. ⌜ r ≡ ofRecord (kindOf number) ⌝ }
-{
-    if number == 20 {
-        return true;
-    }
-    if number == 21 {
-        return true;
-    }
-    if number == 33 {
-        return true;
-    }
-    number == 34
-}
-
 // Whether an answer to a call says that it was accepted.
 fn accepted(number: u8, answer: Answer) -> bool
     ensures { λ r. ⌜ r ≡ acceptedAnswer number answer ⌝ }
@@ -78,7 +62,7 @@ fn accepted(number: u8, answer: Answer) -> bool
     if answer.h != 0 {
         return false;
     }
-    if moves_record(number) {
+    if calls::moves_record(number) {
         return answer.a == 0;
     }
     answer.a != 255

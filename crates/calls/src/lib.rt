@@ -1,59 +1,77 @@
-// The calls as code tells them apart: a digit for the kind of each number, as `model`'s list has it.
+// The calls as code tells them apart: `model`'s list once more, line by line.
 ghost use mathlib.Core.Path.{_≡_};
-ghost use Prim.Native.Nat.{_+_};
-ghost use Rattle.model.specs.Kinds.{kindOf, kindNumber, isCall};
+ghost use mathlib.Core.Bool.{true, cond};
+ghost use Rattle.model.specs.declared.Kind.the-variants.{Read, Write};
+ghost use Rattle.model.specs.Kinds.{kindOf, usesFcb, isRandom, isCall, same};
 use model::Kind;
 
-// The kind of a number as a digit: 0 is no call.
-fn digit_of(number: u8) -> u8
-    ensures { λ r. ⌜ r ≡ 48 + kindNumber (kindOf number) ⌝ }
-{
-    let kinds =
-        b"000000000000040152269:780000000039:11000000000100000000000000000000000000000000000000000000000000040000000000000000000000000000000000000000000000000000000000000000000000000000000000000000000000000000000000000000000000000000000000000000000000000000000000000";
-    kinds[number as usize]
-}
+// A call's kind, whether it uses the FCB, and whether it goes by the random record.
+struct Line(Kind, bool, bool);
 
-// Whether there is a call of this number.
-pub fn is_call(number: u8) -> bool
-    ensures { λ r. ⌜ r ≡ isCall number ⌝ }
+// The line of a number; one that is not there is of no call.
+fn line_of(number: u8) -> Line
+    ensures { λ r. ⌜ (r .0 ≡ kindOf number) × (r .1 ≡ usesFcb number) × (r .2 ≡ isRandom number) ⌝ }
 {
-    digit_of(number) != 48
+    match number {
+        13 => Line(Kind::Settle, false, false),
+        15 => Line(Kind::Quiet, true, false),
+        16 => Line(Kind::Close, true, false),
+        17 => Line(Kind::Search, true, false),
+        18 => Line(Kind::Search, false, false),
+        19 => Line(Kind::Delete, true, false),
+        20 => Line(Kind::Read, true, false),
+        21 => Line(Kind::Write, true, false),
+        22 => Line(Kind::Create, true, false),
+        23 => Line(Kind::Rename, true, false),
+        32 => Line(Kind::User, false, false),
+        33 => Line(Kind::Read, true, true),
+        34 => Line(Kind::Write, true, true),
+        35 => Line(Kind::Quiet, true, false),
+        36 => Line(Kind::Quiet, true, false),
+        46 => Line(Kind::Quiet, false, false),
+        98 => Line(Kind::Settle, false, false),
+        _ => Line(Kind::Unlisted, false, false),
+    }
 }
 
 // The kind of a number.
 pub fn kind_of(number: u8) -> Kind
     ensures { λ r. ⌜ r ≡ kindOf number ⌝ }
 {
-    let d = digit_of(number);
-    if d < 49 {
-        return Kind::Unlisted;
+    line_of(number).0
+}
+
+// Whether there is a call of this number.
+pub fn is_call(number: u8) -> bool
+    ensures { λ r. ⌜ r ≡ isCall number ⌝ }
+{
+    match kind_of(number) {
+        Kind::Unlisted => false,
+        _ => true,
     }
-    if d < 50 {
-        return Kind::Quiet;
+}
+
+// Whether a call uses the FCB.
+pub fn uses_fcb(number: u8) -> bool
+    ensures { λ r. ⌜ r ≡ usesFcb number ⌝ }
+{
+    line_of(number).1
+}
+
+// Whether a call goes by the random record.
+pub fn is_random(number: u8) -> bool
+    ensures { λ r. ⌜ r ≡ isRandom number ⌝ }
+{
+    line_of(number).2
+}
+
+// Whether a call moves a record.
+pub fn moves_record(number: u8) -> bool
+    ensures { λ r. ⌜ r ≡ cond (same (kindOf number) Read) true (same (kindOf number) Write) ⌝ }
+{
+    match kind_of(number) {
+        Kind::Read => true,
+        Kind::Write => true,
+        _ => false,
     }
-    if d < 51 {
-        return Kind::Search;
-    }
-    if d < 52 {
-        return Kind::User;
-    }
-    if d < 53 {
-        return Kind::Settle;
-    }
-    if d < 54 {
-        return Kind::Close;
-    }
-    if d < 55 {
-        return Kind::Delete;
-    }
-    if d < 56 {
-        return Kind::Create;
-    }
-    if d < 57 {
-        return Kind::Rename;
-    }
-    if d < 58 {
-        return Kind::Read;
-    }
-    Kind::Write
 }
