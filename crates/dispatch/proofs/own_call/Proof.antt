@@ -1,8 +1,10 @@
-use mathlib.Core.Path.{sym, _∙_}
+-- The kind tells the number, where a kind has one call; the others go to functions of their own.
+use mathlib.Core.Path.{refl, sym, _∙_}
 use Rattle.format.specs.Diskette.{eightInch}
 use Rattle.table.specs.Own.{not-unlisted}
 use Rattle.table.specs.OwnStep.{own-at}
-use Rattle.dispatch.specs.Numbers.{only-user, only-free, only-close, only-delete, only-create, only-rename}
+use Rattle.dispatch.specs.Numbers.{of-kind, left, only, at-number}
+use Rattle.model.specs.declared.Kind.the-variants.{User, Settle, Close, Delete, Create, Rename}
 use borrow.Author.Needs.{needs}
 use Rattle.dispatch.proofs.own_call.Statement.{statement}
 use Rattle.dispatch.proofs.own_call.Tie as tie
@@ -107,13 +109,15 @@ returns-2 : tie.Need-returns-2
 returns-2 c = c .before .before .search-call .ensures
 
 returns-3 : tie.Need-returns-3
-returns-3 c = c .user-number .ensures _ _ _ _ ∙ own-at eightInch (c .before .before .before .before .before .before .before .before .before .args .asked) _ _ 32 (only-user _ (sym (c .before .before .before .kind-of .ensures) ∙ c .before .enum-told3 .given .1))
+returns-3 c = c .user-number .ensures _ _ _ _ ∙ own-at eightInch _ _ _ 32 (only (of-kind User _ refl (sym (c .before .before .before .kind-of .ensures) ∙ c .before .enum-told3 .given .1)))
 
 same-length-9 : tie.Need-same-length-9
 same-length-9 c = search needs
 
 returns-4 : tie.Need-returns-4
-returns-4 c = c .before .before .free-blocks .ensures (c .before .before .before .before .before .before .before .before .before .before .before .before .args .asked) _ _ _ ∙ own-at eightInch (c .before .before .before .before .before .before .before .before .before .before .before .before .args .asked) _ _ 98 (only-free _ (sym (c .before .before .before .before .before .before .kind-of .ensures) ∙ c .before .before .before .before .enum-told4 .given .1) (c .before .before .before .before .before .before .before .before .before .before .before .before .pre .1))
+returns-4 c =
+    at-number _ _ _ (only (left (of-kind Settle _ refl (sym (c .before .before .before .before .before .before .kind-of .ensures) ∙ c .before .before .before .before .enum-told4 .given .1)) (c .before .before .before .before .before .before .before .before .before .before .before .before .pre .1)))
+    (λ a. c .before .before .free-blocks .ensures a _ _ _)
 
 same-length-10 : tie.Need-same-length-10
 same-length-10 c = search needs
@@ -125,7 +129,9 @@ same-length-12 : tie.Need-same-length-12
 same-length-12 c = search needs
 
 returns-5 : tie.Need-returns-5
-returns-5 c = c .before .before .before .before .before .before .close-file .ensures (c .before .before .before .before .before .before .before .before .before .before .before .before .before .before .before .before .before .before .args .asked) _ ∙ own-at eightInch (c .before .before .before .before .before .before .before .before .before .before .before .before .before .before .before .before .before .before .args .asked) _ _ 16 (only-close _ (sym (c .before .before .before .before .before .before .before .before .before .before .before .before .kind-of .ensures) ∙ c .before .before .before .before .before .before .before .before .before .before .enum-told5 .given .1))
+returns-5 c =
+    at-number _ _ _ (only (of-kind Close _ refl (sym (c .before .before .before .before .before .before .before .before .before .before .before .before .kind-of .ensures) ∙ c .before .before .before .before .before .before .before .before .before .before .enum-told5 .given .1)))
+    (λ a. c .before .before .before .before .before .before .close-file .ensures a _)
 
 same-length-13 : tie.Need-same-length-13
 same-length-13 c = search needs
@@ -137,7 +143,9 @@ same-length-15 : tie.Need-same-length-15
 same-length-15 c = search needs
 
 returns-6 : tie.Need-returns-6
-returns-6 c = c .before .before .before .before .delete-file .ensures (c .before .before .before .before .before .before .before .before .before .before .before .before .before .before .before .before .args .asked) _ ∙ own-at eightInch (c .before .before .before .before .before .before .before .before .before .before .before .before .before .before .before .before .args .asked) _ _ 19 (only-delete _ (sym (c .before .before .before .before .before .before .before .before .before .before .kind-of .ensures) ∙ c .before .before .before .before .before .before .before .before .enum-told6 .given .1))
+returns-6 c =
+    at-number _ _ _ (only (of-kind Delete _ refl (sym (c .before .before .before .before .before .before .before .before .before .before .kind-of .ensures) ∙ c .before .before .before .before .before .before .before .before .enum-told6 .given .1)))
+    (λ a. c .before .before .before .before .delete-file .ensures a _)
 
 same-length-16 : tie.Need-same-length-16
 same-length-16 c = search needs
@@ -146,7 +154,9 @@ same-length-17 : tie.Need-same-length-17
 same-length-17 c = search needs
 
 returns-7 : tie.Need-returns-7
-returns-7 c = c .before .before .before .before .make-file .ensures (c .before .before .before .before .before .before .before .before .before .before .before .before .before .before .before .args .asked) _ _ ∙ own-at eightInch (c .before .before .before .before .before .before .before .before .before .before .before .before .before .before .before .args .asked) _ _ 22 (only-create _ (sym (c .before .before .before .before .before .before .before .before .before .kind-of .ensures) ∙ c .before .before .before .before .before .before .before .enum-told7 .given .1))
+returns-7 c =
+    at-number _ _ _ (only (of-kind Create _ refl (sym (c .before .before .before .before .before .before .before .before .before .kind-of .ensures) ∙ c .before .before .before .before .before .before .before .enum-told7 .given .1)))
+    (λ a. c .before .before .before .before .make-file .ensures a _ _)
 
 same-length-18 : tie.Need-same-length-18
 same-length-18 c = search needs
@@ -155,7 +165,9 @@ same-length-19 : tie.Need-same-length-19
 same-length-19 c = search needs
 
 returns-8 : tie.Need-returns-8
-returns-8 c = c .before .before .rename-file .ensures (c .before .before .before .before .before .before .before .before .before .before .before .before .before .args .asked) _ _ ∙ own-at eightInch (c .before .before .before .before .before .before .before .before .before .before .before .before .before .args .asked) _ _ 23 (only-rename _ (sym (c .before .before .before .before .before .before .before .kind-of .ensures) ∙ c .before .before .before .before .before .enum-told8 .given .1))
+returns-8 c =
+    at-number _ _ _ (only (of-kind Rename _ refl (sym (c .before .before .before .before .before .before .before .kind-of .ensures) ∙ c .before .before .before .before .before .enum-told8 .given .1)))
+    (λ a. c .before .before .rename-file .ensures a _ _)
 
 same-length-20 : tie.Need-same-length-20
 same-length-20 c = search needs
