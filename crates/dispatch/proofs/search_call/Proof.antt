@@ -6,20 +6,8 @@ use Rattle.dispatch.specs.Numbers.{of-kind, left, only, at-number}
 use Rattle.dispatch.proofs.search_call.Statement.{statement}
 use Rattle.dispatch.proofs.search_call.Tie as tie
 
-search-first-requires : tie.Need-search-first-requires
-search-first-requires c κs = search needs
-
-same-length : tie.Need-same-length
-same-length c = search needs
-
 returns : tie.Need-returns
 returns c = at-number _ _ _ (c .before .before .before .before .if1 .taken) (λ a. c .before .before .search-first .ensures a _)
-
-search-next-requires : tie.Need-search-next-requires
-search-next-requires c κs = search needs
-
-same-length-2 : tie.Need-same-length-2
-same-length-2 c = search needs
 
 returns-2 : tie.Need-returns-2
 returns-2 c =
@@ -28,4 +16,4 @@ returns-2 c =
 
 pub search-call-spec : {M : Type 1} → statement M
 search-call-spec =
-    tie.close (tie.spec search-first-requires same-length returns search-next-requires same-length-2 returns-2)
+    tie.close (tie.spec (λ c κs. search needs) (λ c. search needs) returns (λ c κs. search needs) (λ c. search needs) returns-2)
