@@ -75,3 +75,13 @@ pub fn moves_record(number: u8) -> bool
         _ => false,
     }
 }
+
+// Whether it writes one.
+pub fn writes(number: u8) -> bool
+    ensures { λ r. ⌜ r ≡ same (kindOf number) Write ⌝ }
+{
+    match kind_of(number) {
+        Kind::Write => true,
+        _ => false,
+    }
+}

@@ -1,14 +1,19 @@
 -- A call's number is one of those that the list of calls has of its kind. Those that a test has ruled out are struck off, until one is left.
-use mathlib.Core.Path.{_≡_, refl, _∙_}
-use mathlib.Core.Bool.{false}
+use mathlib.Core.Path.{_≡_, refl, sym, _∙_}
+use mathlib.Core.Logic.{_⊎_, inl, inr}
+use mathlib.Core.Bool.{true, false, cond}
 use mathlib.Core.List.{List, [], _∷_}
 use Prim.Native.Nat.{ℕ}
+use denote.Enum.Declared.{tagOf}
+use borrow.Author.Tests.{eq-eqb}
+use Rattle.lists.specs.Cases.{split, bool-cases}
 use Rattle.format.specs.Diskette.{eightInch}
 use Rattle.model.specs.declared.Asked.{Asked}
 use Rattle.model.specs.declared.Session.{Session}
 use Rattle.model.specs.declared.Kind.{Kind}
-use Rattle.model.specs.declared.Kind.the-variants.{Unlisted}
-use Rattle.model.specs.Kinds.{Listed, calls, kindOf, same, numbersIn}
+use Rattle.model.specs.declared.Kind.the-variants.{Unlisted, Quiet, Search, User, Settle, Close, Delete, Create, Rename, Read, Write}
+use Rattle.model.proofs.Kind.{the-type}
+use Rattle.model.specs.Kinds.{Listed, calls, kindOf, kindNumber, same, numbersIn}
 use Rattle.model.specs.Lent.{Lent, Outcome}
 use Rattle.table.specs.First.{_&_}
 use Rattle.table.specs.Own.{AtEach, at-kind, calling}
@@ -41,3 +46,22 @@ only (later x) = elim x [ ]
 pub at-number : {o : Outcome} {n : ℕ} (asked : Asked) (l : Lent) (s : Session) → asked .number ≡ n → ((a : Asked) → o ≡ ownStep eightInch (calling n a) l s)
     → o ≡ ownStep eightInch asked l s
 at-number {o} {n} asked l s q h = h asked ∙ own-at eightInch asked l s n q
+
+-- ---- an arm of several kinds goes by the place of each in the enum, which is its number
+tag-is : (k : Kind) → tagOf the-type k ≡ kindNumber k
+tag-is Unlisted = refl
+tag-is Quiet = refl
+tag-is Search = refl
+tag-is User = refl
+tag-is Settle = refl
+tag-is Close = refl
+tag-is Delete = refl
+tag-is Create = refl
+tag-is Rename = refl
+tag-is Read = refl
+tag-is Write = refl
+
+pub moves-record : (k : Kind) → (tagOf the-type k ≡ 9) ⊎ (tagOf the-type k ≡ 10) → cond (same k Read) true (same k Write) ≡ true
+moves-record k (inl q) = rw (eq-eqb (kindNumber k) 9 (sym (tag-is k) ∙ q))
+moves-record k (inr q) =
+    let w : same k Write ≡ true = eq-eqb (kindNumber k) 10 (sym (tag-is k) ∙ q) in split (bool-cases (same k Read)) (λ t. rw t) (λ f. rw (f, w))

@@ -10,12 +10,6 @@ use Rattle.calls.specs.Apart.{not-same}
 use Rattle.calls.proofs.is_call.Statement.{statement}
 use Rattle.calls.proofs.is_call.Tie as tie
 
-kind-of-requires : tie.Need-kind-of-requires
-kind-of-requires c κs = search needs
-
-enum-told : tie.Need-enum-told
-enum-told c = search needs
-
 returns : tie.Need-returns
 unfolding isCall
 returns c = sym (rw (sym (c .before .before .kind-of .ensures) ∙ c .enum-told .given .1))
@@ -28,4 +22,4 @@ returns-2 c =
     sym (rw (← c .before .kind-of .ensures) (ap not other))
 
 pub is-call-spec : {M : Type 1} → statement M
-is-call-spec = tie.close (tie.spec kind-of-requires enum-told returns returns-2)
+is-call-spec = tie.close (tie.spec (λ c κs. search needs) (λ c. search needs) returns returns-2)

@@ -8,15 +8,6 @@ use Rattle.calls.specs.Apart.{not-same}
 use Rattle.calls.proofs.moves_record.Statement.{statement}
 use Rattle.calls.proofs.moves_record.Tie as tie
 
-kind-of-requires : tie.Need-kind-of-requires
-kind-of-requires c κs = search needs
-
-enum-told : tie.Need-enum-told
-enum-told c = search needs
-
-enum-told-2 : tie.Need-enum-told-2
-enum-told-2 c = search needs
-
 returns : tie.Need-returns
 returns c = sym (rw (sym (c .before .before .kind-of .ensures) ∙ c .enum-told .given .1))
 
@@ -31,4 +22,4 @@ returns-3 c =
     sym (rw (← c .before .kind-of .ensures, reads, writes))
 
 pub moves-record-spec : {M : Type 1} → statement M
-moves-record-spec = tie.close (tie.spec kind-of-requires enum-told enum-told-2 returns returns-2 returns-3)
+moves-record-spec = tie.close (tie.spec (λ c κs. search needs) (λ c. search needs) (λ c. search needs) returns returns-2 returns-3)

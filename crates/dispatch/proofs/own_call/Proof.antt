@@ -3,7 +3,7 @@ use mathlib.Core.Path.{refl, sym, _∙_}
 use Rattle.format.specs.Diskette.{eightInch}
 use Rattle.table.specs.Own.{not-unlisted}
 use Rattle.table.specs.OwnStep.{own-at}
-use Rattle.dispatch.specs.Numbers.{of-kind, left, only, at-number}
+use Rattle.dispatch.specs.Numbers.{of-kind, left, only, at-number, moves-record}
 use Rattle.model.specs.declared.Kind.the-variants.{User, Settle, Close, Delete, Create, Rename}
 use borrow.Author.Needs.{needs}
 use Rattle.dispatch.proofs.own_call.Statement.{statement}
@@ -18,11 +18,18 @@ search-call-requires c κs = let p = c .before .before .before .before .before .
 delete-file-requires : tie.Need-delete-file-requires
 delete-file-requires c κs = let p = c .before .before .before .before .before .before .before .before .before .before .before .pre in let f = p .2 .fits in (f .image-long, f .map-long, f .fcb-long, f .user-low, p .2 .map-right (p .1))
 
-read-call-requires : tie.Need-read-call-requires
-read-call-requires c κs = let p = c .before .before .before .before .before .before .before .before .before .before .before .before .pre in let f = p .2 .fits in (f .image-long, f .map-long, f .fcb-long, f .buffer-long, f .user-low, p .2 .image-right, sym (c .before .before .before .before .before .before .kind-of .ensures) ∙ c .before .before .before .before .enum-told9 .given .1, p .3)
-
-write-call-requires : tie.Need-write-call-requires
-write-call-requires c κs = let p = c .before .before .before .before .before .before .before .before .before .before .before .before .pre in let f = p .2 .fits in (f .image-long, f .map-long, f .fcb-long, f .buffer-long, f .user-low, p .2 .image-right, sym (c .before .before .before .before .before .before .kind-of .ensures) ∙ c .before .before .before .before .enum-told10 .given .1, p .3)
+record-call-requires : tie.Need-record-call-requires
+record-call-requires c κs =
+    let p = c .before .before .before .before .before .before .before .before .before .before .before .pre in let f = p .2 .fits in let k = c .before .before .before .before .before .kind-of in (
+      f .image-long,
+      f .map-long,
+      f .fcb-long,
+      f .buffer-long,
+      f .user-low,
+      p .2 .image-right,
+      rw (← k .ensures) (moves-record (k .result) (c .before .before .before .before .match .keys9)),
+      p .3,
+    )
 
 returns : tie.Need-returns
 returns c = c .before .before .before .before .quiet-call .ensures
@@ -59,13 +66,10 @@ returns-8 c =
     (λ a. c .before .before .rename-file .ensures a _ _)
 
 returns-9 : tie.Need-returns-9
-returns-9 c = c .before .before .before .before .before .before .before .before .read-call .ensures
+returns-9 c = c .before .before .before .before .before .before .before .before .record-call .ensures
 
 returns-10 : tie.Need-returns-10
-returns-10 c = c .before .before .before .before .before .before .write-call .ensures
-
-returns-11 : tie.Need-returns-11
-returns-11 c = not-unlisted _ (c .before .before .before .before .before .before .before .before .before .pre .0) (sym (c .before .before .before .kind-of .ensures) ∙ c .before .enum-told11 .given .1)
+returns-10 c = not-unlisted _ (c .before .before .before .before .before .before .before .before .before .pre .0) (sym (c .before .before .before .kind-of .ensures) ∙ c .before .enum-told9 .given .1)
 
 pub own-call-spec : {M : Type 1} → statement M
 own-call-spec =
@@ -88,10 +92,7 @@ own-call-spec =
     (λ c κs. search needs)
     (λ c. search needs)
     (λ c κs. search needs)
-    (λ c. search needs)
-    read-call-requires
-    (λ c. search needs)
-    write-call-requires
+    record-call-requires
     (λ c. search needs)
     (λ c κs. search needs)
     (λ c. search needs)
@@ -126,9 +127,4 @@ own-call-spec =
     (λ c. search needs)
     (λ c. search needs)
     returns-9
-    (λ c. search needs)
-    (λ c. search needs)
-    (λ c. search needs)
-    (λ c. search needs)
-    returns-10
-    returns-11)
+    returns-10)
