@@ -1,21 +1,10 @@
-// What every call is asked for first: a number that is listed, and lengths and parameters in range.
+// What every call is asked for once its number is listed: lengths and parameters in range.
 ghost use mathlib.Core.Path.{_≡_};
 ghost use Rattle.format.specs.Diskette.{eightInch};
 ghost use Rattle.model.specs.Lent.{lend};
-ghost use Rattle.model.specs.Kinds.{usesFcb};
 ghost use Rattle.model.specs.Table.{lengthsRight, parametersRight};
 use model::Asked;
 use model::Session;
-
-// Whether a call uses the FCB.
-fn uses_fcb(number: u8) -> bool
-    ensures { λ r. ⌜ r ≡ usesFcb number ⌝ }
-{
-    match number {
-        15 | 16 | 17 | 19 | 20 | 21 | 22 | 23 | 33 | 34 | 35 | 36 => true,
-        _ => false,
-    }
-}
 
 // Whether each of the four buffers has its length.
 fn lengths_right(image: &[u8], map: &[u16], fcb: &[u8], buffer: &[u8]) -> bool
@@ -54,7 +43,7 @@ pub fn parameters_right(
     if format::ENTRIES < place {
         return false;
     }
-    if uses_fcb(asked.number) {
+    if calls::uses_fcb(asked.number) {
         return fcb[0] <= 1;
     }
     true

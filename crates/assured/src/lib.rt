@@ -10,7 +10,7 @@ ghost use Rattle.model.specs.Kinds.{kindOf, same};
 ghost use Rattle.model.specs.declared.Kind.the-variants.{Write};
 ghost use Rattle.model.specs.Step.{step};
 ghost use Rattle.table.specs.Own.{ask};
-ghost use Rattle.effects.specs.Book.{ofRecord, acceptedAnswer};
+ghost use Rattle.effects.specs.Book.{acceptedAnswer};
 ghost use Rattle.demands.specs.Runs.{run};
 ghost use Rattle.targets.specs.Target.{TargetOf};
 ghost use Rattle.assured.specs.Script.{request, requests, callsLeft, Ends, diskOf};
@@ -61,29 +61,6 @@ pub fn one_call(
     benzokamuri::benzo_call(asked, image, map, fcb, buffer, session)
 }
 
-// Whether a call writes: 21 and 34.
-fn writes(number: u8) -> bool
-    ensures { λ r. ⌜ r ≡ same (kindOf number) Write ⌝ }
-{
-    if number == 21 {
-        return true;
-    }
-    number == 34
-}
-
-// Whether a call moves a record: 20 and 33, and those that write.
-fn moves_record(number: u8) -> bool
-    ensures { λ r. ⌜ r ≡ ofRecord (kindOf number) ⌝ }
-{
-    if number == 20 {
-        return true;
-    }
-    if number == 33 {
-        return true;
-    }
-    writes(number)
-}
-
 // Whether an answer to a call says that it was accepted.
 fn accepted(number: u8, answer: Answer) -> bool
     ensures { λ r. ⌜ r ≡ acceptedAnswer number answer ⌝ }
@@ -91,7 +68,7 @@ fn accepted(number: u8, answer: Answer) -> bool
     if answer.h != 0 {
         return false;
     }
-    if moves_record(number) {
+    if calls::moves_record(number) {
         return answer.a == 0;
     }
     answer.a != 255
@@ -101,7 +78,7 @@ fn accepted(number: u8, answer: Answer) -> bool
 fn wrote(number: u8, answer: Answer) -> bool
     ensures { λ r. ⌜ r ≡ writesAnswer number answer ⌝ }
 {
-    if writes(number) {
+    if calls::writes(number) {
         return accepted(number, answer);
     }
     false

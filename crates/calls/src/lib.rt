@@ -1,59 +1,95 @@
-// The calls as code tells them apart: a digit for the kind of each number, as `model`'s list has it.
+// The calls as code tells them apart: `model`'s list once more, line by line.
 ghost use mathlib.Core.Path.{_≡_};
-ghost use Prim.Native.Nat.{_+_};
-ghost use Rattle.model.specs.Kinds.{kindOf, kindNumber, isCall};
+ghost use mathlib.Core.Bool.{true, cond};
+ghost use Rattle.model.specs.declared.Kind.the-variants.{Read, Write};
+ghost use Rattle.model.specs.Kinds.{kindOf, usesFcb, isRandom, isCall, same};
 use model::Kind;
 
-// The kind of a number as a digit: 0 is no call.
-fn digit_of(number: u8) -> u8
-    ensures { λ r. ⌜ r ≡ 48 + kindNumber (kindOf number) ⌝ }
+// The kind of a number; one that is not there is of no call.
+pub fn kind_of(number: u8) -> Kind
+    ensures { λ r. ⌜ r ≡ kindOf number ⌝ }
 {
-    let kinds =
-        b"000000000000040152269:780000000039:11000000000100000000000000000000000000000000000000000000000000040000000000000000000000000000000000000000000000000000000000000000000000000000000000000000000000000000000000000000000000000000000000000000000000000000000000000";
-    kinds[number as usize]
+    match number {
+        13 => Kind::Settle,
+        15 => Kind::Quiet,
+        16 => Kind::Close,
+        17 => Kind::Search,
+        18 => Kind::Search,
+        19 => Kind::Delete,
+        20 => Kind::Read,
+        21 => Kind::Write,
+        22 => Kind::Create,
+        23 => Kind::Rename,
+        32 => Kind::User,
+        33 => Kind::Read,
+        34 => Kind::Write,
+        35 => Kind::Quiet,
+        36 => Kind::Quiet,
+        46 => Kind::Quiet,
+        98 => Kind::Settle,
+        _ => Kind::Unlisted,
+    }
 }
 
 // Whether there is a call of this number.
 pub fn is_call(number: u8) -> bool
     ensures { λ r. ⌜ r ≡ isCall number ⌝ }
 {
-    digit_of(number) != 48
+    match kind_of(number) {
+        Kind::Unlisted => false,
+        _ => true,
+    }
 }
 
-// The kind of a number.
-pub fn kind_of(number: u8) -> Kind
-    ensures { λ r. ⌜ r ≡ kindOf number ⌝ }
+// Whether a call uses the FCB.
+pub fn uses_fcb(number: u8) -> bool
+    ensures { λ r. ⌜ r ≡ usesFcb number ⌝ }
 {
-    let d = digit_of(number);
-    if d < 49 {
-        return Kind::Unlisted;
+    match number {
+        15 => true,
+        16 => true,
+        17 => true,
+        19 => true,
+        20 => true,
+        21 => true,
+        22 => true,
+        23 => true,
+        33 => true,
+        34 => true,
+        35 => true,
+        36 => true,
+        _ => false,
     }
-    if d < 50 {
-        return Kind::Quiet;
+}
+
+// Whether a call goes by the random record.
+pub fn is_random(number: u8) -> bool
+    ensures { λ r. ⌜ r ≡ isRandom number ⌝ }
+{
+    match number {
+        33 => true,
+        34 => true,
+        _ => false,
     }
-    if d < 51 {
-        return Kind::Search;
+}
+
+// Whether a call moves a record.
+pub fn moves_record(number: u8) -> bool
+    ensures { λ r. ⌜ r ≡ cond (same (kindOf number) Read) true (same (kindOf number) Write) ⌝ }
+{
+    match kind_of(number) {
+        Kind::Read => true,
+        Kind::Write => true,
+        _ => false,
     }
-    if d < 52 {
-        return Kind::User;
+}
+
+// Whether it writes one.
+pub fn writes(number: u8) -> bool
+    ensures { λ r. ⌜ r ≡ same (kindOf number) Write ⌝ }
+{
+    match kind_of(number) {
+        Kind::Write => true,
+        _ => false,
     }
-    if d < 53 {
-        return Kind::Settle;
-    }
-    if d < 54 {
-        return Kind::Close;
-    }
-    if d < 55 {
-        return Kind::Delete;
-    }
-    if d < 56 {
-        return Kind::Create;
-    }
-    if d < 57 {
-        return Kind::Rename;
-    }
-    if d < 58 {
-        return Kind::Read;
-    }
-    Kind::Write
 }

@@ -1,33 +1,67 @@
--- A kind of one call has one number; of the numbers of another kind the last is left.
-use mathlib.Core.Path.{_≡_, refl}
+-- A call's number is one of those that the list of calls has of its kind. Those that a test has ruled out are struck off, until one is left.
+use mathlib.Core.Path.{_≡_, refl, sym, _∙_}
+use mathlib.Core.Logic.{_⊎_, inl, inr}
+use mathlib.Core.Bool.{true, false, cond}
+use mathlib.Core.List.{List, [], _∷_}
 use Prim.Native.Nat.{ℕ}
-use Rattle.model.specs.declared.Kind.the-variants.{Quiet, Search, User, Settle, Close, Delete, Create, Rename}
-use Rattle.model.specs.Kinds.{kindOf}
+use denote.Enum.Declared.{tagOf}
+use borrow.Author.Tests.{eq-eqb}
+use Rattle.lists.specs.Cases.{split, bool-cases}
+use Rattle.format.specs.Diskette.{eightInch}
+use Rattle.model.specs.declared.Asked.{Asked}
+use Rattle.model.specs.declared.Session.{Session}
+use Rattle.model.specs.declared.Kind.{Kind}
+use Rattle.model.specs.declared.Kind.the-variants.{Unlisted, Quiet, Search, User, Settle, Close, Delete, Create, Rename, Read, Write}
+use Rattle.model.proofs.Kind.{the-type}
+use Rattle.model.specs.Kinds.{Listed, calls, kindOf, kindNumber, same, numbersIn}
+use Rattle.model.specs.Lent.{Lent, Outcome}
 use Rattle.table.specs.First.{_&_}
-use Rattle.table.specs.Own.{at-kind}
+use Rattle.table.specs.Own.{AtEach, at-kind, calling}
+use Rattle.table.specs.OwnStep.{ownStep, own-at}
 
-pub only-user : (n : ℕ) → kindOf n ≡ User → n ≡ 32
-only-user n = at-kind (λ (m : ℕ). m ≡ 32) User n refl (refl & tt)
+pub data Among : ℕ → List ℕ → Type 0 where
+  first : {n : ℕ} {cs : List ℕ} → Among n (n ∷ cs)
+  later : {n c : ℕ} {cs : List ℕ} → Among n cs → Among n (c ∷ cs)
 
-pub only-close : (n : ℕ) → kindOf n ≡ Close → n ≡ 16
-only-close n = at-kind (λ (m : ℕ). m ≡ 16) Close n refl (refl & tt)
+-- the numbers of a kind
+abbrev pub numbersOf : Kind → List ℕ
+numbersOf k = numbersIn (λ (c : Listed). same (c .kind) k) calls
 
-pub only-delete : (n : ℕ) → kindOf n ≡ Delete → n ≡ 19
-only-delete n = at-kind (λ (m : ℕ). m ≡ 19) Delete n refl (refl & tt)
+each : (P : ℕ → Type 0) (cs : List ℕ) → ((n : ℕ) → Among n cs → P n) → AtEach P cs
+each P [] f = tt
+each P (c ∷ cs) f = f c first & each P cs (λ n x. f n (later x))
 
-pub only-create : (n : ℕ) → kindOf n ≡ Create → n ≡ 22
-only-create n = at-kind (λ (m : ℕ). m ≡ 22) Create n refl (refl & tt)
+pub of-kind : (k : Kind) (n : ℕ) → same Unlisted k ≡ false → kindOf n ≡ k → Among n (numbersOf k)
+of-kind k n listed = at-kind (λ (m : ℕ). Among m (numbersOf k)) k n listed (each (λ (m : ℕ). Among m (numbersOf k)) (numbersOf k) (λ m x. x))
 
-pub only-rename : (n : ℕ) → kindOf n ≡ Rename → n ≡ 23
-only-rename n = at-kind (λ (m : ℕ). m ≡ 23) Rename n refl (refl & tt)
+pub left : {n c : ℕ} {cs : List ℕ} → Among n (c ∷ cs) → (n ≡ c → ⊥) → Among n cs
+left first other = absurd (other refl)
+left (later x) other = x
 
-pub only-free : (n : ℕ) → kindOf n ≡ Settle → (n ≡ 13 → ⊥) → n ≡ 98
-only-free n = at-kind (λ (m : ℕ). (m ≡ 13 → ⊥) → m ≡ 98) Settle n refl ((λ h. absurd (h refl)) & (λ h. refl) & tt)
+pub only : {n c : ℕ} → Among n (c ∷ []) → n ≡ c
+only first = refl
+only (later x) = elim x [ ]
 
-pub last-search : (n : ℕ) → kindOf n ≡ Search → (n ≡ 17 → ⊥) → n ≡ 18
-last-search n = at-kind (λ (m : ℕ). (m ≡ 17 → ⊥) → m ≡ 18) Search n refl ((λ h. absurd (h refl)) & (λ h. refl) & tt)
+-- what a call's own function promises, whatever else is asked, is what is asked where the number is the call's
+pub at-number : {o : Outcome} {n : ℕ} (asked : Asked) (l : Lent) (s : Session) → asked .number ≡ n → ((a : Asked) → o ≡ ownStep eightInch (calling n a) l s)
+    → o ≡ ownStep eightInch asked l s
+at-number {o} {n} asked l s q h = h asked ∙ own-at eightInch asked l s n q
 
-pub last-quiet : (n : ℕ) → kindOf n ≡ Quiet → (n ≡ 15 → ⊥) → (n ≡ 35 → ⊥) → (n ≡ 36 → ⊥) → n ≡ 46
-last-quiet n =
-    at-kind (λ (m : ℕ). (m ≡ 15 → ⊥) → (m ≡ 35 → ⊥) → (m ≡ 36 → ⊥) → m ≡ 46) Quiet n refl
-    ((λ a b c. absurd (a refl)) & (λ a b c. absurd (b refl)) & (λ a b c. absurd (c refl)) & (λ a b c. refl) & tt)
+-- ---- an arm of several kinds goes by the place of each in the enum, which is its number
+tag-is : (k : Kind) → tagOf the-type k ≡ kindNumber k
+tag-is Unlisted = refl
+tag-is Quiet = refl
+tag-is Search = refl
+tag-is User = refl
+tag-is Settle = refl
+tag-is Close = refl
+tag-is Delete = refl
+tag-is Create = refl
+tag-is Rename = refl
+tag-is Read = refl
+tag-is Write = refl
+
+pub moves-record : (k : Kind) → (tagOf the-type k ≡ 9) ⊎ (tagOf the-type k ≡ 10) → cond (same k Read) true (same k Write) ≡ true
+moves-record k (inl q) = rw (eq-eqb (kindNumber k) 9 (sym (tag-is k) ∙ q))
+moves-record k (inr q) =
+    let w : same k Write ≡ true = eq-eqb (kindNumber k) 10 (sym (tag-is k) ∙ q) in split (bool-cases (same k Read)) (λ t. rw t) (λ f. rw (f, w))

@@ -1,7 +1,6 @@
 // The way from a call's number to the call's own function, once the first three rows of the table have passed it.
 ghost use mathlib.Core.Path.{_≡_};
 ghost use mathlib.Core.Bool.{true};
-ghost use Prim.Native.Nat.{ℕ};
 ghost use Rattle.format.specs.Diskette.{eightInch};
 ghost use Rattle.format.specs.Entries.{entryAt};
 ghost use Rattle.model.specs.Kinds.{kindOf, isCall};
@@ -90,8 +89,9 @@ pub fn own_call(
         Kind::Delete => families::delete_file(image, map, fcb, session),
         Kind::Create => files::make_file(image, fcb, session, chain),
         Kind::Rename => families::rename_file(image, fcb, session),
-        Kind::Read => records::read_call(asked, image, map, fcb, buffer, session, chain),
-        Kind::Write => records::write_call(asked, image, map, fcb, buffer, session, chain),
+        Kind::Read | Kind::Write => {
+            records::record_call(asked, image, map, fcb, buffer, session, chain)
+        }
         Kind::Unlisted => answers::refuse(Code::NotListed, session),
     }
 }

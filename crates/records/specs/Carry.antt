@@ -1,12 +1,12 @@
 -- A plan carried out: the FCB comes to the target's extent, and the record is read or written there. The plan matters to the first
 -- half alone, and the kind of call to the second.
 use mathlib.Core.Path.{_≡_, refl, sym, ap, _∙_}
-use mathlib.Core.Bool.{true}
+use mathlib.Core.Bool.{Bool, true, false, cond}
 use Prim.Native.Nat.{ℕ, _<_}
 use native.Mathlib.Omega.{arith}
 use lib.ListN.{length}
 use Rattle.format.specs.Diskette.{Bytes, Geometry, Sound, Long, entryBytes}
-use Rattle.format.specs.Entries.{entryAt, extentOf}
+use Rattle.format.specs.Entries.{entryAt, extentOf, slotFor}
 use Rattle.format.specs.Fcb.{fcbBytes}
 use Rattle.facts.specs.Long.{long-on}
 use Rattle.rows.specs.Entries.{length-entryAt, entry-stored}
@@ -23,17 +23,18 @@ use Rattle.model.specs.declared.Code.the-variants.{Accepted}
 use Rattle.model.specs.declared.Plan.{Plan}
 use Rattle.model.specs.declared.Plan.the-variants.{Stay, Move, Make}
 use Rattle.model.specs.Lent.{Lent, answerOf, ended}
-use Rattle.model.specs.Target.{targetRecord, targetSlot, crAfter, moved, made, haveRead, haveWritten, targetExtent}
-use Rattle.model.specs.Kinds.{kindOf}
+use Rattle.model.specs.Target.{targetSlot, moved, made, haveRead, haveWritten, targetExtent}
+use Rattle.model.specs.Kinds.{kindOf, same}
 use Rattle.model.specs.declared.Kind.the-variants.{Read, Write}
-use Rattle.model.specs.Calls.{readAt, reading, writtenAt, writing}
+use Rattle.model.specs.Calls.{done, readAt, reading, writtenAt, writing}
 use Rattle.model.specs.Step.{refusedSession}
-use Rattle.table.specs.Own.{calling}
 use Rattle.table.specs.OwnStep.{ownStep}
+use Rattle.targets.specs.declared.Target.{Target}
+use Rattle.targets.specs.Target.{TargetOf}
 use Rattle.rulings.specs.declared.Ruling.the-variants.{Refuse, Follow}
-use Rattle.rulings.specs.Ruling.{readRuling, writeRuling}
+use Rattle.rulings.specs.Ruling.{ruling}
 use Rattle.rulings.specs.Bounds.{OnDisk, OwnExtent}
-use Rattle.rulings.specs.Own.{own-read, own-write}
+use Rattle.rulings.specs.Own.{own-record}
 
 -- the buffers once the FCB has come to the target's extent, ext
 abbrev pub arrived : Geometry → ℕ → Lent → Plan → Lent
@@ -52,16 +53,10 @@ blockOf (Stay e b) = b
 blockOf (Move e t b) = b
 blockOf (Make e t b) = b
 
-module _ (G : Geometry) (s : Session) (l : Lent) (n : ℕ) where
-  pub reading-by : (p : Plan) → reading G s l n p ≡ readAt G s l n (blockOf p) (arrived G (targetExtent n (l .fcb)) l p)
-  reading-by (Stay e b) = refl
-  reading-by (Move e t b) = refl
-  reading-by (Make e t b) = refl
-
-  pub writing-by : (p : Plan) → writing G s l n p ≡ writtenAt G s l n (entryOf p) (blockOf p) (arrived G (targetExtent n (l .fcb)) l p)
-  writing-by (Stay e b) = refl
-  writing-by (Move e t b) = refl
-  writing-by (Make e t b) = refl
+-- the record t written or read, with the FCB come there
+abbrev pub transferred : Geometry → Bool → Plan → Target → Lent → Lent
+transferred G true p t l = haveWritten G (entryOf p) (slotFor G (t .extent) (t .at)) (blockOf p) (t .at) (t .after) l
+transferred G false p t l = haveRead G (blockOf p) (t .at) (t .after) l
 
 -- the target's entry and block are the disk's
 pub entry-on-disk : (G : Geometry) (p : Plan) → OnDisk G p → entryOf p < G .entries
@@ -94,27 +89,33 @@ arrived-own {G} S ext l (Make e t b) long hf w own =
     extent-entered (l .fcb) next ext (omega arith) (omega arith) ∙ sym (extent-next row ext whole)
     ∙ ap extentOf (sym (entry-stored S shut kept t (w .1) next full))
 
--- ---- the calls: refused with nothing changed, or the plan carried out
-module _ (G : Geometry) (asked : Asked) (l : Lent) (s : Session) (r : Answer) where
-  module _ (which : kindOf (asked .number) ≡ Read) where
-    pub read-refused : (code : Code) → readRuling G (asked .number) (s .user) l ≡ Refuse code → r ≡ answerOf code (refusedSession code s)
-        → record { answer = r; lent = l } ≡ ownStep G asked l s
-    read-refused code q h = rw (own-read G asked l s which, q, h)
+-- ---- what a plan has a record call do: arrive, then read or write
+module _ (G : Geometry) (s : Session) (l : Lent) (n : ℕ) where
+  reading-by : (p : Plan) → reading G s l n p ≡ readAt G s l n (blockOf p) (arrived G (targetExtent n (l .fcb)) l p)
+  reading-by (Stay e b) = refl
+  reading-by (Move e t b) = refl
+  reading-by (Make e t b) = refl
 
-    pub read-carried : (p : Plan) (left : Lent) → readRuling G (asked .number) (s .user) l ≡ Follow p → r ≡ answerOf (Accepted 0) (ended s)
-        → left ≡ haveRead G (blockOf p) (targetRecord (asked .number) (l .fcb)) (crAfter (asked .number) (l .fcb)) (arrived G (targetExtent (asked .number) (l .fcb)) l p)
-        → record { answer = r; lent = left } ≡ ownStep G asked l s
-    unfolding readAt
-    read-carried p left q h k = rw (own-read G asked l s which, q, reading-by G s l (asked .number) p, h, k)
+  writing-by : (p : Plan) → writing G s l n p ≡ writtenAt G s l n (entryOf p) (blockOf p) (arrived G (targetExtent n (l .fcb)) l p)
+  writing-by (Stay e b) = refl
+  writing-by (Move e t b) = refl
+  writing-by (Make e t b) = refl
 
-  module _ (which : kindOf (asked .number) ≡ Write) where
-    pub write-refused : (code : Code) → writeRuling G (asked .number) (s .user) l ≡ Refuse code → r ≡ answerOf code (refusedSession code s)
-        → record { answer = r; lent = l } ≡ ownStep G asked l s
-    write-refused code q h = rw (own-write G asked l s which, q, h)
+  following-by : (p : Plan) (t : Target) → TargetOf n (l .fcb) t → (w : Bool)
+      → cond w (writing G s l n p) (reading G s l n p) ≡ done 0 s (transferred G w p t (arrived G (t .extent) l p))
+  unfolding writtenAt readAt targetSlot
+  following-by p t is true = writing-by p ∙ sym (rw (is .extent, is .at, is .after))
+  following-by p t is false = reading-by p ∙ sym (rw (is .extent, is .at, is .after))
 
-    pub write-carried : (p : Plan) (left : Lent) → writeRuling G (asked .number) (s .user) l ≡ Follow p → r ≡ answerOf (Accepted 0) (ended s)
-        → left ≡ haveWritten G (entryOf p) (targetSlot G (asked .number) (l .fcb)) (blockOf p) (targetRecord (asked .number) (l .fcb)) (crAfter (asked .number) (l .fcb))
-        (arrived G (targetExtent (asked .number) (l .fcb)) l p)
-        → record { answer = r; lent = left } ≡ ownStep G asked l s
-    unfolding writtenAt
-    write-carried p left q h k = rw (own-write G asked l s which, q, writing-by G s l (asked .number) p, h, k)
+-- ---- a record call: refused with nothing changed, or the plan carried out
+module _ (G : Geometry) (asked : Asked) (l : Lent) (s : Session) (r : Answer)
+    (which : cond (same (kindOf (asked .number)) Read) true (same (kindOf (asked .number)) Write) ≡ true) where
+  pub record-refused : (code : Code) → ruling G (asked .number) (s .user) l ≡ Refuse code → r ≡ answerOf code (refusedSession code s)
+      → record { answer = r; lent = l } ≡ ownStep G asked l s
+  record-refused code q h = rw (own-record G asked l s which, q, h)
+
+  pub record-carried : (p : Plan) (t : Target) (left : Lent) → ruling G (asked .number) (s .user) l ≡ Follow p → TargetOf (asked .number) (l .fcb) t
+      → r ≡ answerOf (Accepted 0) (ended s) → left ≡ transferred G (same (kindOf (asked .number)) Write) p t (arrived G (t .extent) l p)
+      → record { answer = r; lent = left } ≡ ownStep G asked l s
+  record-carried p t left q is h k =
+      rw (own-record G asked l s which, q, following-by G s l (asked .number) p t is (same (kindOf (asked .number)) Write), h, k)

@@ -1,21 +1,21 @@
 // The record calls carried out: the FCB comes to the target's extent, and a record is read or written there.
 ghost use mathlib.Core.Path.{_≡_};
-ghost use mathlib.Core.Bool.{true};
-ghost use Prim.Native.Nat.{ℕ, _≤_, _<_};
+ghost use mathlib.Core.Bool.{true, cond};
+ghost use Prim.Native.Nat.{_≤_, _<_};
 ghost use lib.ListN.{length};
 ghost use Rattle.format.specs.Diskette.{Bytes, eightInch, imageBytes, recordBytes, extents, extentRecords};
-ghost use Rattle.format.specs.Entries.{entryAt, extentOf, slotFor};
+ghost use Rattle.format.specs.Entries.{entryAt, extentOf};
 ghost use Rattle.format.specs.Consistent.{consistent};
 ghost use Rattle.format.specs.Fcb.{fcbBytes};
 ghost use Rattle.model.specs.Lent.{lend, outcome};
 ghost use Rattle.model.specs.Closing.{closedImage};
-ghost use Rattle.model.specs.Target.{moved, made, haveRead, haveWritten};
-ghost use Rattle.model.specs.Kinds.{kindOf};
+ghost use Rattle.model.specs.Target.{moved, made};
+ghost use Rattle.model.specs.Kinds.{kindOf, same};
 ghost use Rattle.model.specs.declared.Kind.the-variants.{Read, Write};
 ghost use Rattle.chains.specs.Chain.{Indexed};
 ghost use Rattle.table.specs.OwnStep.{ownStep};
 ghost use Rattle.rulings.specs.Bounds.{OnDisk, OwnExtent};
-ghost use Rattle.records.specs.Carry.{arrived, entryOf, blockOf};
+ghost use Rattle.records.specs.Carry.{arrived, entryOf, blockOf, transferred};
 use model::Answer;
 use model::Asked;
 use model::Plan;
@@ -83,8 +83,9 @@ fn block_of(plan: Plan) -> usize
     }
 }
 
-// A plan of 20 or 33 followed.
-fn follow_read(
+// The record read or written, with the FCB come to the target's extent.
+fn transfer(
+    number: u8,
     image: &mut [u8],
     map: &mut [u16],
     fcb: &mut [u8],
@@ -92,50 +93,54 @@ fn follow_read(
     plan: Plan,
     target: Target,
 )
-    requires { ⌜ (length (now image) ≡ imageBytes eightInch) × (length (now fcb) ≡ fcbBytes) × (length (now buffer) ≡ recordBytes)
-        × (target .extent < extents) × (target .after ≤ extentRecords) × OnDisk eightInch plan
-        × OwnExtent eightInch (now image) (now fcb) (target .extent) plan ⌝ }
+    requires { ⌜ (length (now image) ≡ imageBytes eightInch) × (length (now map) ≡ eightInch .blocks) × (length (now fcb) ≡ fcbBytes)
+        × (length (now buffer) ≡ recordBytes) × (target .at < extentRecords) × (target .after ≤ extentRecords) × OnDisk eightInch plan
+        × (extentOf (now fcb) ≡ extentOf (entryAt eightInch (now image) (entryOf plan))) ⌝ }
     ensures { λ _. ⌜ lend (now (image .exit)) (now (map .exit)) (now (fcb .exit)) (now (buffer .exit))
-        ≡ haveRead eightInch (blockOf plan) (target .at) (target .after)
-        (arrived eightInch (target .extent) (lend (now (image .entry)) (now (map .entry)) (now (fcb .entry)) (now (buffer .entry))) plan) ⌝ }
+        ≡ transferred eightInch (same (kindOf number) Write) plan target (lend (now (image .entry)) (now (map .entry)) (now (fcb .entry)) (now (buffer .entry))) ⌝ }
 {
-    arrive(image, map, fcb, plan, target.extent);
-    transfers::read_at(image, fcb, buffer, block_of(plan), target.at, target.after);
+    let b = block_of(plan);
+    if calls::writes(number) {
+        let j = entries::slot_for(target.extent, target.at);
+        transfers::write_at(
+            image,
+            map,
+            fcb,
+            buffer,
+            entry_of(plan),
+            j,
+            b,
+            target.at,
+            target.after,
+        );
+        return;
+    }
+    transfers::read_at(image, fcb, buffer, b, target.at, target.after);
 }
 
-// A plan of 21 or 34 followed.
-fn follow_write(
+// A plan followed.
+fn follow(
+    number: u8,
     image: &mut [u8],
     map: &mut [u16],
     fcb: &mut [u8],
-    buffer: &[u8],
+    buffer: &mut [u8],
     plan: Plan,
     target: Target,
 )
     requires { ⌜ (length (now image) ≡ imageBytes eightInch) × (length (now map) ≡ eightInch .blocks) × (length (now fcb) ≡ fcbBytes)
         × (length (now buffer) ≡ recordBytes) × (target .extent < extents) × (target .at < extentRecords) × (target .after ≤ extentRecords)
         × OnDisk eightInch plan × OwnExtent eightInch (now image) (now fcb) (target .extent) plan ⌝ }
-    ensures { λ _. ⌜ lend (now (image .exit)) (now (map .exit)) (now (fcb .exit)) (now (buffer .entry))
-        ≡ haveWritten eightInch (entryOf plan) (slotFor eightInch (target .extent) (target .at)) (blockOf plan) (target .at) (target .after)
+    ensures { λ _. ⌜ lend (now (image .exit)) (now (map .exit)) (now (fcb .exit)) (now (buffer .exit))
+        ≡ transferred eightInch (same (kindOf number) Write) plan target
         (arrived eightInch (target .extent) (lend (now (image .entry)) (now (map .entry)) (now (fcb .entry)) (now (buffer .entry))) plan) ⌝ }
 {
     arrive(image, map, fcb, plan, target.extent);
-    let j = entries::slot_for(target.extent, target.at);
-    transfers::write_at(
-        image,
-        map,
-        fcb,
-        buffer,
-        entry_of(plan),
-        j,
-        block_of(plan),
-        target.at,
-        target.after,
-    );
+    transfer(number, image, map, fcb, buffer, plan, target);
 }
 
-// Calls 20 and 33, once the disk and the parameters are known to be right.
-pub fn read_call(
+// The record calls, once the disk and the parameters are known to be right.
+pub fn record_call(
     asked: Asked,
     image: &mut [u8],
     map: &mut [u16],
@@ -146,43 +151,17 @@ pub fn read_call(
 ) -> Answer
     requires { ⌜ (length (now image) ≡ imageBytes eightInch) × (length (now map) ≡ eightInch .blocks) × (length (now fcb) ≡ fcbBytes)
         × (length (now buffer) ≡ recordBytes) × (session .user ≤ 15) × (consistent eightInch (now image) ≡ true)
-        × (kindOf (asked .number) ≡ Read) × Indexed eightInch (entryAt eightInch (now image)) (now chain) ⌝ }
+        × (cond (same (kindOf (asked .number)) Read) true (same (kindOf (asked .number)) Write) ≡ true)
+        × Indexed eightInch (entryAt eightInch (now image)) (now chain) ⌝ }
     ensures { λ r. ⌜ outcome r (now (image .exit)) (now (map .exit)) (now (fcb .exit)) (now (buffer .exit))
         ≡ ownStep eightInch asked (lend (now (image .entry)) (now (map .entry)) (now (fcb .entry)) (now (buffer .entry))) session ⌝ }
 {
     let number = asked.number;
     let target = targets::target_of(number, fcb);
-    match rulings::rule_read(number, target, image, map, chain, fcb, session.user) {
+    match rulings::rule(number, target, image, map, chain, fcb, session.user) {
         Ruling::Refuse(code) => answers::refuse(code, session),
         Ruling::Follow(plan) => {
-            follow_read(image, map, fcb, buffer, plan, target);
-            answers::done(0, session)
-        }
-    }
-}
-
-// Calls 21 and 34, once the disk and the parameters are known to be right.
-pub fn write_call(
-    asked: Asked,
-    image: &mut [u8],
-    map: &mut [u16],
-    fcb: &mut [u8],
-    buffer: &[u8],
-    session: Session,
-    chain: &[u8],
-) -> Answer
-    requires { ⌜ (length (now image) ≡ imageBytes eightInch) × (length (now map) ≡ eightInch .blocks) × (length (now fcb) ≡ fcbBytes)
-        × (length (now buffer) ≡ recordBytes) × (session .user ≤ 15) × (consistent eightInch (now image) ≡ true)
-        × (kindOf (asked .number) ≡ Write) × Indexed eightInch (entryAt eightInch (now image)) (now chain) ⌝ }
-    ensures { λ r. ⌜ outcome r (now (image .exit)) (now (map .exit)) (now (fcb .exit)) (now (buffer .entry))
-        ≡ ownStep eightInch asked (lend (now (image .entry)) (now (map .entry)) (now (fcb .entry)) (now (buffer .entry))) session ⌝ }
-{
-    let number = asked.number;
-    let target = targets::target_of(number, fcb);
-    match rulings::rule_write(number, target, image, map, chain, fcb, session.user) {
-        Ruling::Refuse(code) => answers::refuse(code, session),
-        Ruling::Follow(plan) => {
-            follow_write(image, map, fcb, buffer, plan, target);
+            follow(number, image, map, fcb, buffer, plan, target);
             answers::done(0, session)
         }
     }

@@ -20,6 +20,8 @@ use Rattle.model.specs.declared.Plan.{Plan}
 use Rattle.model.specs.declared.Plan.the-variants.{Stay, Move, Make}
 use Rattle.model.specs.Lent.{Lent, rowsOf}
 use Rattle.model.specs.Target.{targetExtent, targetRecord, targetSlot, crAfter, presentEntry, stays, within, targetEntry, blockThere, plan}
+use Rattle.model.specs.declared.Kind.the-variants.{Write}
+use Rattle.model.specs.Kinds.{kindOf, same}
 use Rattle.model.specs.Table.{firstRow}
 use Rattle.consistency.specs.Reflect.{image-facts}
 use Rattle.notes.specs.Numbers.{pending-block}
@@ -33,13 +35,13 @@ use Rattle.consistency.specs.Naming.{file-used}
 use Rattle.model.specs.Closing.{closedImage}
 use Rattle.fields.specs.Images.{row-closedImage-other}
 use Rattle.fields.specs.Target.{record-below, crAfter-high, targetSlot-below}
-use Rattle.table.specs.First.{passed-none}
+use Rattle.table.specs.First.{NoneHolds, passed-none}
 use Rattle.table.specs.Present.{file-extent-below}
 use Rattle.table.specs.Facts.{Reads, Writes}
 use Rattle.table.specs.Reflect.{found, either-found}
 use Rattle.table.specs.Plans.{Block, there, free, There, Planned, stay, move, make, planned-read, planned-write}
 use Rattle.rulings.specs.declared.Ruling.the-variants.{Follow}
-use Rattle.rulings.specs.Ruling.{rulingOf, readRows, writeRows, readRuling, writeRuling}
+use Rattle.rulings.specs.Ruling.{rulingOf, readRows, writeRows, rulingRows, ruling}
 
 -- ---- the entries and the block of a plan
 abbrev pub OnDisk : Geometry → Plan → Type 0
@@ -149,7 +151,7 @@ module _ {G : Geometry} (S : Sound G) (single : (x : ℕ) → runOf G x ≡ x) (
       (file-says G (rowsOf G l) (s .user) (l .fcb) 1 ext t target .below) other) ∙ own
   plan-own B p (make e t b at y target room x) = tt
 
-  -- ---- the two rulings
+  -- ---- the ruling
   sure : (B : ℕ → Type 0) → ((e : ℕ) → presentEntry G (s .user) l ≡ At e → (b : ℕ) → B b → b < G .blocks)
       → Planned G n (s .user) l B (plan G n (s .user) l) → FoundAt (presentEntry G (s .user) l) → targetExtent n (l .fcb) < extents
       → (p : Plan) → plan G n (s .user) l ≡ p → Sure G n (l .drive .image) (l .fcb) p
@@ -161,29 +163,33 @@ module _ {G : Geometry} (S : Sound G) (single : (x : ℕ) → runOf G x ≡ x) (
     after = after-low (entry .place) (entry .is);
   }
 
-  pub read-sure : (p : Plan) → readRuling G n (s .user) l ≡ Follow p → Sure G n (l .drive .image) (l .fcb) p
-  unfolding readRuling readRows targetEntry
-  read-sure p h =
-      let v : Verdict = firstRow (readRows G n (s .user) l) in
-      let none = passed-none (readRows G n (s .user) l) (follow-passed v (plan G n (s .user) l) p h) in
-      let entry = found _ (none .1 .0) in
-      let target = found _ (none .1 .1 .0) in
-      let below = file-extent-below G (l .drive .image) (s .user) (l .fcb) 1 (targetExtent n (l .fcb)) (target .place) right low (target .is) in
-      let reads : Reads G l s n = record { entry = entry; target = target; extent = below; there = not-false _ (none .1 .1 .1 .0) } in
-      sure (There G n (s .user) l) there-block (planned-read G n l s reads) entry below p (follow-plan v (plan G n (s .user) l) p h)
+  module _ (p : Plan) (is : plan G n (s .user) l ≡ p) (entry : FoundAt (presentEntry G (s .user) l)) where
+    read-sure : NoneHolds (readRows G n (s .user) l) → Sure G n (l .drive .image) (l .fcb) p
+    unfolding readRows targetEntry
+    read-sure none =
+        let target = found _ (none .0) in
+        let below = file-extent-below G (l .drive .image) (s .user) (l .fcb) 1 (targetExtent n (l .fcb)) (target .place) right low (target .is) in
+        let reads : Reads G l s n = record { entry = entry; target = target; extent = below; there = not-false _ (none .1 .0) } in
+        sure (There G n (s .user) l) there-block (planned-read G n l s reads) entry below p is
 
-  pub write-sure : (p : Plan) → writeRuling G n (s .user) l ≡ Follow p → Sure G n (l .drive .image) (l .fcb) p
-  unfolding writeRuling writeRows
-  write-sure p h =
-      let v : Verdict = firstRow (writeRows G n (s .user) l) in
-      let none = passed-none (writeRows G n (s .user) l) (follow-passed v (plan G n (s .user) l) p h) in
+    write-sure : NoneHolds (writeRows G n (s .user) l) → Sure G n (l .drive .image) (l .fcb) p
+    unfolding writeRows
+    write-sure none =
+        let below = leb-false _ _ (none .1 .0) in
+        let writes : Writes G l s n = record {
+          entry = entry;
+          writable = none .0;
+          extent = below;
+          room = either-found _ _ (none .1 .1 .0);
+          block = λ z. found _ (second-fails _ _ (none .1 .1 .1 .0) (eq-eqb _ _ z));
+        } in
+        sure (Block G n (s .user) l) some-block (planned-write G n l s writes) entry below p is
+
+  pub ruling-sure : (p : Plan) → ruling G n (s .user) l ≡ Follow p → Sure G n (l .drive .image) (l .fcb) p
+  unfolding ruling rulingRows
+  ruling-sure p h =
+      let v : Verdict = firstRow (rulingRows G n (s .user) l) in
+      let none = passed-none (rulingRows G n (s .user) l) (follow-passed v (plan G n (s .user) l) p h) in
+      let is = follow-plan v (plan G n (s .user) l) p h in
       let entry = found _ (none .1 .0) in
-      let below = leb-false _ _ (none .1 .1 .1 .0) in
-      let writes : Writes G l s n = record {
-        entry = entry;
-        writable = none .1 .1 .0;
-        extent = below;
-        room = either-found _ _ (none .1 .1 .1 .1 .0);
-        block = λ z. found _ (second-fails _ _ (none .1 .1 .1 .1 .1 .0) (eq-eqb _ _ z));
-      } in
-      sure (Block G n (s .user) l) some-block (planned-write G n l s writes) entry below p (follow-plan v (plan G n (s .user) l) p h)
+      split (bool-cases (same (kindOf n) Write)) (λ w. write-sure p is entry (rw w at (none .1 .1))) (λ w. read-sure p is entry (rw w at (none .1 .1)))

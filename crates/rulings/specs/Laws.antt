@@ -8,9 +8,10 @@ use borrow.Author.Tests.{eq-eqb, ne-eqb, lt-ltb, le-ltb, not-true}
 use Rattle.lists.specs.Cases.{split, bool-cases, not-both}
 use Rattle.lists.specs.Tests.{and-right, and-fails-left, and-fails-right, and-both, or-left, or-then}
 use Rattle.format.specs.Diskette.{Bytes, Geometry, extents}
-use Rattle.format.specs.Entries.{Rows, runOf, covers, readOnly, findEmpty}
+use Rattle.format.specs.Entries.{Rows, runOf, readOnly, findEmpty}
 use Rattle.format.specs.Notes.{findFree}
 use Rattle.format.specs.Fcb.{current}
+use Rattle.format.specs.Found.{isFound}
 use Rattle.facts.specs.Found.{found-cases, found-row, missed-row}
 use Rattle.facts.specs.Find.{found-own}
 use Rattle.facts.specs.Counts.{count-there, fcb-count-there}
@@ -22,18 +23,21 @@ use Rattle.model.specs.declared.Plan.{Plan}
 use Rattle.model.specs.declared.Plan.the-variants.{Make}
 use Rattle.model.specs.Lent.{Lent, rowsOf}
 use Rattle.model.specs.Target.{targetExtent, targetRecord, targetSlot, presentEntry, stays, within, targetEntry, blockThere, countThere, recordThere, targetBlock, readOnlyIn, readOnlyThere, planFrom, plan}
-use Rattle.model.specs.Table.{Row, firstRow}
+use Rattle.model.specs.declared.Verdict.{Verdict}
+use Rattle.model.specs.declared.Kind.the-variants.{Write}
+use Rattle.model.specs.Kinds.{kindOf, same}
+use Rattle.model.specs.Table.{Row, when, firstRow}
 use Rattle.facts.specs.Current.{current-says}
 use Rattle.current.specs.Current.{fcb-says}
 use Rattle.fields.specs.Target.{record-below}
 use Rattle.fields.specs.OneExtent.{within-extent, within-stays}
-use Rattle.table.specs.First.{_&_, NoneHolds, Decides, here, later, none-passed, decides-refused}
+use Rattle.table.specs.First.{_&_, NoneHolds, Decides, here, later, first-passes, none-passed, decides-refused}
 use Rattle.table.specs.Present.{stays-within, same-entry, other-entry, make-beyond, make-block}
 use Rattle.rulings.specs.declared.Ruling.{Ruling}
 use Rattle.rulings.specs.declared.Ruling.the-variants.{Refuse, Follow}
 use Rattle.targets.specs.declared.Target.{Target}
 use Rattle.targets.specs.Target.{TargetOf, overLast, missingCode, arrivedSlot, arrivedCount, goTo}
-use Rattle.rulings.specs.Ruling.{rulingOf, readRows, writeRows, readRuling, writeRuling, readTo, guarded, blockFor, withBlock, writeNew, writeTo}
+use Rattle.rulings.specs.Ruling.{rulingOf, readRows, writeRows, rulingRows, ruling, readTo, readFrom, guarded, blockFor, withBlock, writeNew, writeTo, writeFrom}
 
 -- ---- the ruling of a list of rows
 refuses : (c : Code) (rows : List Row) (p : Plan) → Decides c rows → rulingOf (firstRow rows) p ≡ Refuse c
@@ -88,103 +92,109 @@ module _ (G : Geometry) (n user : ℕ) (l : Lent) where
   unfolding targetBlock
   block-free b z q = rw (z, q)
 
+-- ---- the rows that the four calls share
+module _ (G : Geometry) (n user : ℕ) (l : Lent) where
+  pub rule-over : overLast n (targetExtent n (l .fcb)) ≡ true → ruling G n user l ≡ Refuse BadRecord
+  unfolding ruling rulingRows
+  rule-over h = refuses BadRecord _ _ (here h refl)
+
+  module _ (in-range : overLast n (targetExtent n (l .fcb)) ≡ false) where
+    pub rule-stale : presentEntry G user l ≡ Nothing → ruling G n user l ≡ Refuse NotCurrent
+    unfolding ruling rulingRows
+    rule-stale q = refuses NotCurrent _ _ (later in-range (here (missed-row _ q) refl))
+
+    -- past them, those of a read or of a write decide
+    past : (e : ℕ) → presentEntry G user l ≡ At e → (w : Bool) → same (kindOf n) Write ≡ w
+        → ruling G n user l ≡ rulingOf (firstRow (cond w (writeRows G n user l) (readRows G n user l))) (plan G n user l)
+    unfolding ruling rulingRows
+    past e at w q =
+        ap (λ (v : Verdict). rulingOf v (plan G n user l))
+        (first-passes (when (overLast n (targetExtent n (l .fcb))) BadRecord) _ in-range
+        ∙ first-passes (when (not (isFound (presentEntry G user l))) NotCurrent) _ (found-row _ at)
+        ∙ ap (λ (b : Bool). firstRow (cond b (writeRows G n user l) (readRows G n user l))) q)
+
 -- ---- 20 and 33
-module _ (G : Geometry) (n user : ℕ) (l : Lent) where
-  pub read-over : overLast n (targetExtent n (l .fcb)) ≡ true → readRuling G n user l ≡ Refuse BadRecord
-  unfolding readRuling readRows
-  read-over h = refuses BadRecord _ _ (here h refl)
+module _ (G : Geometry) (n user : ℕ) (l : Lent) (e : ℕ) (at : presentEntry G user l ≡ At e) (single : (x : ℕ) → runOf G x ≡ x) where
+  abbrev read-told : Ruling
+  read-told = rulingOf (firstRow (readRows G n user l)) (plan G n user l)
 
-  module _ (in-range : overLast n (targetExtent n (l .fcb)) ≡ false) where
-    pub read-stale : presentEntry G user l ≡ Nothing → readRuling G n user l ≡ Refuse NotCurrent
-    unfolding readRuling readRows
-    read-stale q = refuses NotCurrent _ _ (later in-range (here (missed-row _ q) refl))
+  read-missing : targetEntry G n user l ≡ Nothing → read-told ≡ Refuse (missingCode n NoExtent)
+  unfolding readRows
+  read-missing q = refuses (missingCode n NoExtent) _ _ (here (missed-row _ q) refl)
 
-    module _ (e : ℕ) (at : presentEntry G user l ≡ At e) where
-      pub read-missing : targetEntry G n user l ≡ Nothing → readRuling G n user l ≡ Refuse (missingCode n NoExtent)
-      unfolding readRuling readRows
-      read-missing q =
-          refuses (missingCode n NoExtent) _ _
-          (later in-range (later (found-row _ at) (here (missed-row _ q) refl)))
+  read-found : (t : ℕ) → targetEntry G n user l ≡ At t → read-told ≡ readTo G (rowsOf G l) (l .fcb) e t (targetSlot G n (l .fcb)) (targetRecord n (l .fcb))
+  unfolding readRows readTo recordThere
+  read-found t q =
+      let chosen : Bool → Ruling = λ (x : Bool). cond x (Follow (goTo e t (blockThere G n user l))) (Refuse NoRecord) in
+      rw (← block-by G n user l e at t q, ← count-by G n user l e at t q single)
+      (split (bool-cases (recordThere G n user l))
+      (λ y. follows _ _ _ (found-row _ q & ap not y & tt)
+      (plan-by G n user l e at t q single (blockThere G n user l) (block-there G n user l (not-true _ (and-right _ _ y)))) ∙ sym (ap chosen y))
+      (λ f. refuses NoRecord _ _ (later (found-row _ q) (here (ap not f) refl)) ∙ sym (ap chosen f)))
 
-      pub read-found : ((x : ℕ) → runOf G x ≡ x) → (t : ℕ) → targetEntry G n user l ≡ At t
-          → readRuling G n user l ≡ readTo G (rowsOf G l) (l .fcb) e t (targetSlot G n (l .fcb)) (targetRecord n (l .fcb))
-      unfolding readRuling readRows readTo recordThere
-      read-found single t q =
-          let chosen : Bool → Ruling = λ (x : Bool). cond x (Follow (goTo e t (blockThere G n user l))) (Refuse NoRecord) in
-          rw (← block-by G n user l e at t q, ← count-by G n user l e at t q single)
-          (split (bool-cases (recordThere G n user l))
-          (λ y. follows _ _ _ (in-range & found-row _ at & found-row _ q & ap not y & tt)
-          (plan-by G n user l e at t q single (blockThere G n user l) (block-there G n user l (not-true _ (and-right _ _ y)))) ∙ sym (ap chosen y))
-          (λ f. refuses NoRecord _ _ (later in-range (later (found-row _ at) (later (found-row _ q) (here (ap not f) refl)))) ∙ sym (ap chosen f)))
+  pub rule-read : overLast n (targetExtent n (l .fcb)) ≡ false → same (kindOf n) Write ≡ false
+      → ruling G n user l ≡ readFrom G (rowsOf G l) (l .fcb) n e (targetSlot G n (l .fcb)) (targetRecord n (l .fcb)) (targetEntry G n user l)
+  rule-read in-range w = past G n user l in-range e at false w ∙ found-cases (targetEntry G n user l) (λ t q. read-found t q ∙ rw q) (λ q. read-missing q ∙ rw q)
 
--- ---- 21 and 34
-module _ (G : Geometry) (n user : ℕ) (l : Lent) where
-  pub write-over : overLast n (targetExtent n (l .fcb)) ≡ true → writeRuling G n user l ≡ Refuse BadRecord
-  unfolding writeRuling writeRows
-  write-over h = refuses BadRecord _ _ (here h refl)
+  -- ---- 21 and 34
+  abbrev write-told : Ruling
+  write-told = rulingOf (firstRow (writeRows G n user l)) (plan G n user l)
 
-  module _ (in-range : overLast n (targetExtent n (l .fcb)) ≡ false) where
-    pub write-stale : presentEntry G user l ≡ Nothing → writeRuling G n user l ≡ Refuse NotCurrent
-    unfolding writeRuling writeRows
-    write-stale q = refuses NotCurrent _ _ (later in-range (here (missed-row _ q) refl))
+  guarded-is : readOnlyThere G n user l ≡ guarded (rowsOf G l) e (targetEntry G n user l)
+  unfolding readOnlyThere guarded
+  guarded-is = rw at (found-cases (targetEntry G n user l) (λ t q. rw q) (λ q. rw q))
 
-    module _ (e : ℕ) (at : presentEntry G user l ≡ At e) where
-      guarded-is : readOnlyThere G n user l ≡ guarded (rowsOf G l) e (targetEntry G n user l)
-      unfolding readOnlyThere guarded
-      guarded-is = rw at (found-cases (targetEntry G n user l) (λ t q. rw q) (λ q. rw q))
+  write-guarded : readOnlyThere G n user l ≡ true → write-told ≡ Refuse ReadOnly
+  unfolding writeRows
+  write-guarded h = refuses ReadOnly _ _ (here h refl)
 
-      pub write-guarded : guarded (rowsOf G l) e (targetEntry G n user l) ≡ true → writeRuling G n user l ≡ Refuse ReadOnly
-      unfolding writeRuling writeRows
-      write-guarded h =
-          refuses ReadOnly _ _ (later in-range (later (found-row _ at) (here (guarded-is ∙ h) refl)))
+  module _ (writable : readOnlyThere G n user l ≡ false) where
+    write-past : leb extents (targetExtent n (l .fcb)) ≡ true → write-told ≡ Refuse NoRecord
+    unfolding writeRows
+    write-past h = refuses NoRecord _ _ (later writable (here h refl))
 
-      module _ (writable : guarded (rowsOf G l) e (targetEntry G n user l) ≡ false) where
-        pub write-past : leb extents (targetExtent n (l .fcb)) ≡ true → writeRuling G n user l ≡ Refuse NoRecord
-        unfolding writeRuling writeRows
-        write-past h =
-            refuses NoRecord _ _
-            (later in-range (later (found-row _ at) (later (guarded-is ∙ writable) (here h refl))))
+    module _ (below : leb extents (targetExtent n (l .fcb)) ≡ false) where
+      -- the rows that are left are those of the entry and of the block
+      write-there : (t : ℕ) → targetEntry G n user l ≡ At t
+          → write-told ≡ withBlock (goTo e t) (blockFor G (l .drive .map) (arrivedSlot G (rowsOf G l) (l .fcb) e t (targetSlot G n (l .fcb))))
+      unfolding writeRows blockFor
+      write-there t q =
+          let block : Found → Ruling = withBlock (goTo e t) in
+          rw (← block-by G n user l e at t q)
+          (split (bool-cases (eqb (blockThere G n user l) 0))
+          (λ z. let want : blockFor G (l .drive .map) (blockThere G n user l) ≡ findFree G (l .drive .map) = rw z in
+          found-cases (findFree G (l .drive .map))
+          (λ b f. follows _ _ _ (writable & below & and-fails-left _ _ (found-row _ q) & and-fails-right _ _ (found-row _ f) & tt)
+          (plan-by G n user l e at t q single b (block-free G n user l b z f)) ∙ sym (ap block (want ∙ f)))
+          (λ f. refuses DiskFull _ _
+          (later writable (later below (later (and-fails-left _ _ (found-row _ q)) (here (and-both _ _ z (missed-row _ f)) refl)))) ∙ sym (ap block (want ∙ f))))
+          (λ z. let kept : blockFor G (l .drive .map) (blockThere G n user l) ≡ At (blockThere G n user l) = rw z in
+          follows _ _ _ (writable & below & and-fails-left _ _ (found-row _ q) & and-fails-left _ _ z & tt)
+          (plan-by G n user l e at t q single (blockThere G n user l) (block-there G n user l z)) ∙ sym (ap block kept)))
 
-        module _ (below : leb extents (targetExtent n (l .fcb)) ≡ false) (single : (x : ℕ) → runOf G x ≡ x) where
-          -- the rows that are left are those of the entry and of the block
-          write-there : (t : ℕ) → targetEntry G n user l ≡ At t
-              → writeRuling G n user l ≡ withBlock (goTo e t) (blockFor G (l .drive .map) (arrivedSlot G (rowsOf G l) (l .fcb) e t (targetSlot G n (l .fcb))))
-          unfolding writeRuling writeRows blockFor
-          write-there t q =
-              let block : Found → Ruling = withBlock (goTo e t) in
-              rw (← block-by G n user l e at t q)
-              (split (bool-cases (eqb (blockThere G n user l) 0))
-              (λ z. let want : blockFor G (l .drive .map) (blockThere G n user l) ≡ findFree G (l .drive .map) = rw z in
-              found-cases (findFree G (l .drive .map))
-              (λ b f. follows _ _ _
-              (in-range & found-row _ at & (guarded-is ∙ writable) & below & and-fails-left _ _ (found-row _ q) & and-fails-right _ _ (found-row _ f) & tt)
-              (plan-by G n user l e at t q single b (block-free G n user l b z f)) ∙ sym (ap block (want ∙ f)))
-              (λ f. refuses DiskFull _ _
-              (later in-range (later (found-row _ at) (later (guarded-is ∙ writable) (later below (later (and-fails-left _ _ (found-row _ q))
-              (here (and-both _ _ z (missed-row _ f)) refl)))))) ∙ sym (ap block (want ∙ f))))
-              (λ z. let kept : blockFor G (l .drive .map) (blockThere G n user l) ≡ At (blockThere G n user l) = rw z in
-              follows _ _ _
-              (in-range & found-row _ at & (guarded-is ∙ writable) & below & and-fails-left _ _ (found-row _ q) & and-fails-left _ _ z & tt)
-              (plan-by G n user l e at t q single (blockThere G n user l) (block-there G n user l z)) ∙ sym (ap block kept)))
+      write-made : targetEntry G n user l ≡ Nothing → write-told ≡ writeNew G (rowsOf G l) (l .drive .map) (missingCode n NoEntry) e
+      unfolding writeRows writeNew
+      write-made q =
+          let z : eqb (blockThere G n user l) 0 ≡ true = eq-eqb _ _ (make-block G n user l e at q) in
+          found-cases (findEmpty G (rowsOf G l))
+          (λ t m. found-cases (findFree G (l .drive .map))
+          (λ b f. follows _ _ _ (writable & below & and-fails-right _ _ (found-row _ m) & and-fails-right _ _ (found-row _ f) & tt)
+          (plan-new G n user l e at t b q m (block-free G n user l b z f)) ∙ sym (rw (m, f)))
+          (λ f. refuses DiskFull _ _
+          (later writable (later below (later (and-fails-right _ _ (found-row _ m)) (here (and-both _ _ z (missed-row _ f)) refl)))) ∙ sym (rw (m, f))))
+          (λ m. refuses (missingCode n NoEntry) _ _ (later writable (later below (here (and-both _ _ (missed-row _ q) (missed-row _ m)) refl))) ∙ sym (rw m))
 
-          write-made : targetEntry G n user l ≡ Nothing → writeRuling G n user l ≡ writeNew G (rowsOf G l) (l .drive .map) (missingCode n NoEntry) e
-          unfolding writeRuling writeRows writeNew
-          write-made q =
-              let z : eqb (blockThere G n user l) 0 ≡ true = eq-eqb _ _ (make-block G n user l e at q) in
-              found-cases (findEmpty G (rowsOf G l))
-              (λ t m. found-cases (findFree G (l .drive .map))
-              (λ b f. follows _ _ _
-              (in-range & found-row _ at & (guarded-is ∙ writable) & below & and-fails-right _ _ (found-row _ m) & and-fails-right _ _ (found-row _ f) & tt)
-              (plan-new G n user l e at t b q m (block-free G n user l b z f)) ∙ sym (rw (m, f)))
-              (λ f. refuses DiskFull _ _
-              (later in-range (later (found-row _ at) (later (guarded-is ∙ writable) (later below (later (and-fails-right _ _ (found-row _ m))
-              (here (and-both _ _ z (missed-row _ f)) refl)))))) ∙ sym (rw (m, f))))
-              (λ m. refuses (missingCode n NoEntry) _ _
-              (later in-range (later (found-row _ at) (later (guarded-is ∙ writable) (later below (here (and-both _ _ (missed-row _ q) (missed-row _ m)) refl))))) ∙ sym (rw m))
+      write-found : write-told ≡ writeTo G (rowsOf G l) (l .drive .map) (l .fcb) (missingCode n NoEntry) e (targetSlot G n (l .fcb)) (targetEntry G n user l)
+      write-found = found-cases (targetEntry G n user l) (λ t q. write-there t q ∙ rw q) (λ q. write-made q ∙ rw q)
 
-          pub write-found : writeRuling G n user l
-              ≡ writeTo G (rowsOf G l) (l .drive .map) (l .fcb) (missingCode n NoEntry) e (targetSlot G n (l .fcb)) (targetEntry G n user l)
-          write-found = found-cases (targetEntry G n user l) (λ t q. write-there t q ∙ rw q) (λ q. write-made q ∙ rw q)
+  pub rule-write : overLast n (targetExtent n (l .fcb)) ≡ false → same (kindOf n) Write ≡ true
+      → ruling G n user l
+      ≡ writeFrom G (rowsOf G l) (l .drive .map) (l .fcb) n e (targetSlot G n (l .fcb)) (targetExtent n (l .fcb)) (targetEntry G n user l)
+  unfolding writeFrom
+  rule-write in-range w =
+      past G n user l in-range e at true w ∙ rw (← guarded-is)
+      (split (bool-cases (readOnlyThere G n user l)) (λ g. write-guarded g ∙ sym (rw g))
+      (λ g. split (bool-cases (leb extents (targetExtent n (l .fcb)))) (λ b. write-past g b ∙ sym (rw (g, b))) (λ b. write-found g b ∙ sym (rw (g, b)))))
 
 -- ---- what code needs of the FCB's entry before it goes on
 -- the target's record is one of an extent's

@@ -1,4 +1,4 @@
--- A record call's own step goes by its ruling: the rows of 20 and 33, and those of 21 and 34, decide as one chain each.
+-- A record call's own step goes by its ruling: the rows of the four calls decide as the one chain does.
 use mathlib.Core.Path.{_≡_, refl, sym, _∙_}
 use mathlib.Core.Bool.{Bool, true, false, not, cond}
 use mathlib.Core.List.{List, [], _∷_, _++_}
@@ -6,8 +6,8 @@ use Prim.Native.Nat.{ℕ, _/_}
 use native.Mathlib.Omega.{arith}
 use lib.Dec.{ltb}
 use borrow.Author.Tests.{le-leb, lt-leb, lt-ltb, le-ltb, not-false}
-use Rattle.lists.specs.Cases.{split, lt-or-le, clash}
-use Rattle.lists.specs.Tests.{_or_, and-fails-left, and-fails-right, and-then}
+use Rattle.lists.specs.Cases.{split, bool-cases, lt-or-le, clash}
+use Rattle.lists.specs.Tests.{and-fails-left, and-fails-right, and-then}
 use Rattle.format.specs.Diskette.{Bytes, Geometry, extentRecords, extents, lastRecord}
 use Rattle.format.specs.Fcb.{randomOf}
 use Rattle.facts.specs.Found.{is-found, found-so}
@@ -20,15 +20,13 @@ use Rattle.model.specs.declared.Verdict.the-variants.{Passed, Refused}
 use Rattle.model.specs.declared.Plan.{Plan}
 use Rattle.model.specs.Lent.{Lent, Outcome}
 use Rattle.model.specs.Target.{targetExtent, plan}
-use Rattle.model.specs.Kinds.{kindOf, isRandom}
+use Rattle.model.specs.Kinds.{kindOf, isRandom, same}
 use Rattle.model.specs.declared.Kind.the-variants.{Read, Write}
 use Rattle.model.specs.Table.{Row, when, firstRow, ownRows}
 use Rattle.model.specs.Calls.{reading, read, writing, written}
 use Rattle.model.specs.Step.{refused, carriedOut, effect}
 use Rattle.table.specs.First.{_&_, NoneHolds}
-use Rattle.table.specs.Own.{calling, at-kind}
-use Rattle.table.specs.OwnStep.{ownStep}
-use Rattle.table.specs.Own.{calling, at-kind}
+use Rattle.table.specs.Own.{calling, same-is, at-kind}
 use Rattle.table.specs.OwnStep.{ownStep}
 use Rattle.fields.specs.Target.{extent-random}
 use Rattle.table.specs.Accept.{random-below}
@@ -36,7 +34,7 @@ use Rattle.table.specs.Present.{there-target}
 use Rattle.rulings.specs.declared.Ruling.{Ruling}
 use Rattle.rulings.specs.declared.Ruling.the-variants.{Refuse, Follow}
 use Rattle.targets.specs.Target.{overLast, missingCode}
-use Rattle.rulings.specs.Ruling.{rulingOf, readRows, writeRows, readRuling, writeRuling}
+use Rattle.rulings.specs.Ruling.{rulingOf, readRows, writeRows, rulingRows, ruling}
 
 -- a record over 262,143 is of an extent over 2,047
 over-random : (n : ℕ) (fcb : Bytes) → isRandom n ≡ true → overLast n (targetExtent n fcb) ≡ ltb lastRecord (randomOf fcb)
@@ -74,25 +72,25 @@ same-code (x ∷ front) rs t r code h = past-row (x .holds) _ _ _ (λ f. same-co
 
 module _ (G : Geometry) (asked : Asked) (l : Lent) (s : Session) where
   -- ---- the rows: an FCB that is current can be closed, so that the row of code 3 may go; a record that is there has an entry
-  rows-20 : firstRow (ownRows G (calling 20 asked) l s) ≡ firstRow (readRows G 20 (s .user) l)
-  unfolding readRows missingCode isRandom
+  rows-20 : firstRow (ownRows G (calling 20 asked) l s) ≡ firstRow (rulingRows G 20 (s .user) l)
+  unfolding rulingRows readRows missingCode kindOf isRandom
   rows-20 =
       gone (_ ∷ []) _ _ NotClosed (λ h. and-fails-right _ _ (h .0))
       ∙ same-code (_ ∷ []) _ _ _ NoRecord (λ h r. found-so _ (there-target G 20 (s .user) l (is-found _ (not-false _ (h .0))) r))
       ∙ sym (gone [] _ _ BadRecord (λ h. over-sequential 20 _ refl))
 
-  rows-33 : firstRow (ownRows G (calling 33 asked) l s) ≡ firstRow (readRows G 33 (s .user) l)
-  unfolding readRows missingCode isRandom
+  rows-33 : firstRow (ownRows G (calling 33 asked) l s) ≡ firstRow (rulingRows G 33 (s .user) l)
+  unfolding rulingRows readRows missingCode kindOf isRandom
   rows-33 = rw (over-random 33 (l .fcb) refl) (gone (_ ∷ _ ∷ []) _ _ NotClosed (λ h. and-fails-right _ _ (h .1 .0)))
 
-  rows-21 : firstRow (ownRows G (calling 21 asked) l s) ≡ firstRow (writeRows G 21 (s .user) l)
-  unfolding writeRows missingCode isRandom
+  rows-21 : firstRow (ownRows G (calling 21 asked) l s) ≡ firstRow (rulingRows G 21 (s .user) l)
+  unfolding rulingRows writeRows missingCode kindOf isRandom
   rows-21 =
       gone (_ ∷ _ ∷ []) _ _ NotClosed (λ h. and-fails-right _ _ (h .0))
       ∙ sym (gone [] _ _ BadRecord (λ h. over-sequential 21 _ refl))
 
-  rows-34 : firstRow (ownRows G (calling 34 asked) l s) ≡ firstRow (writeRows G 34 (s .user) l)
-  unfolding writeRows missingCode isRandom
+  rows-34 : firstRow (ownRows G (calling 34 asked) l s) ≡ firstRow (rulingRows G 34 (s .user) l)
+  unfolding rulingRows writeRows missingCode kindOf isRandom
   rows-34 =
       rw (over-random 34 (l .fcb) refl)
       (gone (_ ∷ _ ∷ _ ∷ []) _ _ NotClosed (λ h. and-fails-right _ _ (h .1 .0))
@@ -109,22 +107,22 @@ module _ (G : Geometry) (asked : Asked) (l : Lent) (s : Session) where
   by-verdict n Passed follow h = h
   by-verdict n (Refused code) follow h = refl
 
+  -- what a plan has a record call do
+  abbrev pub following : ℕ → Plan → Outcome
+  following n p = cond (same (kindOf n) Write) (writing G s l n p) (reading G s l n p)
+
   -- rows that decide as the call's own do give its ruling
-  by-rows : (n : ℕ) (rows : List Row) (follow : Plan → Outcome) → firstRow (ownRows G (calling n asked) l s) ≡ firstRow rows
-      → effect G (calling n asked) l s ≡ follow (plan G n (s .user) l)
-      → ownStep G (calling n asked) l s ≡ ruled follow (rulingOf (firstRow rows) (plan G n (s .user) l))
-  unfolding ownStep
-  by-rows n rows follow r e = rw r (by-verdict n (firstRow rows) follow e)
+  by-rows : (n : ℕ) → firstRow (ownRows G (calling n asked) l s) ≡ firstRow (rulingRows G n (s .user) l)
+      → effect G (calling n asked) l s ≡ following n (plan G n (s .user) l)
+      → ownStep G (calling n asked) l s ≡ ruled (following n) (ruling G n (s .user) l)
+  unfolding ownStep ruling
+  by-rows n r e = rw r (by-verdict n (firstRow (rulingRows G n (s .user) l)) (following n) e)
 
-  -- ---- the numbers that have a chain in common
-  pub own-read : kindOf (asked .number) ≡ Read → ownStep G asked l s ≡ ruled (reading G s l (asked .number)) (readRuling G (asked .number) (s .user) l)
-  unfolding read readRuling effect kindOf
-  own-read =
-      at-kind (λ (m : ℕ). ownStep G (calling m asked) l s ≡ ruled (reading G s l m) (readRuling G m (s .user) l)) Read (asked .number) refl
-      (by-rows 20 _ (reading G s l 20) rows-20 refl & by-rows 33 _ (reading G s l 33) rows-33 refl & tt)
-
-  pub own-write : kindOf (asked .number) ≡ Write → ownStep G asked l s ≡ ruled (writing G s l (asked .number)) (writeRuling G (asked .number) (s .user) l)
-  unfolding written writeRuling effect kindOf
-  own-write =
-      at-kind (λ (m : ℕ). ownStep G (calling m asked) l s ≡ ruled (writing G s l m) (writeRuling G m (s .user) l)) Write (asked .number) refl
-      (by-rows 21 _ (writing G s l 21) rows-21 refl & by-rows 34 _ (writing G s l 34) rows-34 refl & tt)
+  pub own-record : cond (same (kindOf (asked .number)) Read) true (same (kindOf (asked .number)) Write) ≡ true
+      → ownStep G asked l s ≡ ruled (following (asked .number)) (ruling G (asked .number) (s .user) l)
+  unfolding read written effect kindOf
+  own-record h =
+      let P : ℕ → Type 0 = λ (m : ℕ). ownStep G (calling m asked) l s ≡ ruled (following m) (ruling G m (s .user) l) in
+      split (bool-cases (same (kindOf (asked .number)) Read))
+      (λ t. at-kind P Read (asked .number) refl (by-rows 20 rows-20 refl & by-rows 33 rows-33 refl & tt) (same-is _ _ t))
+      (λ f. at-kind P Write (asked .number) refl (by-rows 21 rows-21 refl & by-rows 34 rows-34 refl & tt) (same-is (kindOf (asked .number)) Write (rw f at h)))

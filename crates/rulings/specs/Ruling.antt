@@ -1,5 +1,6 @@
 -- What the state says of a record call that the first three rows of the table have passed: refused with a code, or a plan to follow.
--- 20 and 33 have one chain of rows, 21 and 34 another: the number decides only where document 01's table tells them apart.
+-- The four calls have one chain of rows, whose end goes by whether the call writes: the number decides only where document 01's table tells
+-- them apart.
 use mathlib.Core.Path.{_≡_}
 use mathlib.Core.Bool.{Bool, not, cond}
 use mathlib.Core.List.{List, [], _∷_}
@@ -18,6 +19,8 @@ use Rattle.model.specs.declared.Verdict.{Verdict}
 use Rattle.model.specs.declared.Verdict.the-variants.{Passed, Refused}
 use Rattle.model.specs.declared.Plan.{Plan}
 use Rattle.model.specs.declared.Plan.the-variants.{Make}
+use Rattle.model.specs.declared.Kind.the-variants.{Write}
+use Rattle.model.specs.Kinds.{kindOf, same}
 use Rattle.model.specs.Lent.{Lent, rowsOf}
 use Rattle.model.specs.Target.{targetExtent, presentEntry, targetEntry, blockThere, recordThere, readOnlyThere, plan, readOnlyIn}
 use Rattle.model.specs.Table.{Row, when, firstRow}
@@ -31,31 +34,27 @@ rulingOf Passed p = Follow p
 rulingOf (Refused code) p = Refuse code
 
 module _ (G : Geometry) (n user : ℕ) (l : Lent) where
-  -- the rows of 20 and 33
+  -- the rows of 20 and 33 where the FCB is current
   unfoldable pub readRows : List Row
-  readRows =
-      when (overLast n (targetExtent n (l .fcb))) BadRecord
-      ∷ when (not (isFound (presentEntry G user l))) NotCurrent
-      ∷ when (not (isFound (targetEntry G n user l))) (missingCode n NoExtent)
-      ∷ when (not (recordThere G n user l)) NoRecord
-      ∷ []
+  readRows = when (not (isFound (targetEntry G n user l))) (missingCode n NoExtent) ∷ when (not (recordThere G n user l)) NoRecord ∷ []
 
-  -- the rows of 21 and 34
+  -- those of 21 and 34
   unfoldable pub writeRows : List Row
   writeRows =
-      when (overLast n (targetExtent n (l .fcb))) BadRecord
-      ∷ when (not (isFound (presentEntry G user l))) NotCurrent
-      ∷ when (readOnlyThere G n user l) ReadOnly
+      when (readOnlyThere G n user l) ReadOnly
       ∷ when (leb extents (targetExtent n (l .fcb))) NoRecord
       ∷ when (not (isFound (targetEntry G n user l)) and not (isFound (findEmpty G (rowsOf G l)))) (missingCode n NoEntry)
       ∷ when (eqb (blockThere G n user l) 0 and not (isFound (findFree G (l .drive .map)))) DiskFull
       ∷ []
 
-  unfoldable pub readRuling : Ruling
-  readRuling = rulingOf (firstRow readRows) (plan G n user l)
+  unfoldable pub rulingRows : List Row
+  rulingRows =
+      when (overLast n (targetExtent n (l .fcb))) BadRecord
+      ∷ when (not (isFound (presentEntry G user l))) NotCurrent
+      ∷ cond (same (kindOf n) Write) writeRows readRows
 
-  unfoldable pub writeRuling : Ruling
-  writeRuling = rulingOf (firstRow writeRows) (plan G n user l)
+  unfoldable pub ruling : Ruling
+  ruling = rulingOf (firstRow rulingRows) (plan G n user l)
 
 -- ---- the ruling once the FCB's entry is known: e
 -- reading record r of the extent, in slot j
@@ -63,6 +62,10 @@ unfoldable pub readTo : Geometry → Rows → Bytes → ℕ → ℕ → ℕ → 
 readTo G d fcb e t j r =
     cond (ltb r (arrivedCount d fcb e t) and not (eqb (arrivedSlot G d fcb e t j) 0)) (Follow (goTo e t (arrivedSlot G d fcb e t j)))
     (Refuse NoRecord)
+
+abbrev pub readFrom : Geometry → Rows → Bytes → ℕ → ℕ → ℕ → ℕ → Found → Ruling
+readFrom G d fcb n e j r (At t) = readTo G d fcb e t j r
+readFrom G d fcb n e j r Nothing = Refuse (missingCode n NoExtent)
 
 -- a look-up's answer, where it has found something, is below n
 abbrev pub Among : ℕ → Found → Type 0
@@ -92,3 +95,9 @@ writeNew G d map code e = madeAt G map code e (findEmpty G d)
 abbrev pub writeTo : Geometry → Rows → Bytes → Bytes → Code → ℕ → ℕ → Found → Ruling
 writeTo G d map fcb code e j (At t) = withBlock (goTo e t) (blockFor G map (arrivedSlot G d fcb e t j))
 writeTo G d map fcb code e j Nothing = writeNew G d map code e
+
+-- and what is asked before that: both entries writable, and an extent below 2,048
+unfoldable pub writeFrom : Geometry → Rows → Bytes → Bytes → ℕ → ℕ → ℕ → ℕ → Found → Ruling
+writeFrom G d map fcb n e j ext target =
+    cond (guarded d e target) (Refuse ReadOnly)
+    (cond (leb extents ext) (Refuse NoRecord) (writeTo G d map fcb (missingCode n NoEntry) e j target))

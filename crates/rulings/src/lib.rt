@@ -8,7 +8,7 @@ ghost use Rattle.format.specs.Fcb.{fcbBytes};
 ghost use Rattle.model.specs.Lent.{lend};
 ghost use Rattle.chains.specs.Chain.{Indexed};
 ghost use Rattle.targets.specs.Target.{TargetOf};
-ghost use Rattle.rulings.specs.Ruling.{readTo, Among, guarded, blockFor, writeNew, writeTo, readRuling, writeRuling};
+ghost use Rattle.rulings.specs.Ruling.{readTo, readFrom, Among, guarded, blockFor, writeNew, writeTo, writeFrom, ruling};
 use format::Found;
 use model::Code;
 use model::Plan;
@@ -35,32 +35,22 @@ fn read_to(image: &[u8], fcb: &[u8], e: usize, t: usize, j: usize, r: usize) -> 
     Ruling::Follow(targets::go_to(e, t, lists::wide(slot)))
 }
 
-// What 20 and 33 are told.
-pub fn rule_read(
+// What a read is told once the FCB's entry e is known, and the target's as it was looked up.
+fn rule_read(
     number: u8,
-    target: Target,
+    at: usize,
     image: &[u8],
-    map: &[u16],
-    chain: &[u8],
     fcb: &[u8],
-    user: u8,
+    e: usize,
+    j: usize,
+    target: Found,
 ) -> Ruling
-    requires { ⌜ (length (now image) ≡ imageBytes eightInch) × (length (now fcb) ≡ fcbBytes) × TargetOf number (now fcb) target
-        × (user ≤ 15) × Indexed eightInch (entryAt eightInch (now image)) (now chain) ⌝ }
-    ensures { λ r. ⌜ ((buffer : Bytes) → r ≡ readRuling eightInch number user (lend (now (image .entry)) (now (map .entry)) (now (fcb .entry)) buffer)) ⌝ }
+    requires { ⌜ (length (now image) ≡ imageBytes eightInch) × (length (now fcb) ≡ fcbBytes) × (j < slotCount) × Among (eightInch .entries) target ⌝ }
+    ensures { λ r. ⌜ r ≡ readFrom eightInch (entryAt eightInch (now (image .entry))) (now (fcb .entry)) number e j at target ⌝ }
 {
-    let extent = target.extent;
-    let at = target.at;
-    if targets::over_last(number, extent) {
-        return Ruling::Refuse(Code::BadRecord);
-    }
-    let Found::At(e) = current::current_entry(image, map, chain, user, fcb) else {
-        return Ruling::Refuse(Code::NotCurrent);
-    };
-    let Found::At(t) = targets::target_entry(image, chain, user, fcb, e, extent) else {
+    let Found::At(t) = target else {
         return Ruling::Refuse(targets::missing(number, Code::NoExtent));
     };
-    let j = entries::slot_for(extent, at);
     read_to(image, fcb, e, t, j, at)
 }
 
@@ -126,8 +116,33 @@ fn write_to(
     Ruling::Follow(targets::go_to(e, t, b))
 }
 
-// What 21 and 34 are told.
-pub fn rule_write(
+// What a write is told once the FCB's entry e is known, and the target's as it was looked up.
+fn rule_write(
+    number: u8,
+    extent: usize,
+    image: &[u8],
+    map: &[u16],
+    fcb: &[u8],
+    e: usize,
+    j: usize,
+    target: Found,
+) -> Ruling
+    requires { ⌜ (length (now image) ≡ imageBytes eightInch) × (length (now map) ≡ eightInch .blocks) × (length (now fcb) ≡ fcbBytes)
+        × (e < eightInch .entries) × (j < slotCount) × Among (eightInch .entries) target ⌝ }
+    ensures { λ r. ⌜ r ≡ writeFrom eightInch (entryAt eightInch (now (image .entry))) (now (map .entry)) (now (fcb .entry)) number e j extent target ⌝ }
+{
+    if is_guarded(image, e, target) {
+        return Ruling::Refuse(Code::ReadOnly);
+    }
+    if format::EXTENTS <= extent {
+        return Ruling::Refuse(Code::NoRecord);
+    }
+    let code = targets::missing(number, Code::NoEntry);
+    write_to(image, map, fcb, code, e, j, target)
+}
+
+// What a record call is told.
+pub fn rule(
     number: u8,
     target: Target,
     image: &[u8],
@@ -138,7 +153,7 @@ pub fn rule_write(
 ) -> Ruling
     requires { ⌜ (length (now image) ≡ imageBytes eightInch) × (length (now map) ≡ eightInch .blocks) × (length (now fcb) ≡ fcbBytes)
         × TargetOf number (now fcb) target × (user ≤ 15) × Indexed eightInch (entryAt eightInch (now image)) (now chain) ⌝ }
-    ensures { λ r. ⌜ ((buffer : Bytes) → r ≡ writeRuling eightInch number user (lend (now (image .entry)) (now (map .entry)) (now (fcb .entry)) buffer)) ⌝ }
+    ensures { λ r. ⌜ ((buffer : Bytes) → r ≡ ruling eightInch number user (lend (now (image .entry)) (now (map .entry)) (now (fcb .entry)) buffer)) ⌝ }
 {
     let extent = target.extent;
     let at = target.at;
@@ -149,20 +164,9 @@ pub fn rule_write(
         return Ruling::Refuse(Code::NotCurrent);
     };
     let found = targets::target_entry(image, chain, user, fcb, e, extent);
-    if is_guarded(image, e, found) {
-        return Ruling::Refuse(Code::ReadOnly);
-    }
-    if format::EXTENTS <= extent {
-        return Ruling::Refuse(Code::NoRecord);
-    }
     let j = entries::slot_for(extent, at);
-    write_to(
-        image,
-        map,
-        fcb,
-        targets::missing(number, Code::NoEntry),
-        e,
-        j,
-        found,
-    )
+    if calls::writes(number) {
+        return rule_write(number, extent, image, map, fcb, e, j, found);
+    }
+    rule_read(number, at, image, fcb, e, j, found)
 }

@@ -5,7 +5,6 @@ ghost use lib.ListN.{length};
 ghost use Rattle.format.specs.Diskette.{eightInch, imageBytes, slotCount};
 ghost use Rattle.format.specs.Entries.{entryAt, extentOf, findFile};
 ghost use Rattle.format.specs.Fcb.{fcbBytes, randomOf};
-ghost use Rattle.model.specs.Kinds.{isRandom};
 ghost use Rattle.chains.specs.Chain.{Indexed};
 ghost use Rattle.targets.specs.Target.{TargetOf, overLast, missingCode, arrivedSlot, arrivedCount, goTo};
 use format::Found;
@@ -17,16 +16,6 @@ pub struct Target {
     pub extent: usize,
     pub at: usize,
     pub after: usize,
-}
-
-// 33 and 34 go by the random record, 20 and 21 by cr.
-fn is_random(number: u8) -> bool
-    ensures { λ r. ⌜ r ≡ isRandom number ⌝ }
-{
-    if number == 33 {
-        return true;
-    }
-    number == 34
 }
 
 // The random record number of an FCB, as its three bytes give it: in range or not.
@@ -42,7 +31,7 @@ pub fn target_of(number: u8, fcb: &[u8]) -> Target
     requires { ⌜ length (now fcb) ≡ fcbBytes ⌝ }
     ensures { λ r. ⌜ TargetOf number (now (fcb .entry)) r ⌝ }
 {
-    if is_random(number) {
+    if calls::is_random(number) {
         let r = random_of(fcb);
         return Target {
             extent: r / format::EXTENT_RECORDS,
@@ -73,14 +62,14 @@ pub fn over_last(number: u8, extent: usize) -> bool
     if extent < format::EXTENTS {
         return false;
     }
-    is_random(number)
+    calls::is_random(number)
 }
 
 // The code of a call whose target has no entry, where that refuses it: 33 and 34 have codes of their own.
 pub fn missing(number: u8, random: Code) -> Code
     ensures { λ r. ⌜ r ≡ missingCode number random ⌝ }
 {
-    if is_random(number) {
+    if calls::is_random(number) {
         return random;
     }
     Code::NoRecord

@@ -11,23 +11,14 @@ use borrow.Author.Needs.{needs}
 use Rattle.admission.proofs.parameters_right.Statement.{statement}
 use Rattle.admission.proofs.parameters_right.Tie as tie
 
-lengths-right-requires : tie.Need-lengths-right-requires
-lengths-right-requires c κs = search needs
-
 returns : tie.Need-returns
 returns c = refute _ (λ t. not-both _ (c .before .lengths-right .ensures ∙ lengths-are eightInch _ _ _ t) (not-true _ (c .if1 .taken)))
 
 returns-2 : tie.Need-returns-2
 returns-2 c = refute _ (λ t. let u = fits-of eightInch _ _ _ t .user-low in omega arith)
 
-cast-place : tie.Need-cast-place
-cast-place c = search needs
-
 returns-3 : tie.Need-returns-3
 returns-3 c = refute _ (λ t. let u = fits-of eightInch _ _ _ t .place-low in omega arith)
-
-uses-fcb-requires : tie.Need-uses-fcb-requires
-uses-fcb-requires c κs = search needs
 
 shared-slice-read-result : tie.Need-shared-slice-read-result
 shared-slice-read-result c =
@@ -49,12 +40,12 @@ pub parameters-right-spec : {M : Type 1} → statement M
 parameters-right-spec =
     tie.close
     (tie.spec
-    lengths-right-requires
+    (λ c κs. search needs)
     returns
     returns-2
-    cast-place
+    (λ c. search needs)
     returns-3
-    uses-fcb-requires
+    (λ c κs. search needs)
     shared-slice-read-result
     returns-4
     returns-5)

@@ -1,27 +1,25 @@
--- Any digit but 0 is a call's.
-use mathlib.Core.Path.{_≡_, sym, ap, _∙_}
+-- Every kind but the first is a call's.
+use mathlib.Core.Path.{sym, ap, _∙_}
 use mathlib.Core.Bool.{not}
-use Prim.Native.Nat.{ℕ, _+_}
-use native.Mathlib.Omega.{arith}
-use lib.Dec.{eqb}
+use mathlib.Core.List.{[], _∷_}
+use types.Run.{miss}
 use borrow.Author.Needs.{needs}
-use borrow.Author.Tests.{eq-eqb, ne-eqb}
-use Rattle.lists.specs.Cases.{split, eq-or-ne}
-use Rattle.model.specs.Kinds.{kindOf, kindNumber, isCall}
+use Rattle.model.specs.declared.Kind.the-variants.{Unlisted}
+use Rattle.model.specs.Kinds.{isCall}
+use Rattle.calls.specs.Apart.{not-same}
 use Rattle.calls.proofs.is_call.Statement.{statement}
 use Rattle.calls.proofs.is_call.Tie as tie
 
-digit : (x : ℕ) → eqb (48 + x) 48 ≡ eqb x 0
-digit x =
-    split (eq-or-ne x 0) (λ q. eq-eqb (48 + x) 48 (omega arith) ∙ sym (eq-eqb x 0 q))
-    (λ q. ne-eqb (48 + x) 48 (λ z. q (omega arith)) ∙ sym (ne-eqb x 0 q))
-
-digit-of-requires : tie.Need-digit-of-requires
-digit-of-requires c κs = search needs
-
 returns : tie.Need-returns
 unfolding isCall
-returns c = ap (λ (d : ℕ). not (eqb d 48)) (c .digit-of .ensures) ∙ ap not (digit (kindNumber (kindOf (c .before .args .number))))
+returns c = sym (rw (sym (c .before .before .kind-of .ensures) ∙ c .enum-told .given .1))
+
+returns-2 : tie.Need-returns-2
+unfolding isCall
+returns-2 c =
+    let other = not-same (c .before .kind-of .result) Unlisted
+    (λ q. miss (1 ∷ 2 ∷ 3 ∷ 4 ∷ 5 ∷ 6 ∷ 7 ∷ 8 ∷ 9 ∷ 10 ∷ []) 0 tt (rw q at (c .match .keys2))) in
+    sym (rw (← c .before .kind-of .ensures) (ap not other))
 
 pub is-call-spec : {M : Type 1} → statement M
-is-call-spec = tie.close (tie.spec digit-of-requires returns)
+is-call-spec = tie.close (tie.spec (λ c κs. search needs) (λ c. search needs) returns returns-2)

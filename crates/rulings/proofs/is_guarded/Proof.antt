@@ -9,23 +9,11 @@ use borrow.Author.Needs.{needs}
 use Rattle.rulings.proofs.is_guarded.Statement.{statement}
 use Rattle.rulings.proofs.is_guarded.Tie as tie
 
-row-requires : tie.Need-row-requires
-row-requires c κs = search needs
-
-is-read-only-requires : tie.Need-is-read-only-requires
-is-read-only-requires c κs = search needs
-
 returns : tie.Need-returns
 returns c =
     let a = c .before .before .before .before .args in
     sym (guarded-here (entryAt eightInch (a .image .now)) (a .e) (a .target)
     (sym (c .before .is-read-only .ensures ∙ ap readOnly (c .before .before .row .ensures .0)) ∙ c .if1 .taken))
-
-enum-known-target : tie.Need-enum-known-target
-enum-known-target c = search needs
-
-enum-told : tie.Need-enum-told
-enum-told c = search needs
 
 returns-2 : tie.Need-returns-2
 returns-2 c =
@@ -35,9 +23,6 @@ returns-2 c =
 
 row-requires-2 : tie.Need-row-requires-2
 row-requires-2 c κs = let h : c .before .target .given .0 .0 < eightInch .entries = c .before .before .before .before .before .before .before .pre .2 (c .before .target .given .0 .0) (c .before .target .given .1) in search needs
-
-is-read-only-requires-2 : tie.Need-is-read-only-requires-2
-is-read-only-requires-2 c κs = search needs
 
 returns-3 : tie.Need-returns-3
 returns-3 c =
@@ -50,12 +35,12 @@ pub is-guarded-spec : {M : Type 1} → statement M
 is-guarded-spec =
     tie.close
     (tie.spec
-    row-requires
-    is-read-only-requires
+    (λ c κs. search needs)
+    (λ c κs. search needs)
     returns
-    enum-known-target
-    enum-told
+    (λ c. search needs)
+    (λ c. search needs)
     returns-2
     row-requires-2
-    is-read-only-requires-2
+    (λ c κs. search needs)
     returns-3)

@@ -7,32 +7,17 @@ use borrow.Author.Needs.{needs}
 use Rattle.rulings.proofs.read_to.Statement.{statement}
 use Rattle.rulings.proofs.read_to.Tie as tie
 
-arrived-count-requires : tie.Need-arrived-count-requires
-arrived-count-requires c κs = search needs
-
-wide-requires : tie.Need-wide-requires
-wide-requires c κs = search needs
-
 returns : tie.Need-returns
 returns c =
     let a = c .before .before .before .before .before .args in
     read-short eightInch (entryAt eightInch (a .image .now)) (a .fcb .now) (a .e) (a .t) (a .j) (a .r) (c .before .wide .result)
     (c .before .wide .ensures .0 ∙ c .before .before .arrived-count .ensures) (c .if1 .taken)
 
-arrived-slot-requires : tie.Need-arrived-slot-requires
-arrived-slot-requires c κs = search needs
-
 returns-2 : tie.Need-returns-2
 returns-2 c =
     let a = c .before .before .before .before .before .before .before .args in
     read-empty eightInch (entryAt eightInch (a .image .now)) (a .fcb .now) (a .e) (a .t) (a .j) (a .r) (c .before .arrived-slot .result)
     (c .before .arrived-slot .ensures) (c .if2 .taken)
-
-wide-requires-2 : tie.Need-wide-requires-2
-wide-requires-2 c κs = search needs
-
-go-to-requires : tie.Need-go-to-requires
-go-to-requires c κs = search needs
 
 returns-3 : tie.Need-returns-3
 returns-3 c =
@@ -45,11 +30,11 @@ pub read-to-spec : {M : Type 1} → statement M
 read-to-spec =
     tie.close
     (tie.spec
-    arrived-count-requires
-    wide-requires
+    (λ c κs. search needs)
+    (λ c κs. search needs)
     returns
-    arrived-slot-requires
+    (λ c κs. search needs)
     returns-2
-    wide-requires-2
-    go-to-requires
+    (λ c κs. search needs)
+    (λ c κs. search needs)
     returns-3)

@@ -5,27 +5,9 @@ use borrow.Author.Needs.{needs}
 use Rattle.rulings.proofs.write_new.Statement.{statement}
 use Rattle.rulings.proofs.write_new.Tie as tie
 
-find-empty-requires : tie.Need-find-empty-requires
-find-empty-requires c κs = search needs
-
-enum-known-t : tie.Need-enum-known-t
-enum-known-t c = search needs
-
-enum-told : tie.Need-enum-told
-enum-told c = search needs
-
 returns : tie.Need-returns
 unfolding writeNew
 returns c = let q = sym (c .before .before .find-empty .ensures) ∙ c .enum-told .given .1 in rw q
-
-first-free-requires : tie.Need-first-free-requires
-first-free-requires c κs = search needs
-
-enum-known-b : tie.Need-enum-known-b
-enum-known-b c = search needs
-
-enum-told-2 : tie.Need-enum-told-2
-enum-told-2 c = search needs
 
 returns-2 : tie.Need-returns-2
 unfolding writeNew
@@ -43,12 +25,12 @@ pub write-new-spec : {M : Type 1} → statement M
 write-new-spec =
     tie.close
     (tie.spec
-    find-empty-requires
-    enum-known-t
-    enum-told
+    (λ c κs. search needs)
+    (λ c. search needs)
+    (λ c. search needs)
     returns
-    first-free-requires
-    enum-known-b
-    enum-told-2
+    (λ c κs. search needs)
+    (λ c. search needs)
+    (λ c. search needs)
     returns-2
     returns-3)

@@ -7,37 +7,16 @@ use borrow.Author.Needs.{needs}
 use Rattle.rulings.proofs.write_to.Statement.{statement}
 use Rattle.rulings.proofs.write_to.Tie as tie
 
-enum-known-target : tie.Need-enum-known-target
-enum-known-target c = search needs
-
-enum-told : tie.Need-enum-told
-enum-told c = search needs
-
-write-new-requires : tie.Need-write-new-requires
-write-new-requires c κs = search needs
-
 returns : tie.Need-returns
 returns c = rw (c .before .enum-told .given .1) (c .write-new .ensures)
 
 arrived-slot-requires : tie.Need-arrived-slot-requires
 arrived-slot-requires c κs = let h : c .before .target .given .0 .0 < eightInch .entries = c .before .before .before .before .before .before .pre .4 (c .before .target .given .0 .0) (c .before .target .given .1) in search needs
 
-block-for-requires : tie.Need-block-for-requires
-block-for-requires c κs = search needs
-
-enum-known-b : tie.Need-enum-known-b
-enum-known-b c = search needs
-
-enum-told-2 : tie.Need-enum-told-2
-enum-told-2 c = search needs
-
 returns-2 : tie.Need-returns-2
 returns-2 c =
     let q = c .before .before .before .before .before .target .given .1 in
     let f = sym (c .before .before .block-for .ensures ∙ ap (blockFor eightInch _) (c .before .before .before .arrived-slot .ensures)) ∙ c .enum-told2 .given .1 in rw (q, f)
-
-go-to-requires : tie.Need-go-to-requires
-go-to-requires c κs = search needs
 
 returns-3 : tie.Need-returns-3
 returns-3 c =
@@ -49,14 +28,14 @@ pub write-to-spec : {M : Type 1} → statement M
 write-to-spec =
     tie.close
     (tie.spec
-    enum-known-target
-    enum-told
-    write-new-requires
+    (λ c. search needs)
+    (λ c. search needs)
+    (λ c κs. search needs)
     returns
     arrived-slot-requires
-    block-for-requires
-    enum-known-b
-    enum-told-2
+    (λ c κs. search needs)
+    (λ c. search needs)
+    (λ c. search needs)
     returns-2
-    go-to-requires
+    (λ c κs. search needs)
     returns-3)

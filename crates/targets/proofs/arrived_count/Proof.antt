@@ -5,18 +5,6 @@ use borrow.Author.Needs.{needs}
 use Rattle.targets.proofs.arrived_count.Statement.{statement}
 use Rattle.targets.proofs.arrived_count.Tie as tie
 
-row-requires : tie.Need-row-requires
-row-requires c κs = search needs
-
-count-of-requires : tie.Need-count-of-requires
-count-of-requires c κs = search needs
-
-count-of-requires-2 : tie.Need-count-of-requires-2
-count-of-requires-2 c κs = search needs
-
-larger-requires : tie.Need-larger-requires
-larger-requires c κs = search needs
-
 returns : tie.Need-returns
 unfolding arrivedCount
 returns c = rw (eq-eqb _ _ (c .before .before .if1 .taken), c .larger .ensures, c .before .count-of2 .ensures, c .before .before .before .count-of .ensures, c .before .before .before .before .row .ensures .0)
@@ -29,9 +17,9 @@ pub arrived-count-spec : {M : Type 1} → statement M
 arrived-count-spec =
     tie.close
     (tie.spec
-    row-requires
-    count-of-requires
-    count-of-requires-2
-    larger-requires
+    (λ c κs. search needs)
+    (λ c κs. search needs)
+    (λ c κs. search needs)
+    (λ c κs. search needs)
     returns
     returns-2)

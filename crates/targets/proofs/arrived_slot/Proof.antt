@@ -6,26 +6,11 @@ use borrow.Author.Needs.{needs}
 use Rattle.targets.proofs.arrived_slot.Statement.{statement}
 use Rattle.targets.proofs.arrived_slot.Tie as tie
 
-add-result : tie.Need-add-result
-add-result c = search needs
-
-shared-slice-read-result : tie.Need-shared-slice-read-result
-shared-slice-read-result c = search needs
-
 returns : tie.Need-returns
 unfolding arrivedSlot
 returns c =
     let s = c .before .before .before .before in
     rw (eq-eqb _ _ (c .before .if1 .taken), slot-byte (s .args .fcb .now) (s .args .j) (s .pre .3))
-
-row-requires : tie.Need-row-requires
-row-requires c κs = search needs
-
-add-result-2 : tie.Need-add-result-2
-add-result-2 c = search needs
-
-shared-slice-read-result-2 : tie.Need-shared-slice-read-result-2
-shared-slice-read-result-2 c = search needs
 
 returns-2 : tie.Need-returns-2
 unfolding arrivedSlot
@@ -37,10 +22,10 @@ pub arrived-slot-spec : {M : Type 1} → statement M
 arrived-slot-spec =
     tie.close
     (tie.spec
-    add-result
-    shared-slice-read-result
+    (λ c. search needs)
+    (λ c. search needs)
     returns
-    row-requires
-    add-result-2
-    shared-slice-read-result-2
+    (λ c κs. search needs)
+    (λ c. search needs)
+    (λ c. search needs)
     returns-2)

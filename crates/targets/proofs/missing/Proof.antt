@@ -7,9 +7,6 @@ use borrow.Author.Needs.{needs}
 use Rattle.targets.proofs.missing.Statement.{statement}
 use Rattle.targets.proofs.missing.Tie as tie
 
-is-random-requires : tie.Need-is-random-requires
-is-random-requires c κs = search needs
-
 returns : tie.Need-returns
 unfolding missingCode
 returns c = let r : isRandom (c .before .before .args .number) ≡ true = sym (c .before .is-random .ensures) ∙ c .if1 .taken in rw r
@@ -19,4 +16,4 @@ unfolding missingCode
 returns-2 c = let r : isRandom (c .before .before .args .number) ≡ false = sym (c .before .is-random .ensures) ∙ c .if1 .left in rw r
 
 pub missing-spec : {M : Type 1} → statement M
-missing-spec = tie.close (tie.spec is-random-requires returns returns-2)
+missing-spec = tie.close (tie.spec (λ c κs. search needs) returns returns-2)

@@ -11,12 +11,9 @@ returns : tie.Need-returns
 unfolding overLast
 returns c = sym (and-fails-right _ _ (lt-leb _ _ (c .if1 .taken)))
 
-is-random-requires : tie.Need-is-random-requires
-is-random-requires c κs = search needs
-
 returns-2 : tie.Need-returns-2
 unfolding overLast
 returns-2 c = c .is-random .ensures ∙ sym (and-first _ _ (le-leb _ _ (c .before .if1 .left)))
 
 pub over-last-spec : {M : Type 1} → statement M
-over-last-spec = tie.close (tie.spec returns is-random-requires returns-2)
+over-last-spec = tie.close (tie.spec returns (λ c κs. search needs) returns-2)

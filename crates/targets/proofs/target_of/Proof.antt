@@ -9,12 +9,6 @@ use borrow.Author.Needs.{needs}
 use Rattle.targets.proofs.target_of.Statement.{statement}
 use Rattle.targets.proofs.target_of.Tie as tie
 
-is-random-requires : tie.Need-is-random-requires
-is-random-requires c κs = search needs
-
-random-of-requires : tie.Need-random-of-requires
-random-of-requires c κs = search needs
-
 returns : tie.Need-returns
 returns c =
     let n = c .before .before .before .before .args .number in
@@ -27,21 +21,9 @@ returns c =
       after = at ∙ sym (crAfter-random n fcb random);
     }
 
-shared-slice-read-wide : tie.Need-shared-slice-read-wide
-shared-slice-read-wide c = search needs
-
-wide-requires : tie.Need-wide-requires
-wide-requires c κs = search needs
-
-extent-requires : tie.Need-extent-requires
-extent-requires c κs = search needs
-
 -- 20 and 21 go by cr
 sequential : (c : tie.After-extent) → isRandom (c .before .before .before .before .before .before .args .number) ≡ false
 sequential c = sym (c .before .before .before .before .is-random .ensures) ∙ c .before .before .before .if1 .left
-
-add-t13 : tie.Need-add-t13
-add-t13 c = search needs
 
 returns-2 : tie.Need-returns-2
 returns-2 c =
@@ -54,9 +36,6 @@ returns-2 c =
       at = sym (record-past n fcb s past);
       after = sym (crAfter-sequential n fcb s ∙ ap (λ (x : ℕ). x + 1) (record-past n fcb s past));
     }
-
-add-t14 : tie.Need-add-t14
-add-t14 c = search needs
 
 returns-3 : tie.Need-returns-3
 returns-3 c =
@@ -75,13 +54,13 @@ pub target-of-spec : {M : Type 1} → statement M
 target-of-spec =
     tie.close
     (tie.spec
-    is-random-requires
-    random-of-requires
+    (λ c κs. search needs)
+    (λ c κs. search needs)
     returns
-    shared-slice-read-wide
-    wide-requires
-    extent-requires
-    add-t13
+    (λ c. search needs)
+    (λ c κs. search needs)
+    (λ c κs. search needs)
+    (λ c. search needs)
     returns-2
-    add-t14
+    (λ c. search needs)
     returns-3)

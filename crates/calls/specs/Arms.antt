@@ -1,0 +1,50 @@
+-- A `match` with an arm for each of some numbers, against the list of the calls: what an arm and the rest say of a number's line.
+use mathlib.Core.Path.{_≡_, refl, sym, ap, _∙_}
+use mathlib.Core.Bool.{Bool, true, false, cond}
+use mathlib.Core.List.{List, [], _∷_}
+use Prim.Native.Nat.{ℕ}
+use lib.Dec.{eqb}
+use borrow.Author.Tests.{ne-eqb, eqb-true}
+use Rattle.lists.specs.Cases.{split, bool-cases, clash}
+use Rattle.model.specs.declared.Kind.the-variants.{Unlisted}
+use Rattle.model.specs.Kinds.{Listed, noFcb, calls, lineIn, oneOf}
+
+-- ---- an arm
+pub at : {A : Type 0} (says : Listed → A) {n k : ℕ} → n ≡ k → says (lineIn k calls) ≡ says (lineIn n calls)
+at says {n} {k} q = sym (ap (λ (m : ℕ). says (lineIn m calls)) q)
+
+-- ---- the rest: n is none of the numbers; told is what the arms in front have said
+abbrev pub None : Type 0 → ℕ → List ℕ → Type 0
+None told n [] = told
+None told n (c ∷ cs) = None (told × (n ≡ c → ⊥)) n cs
+
+front : (told : Type 0) (n : ℕ) (ns : List ℕ) → None told n ns → told
+front told n [] x = x
+front told n (c ∷ cs) x = front (told × (n ≡ c → ⊥)) n cs x .0
+
+none-of : (told : Type 0) (n : ℕ) (ns : List ℕ) → None told n ns → oneOf n ns ≡ false
+none-of told n [] x = refl
+none-of told n (c ∷ cs) x = rw (ne-eqb n c (front (told × (n ≡ c → ⊥)) n cs x .1)) (none-of (told × (n ≡ c → ⊥)) n cs x)
+
+-- every line passes the test, or has its number among these
+abbrev pub passes : (Listed → Bool) → List ℕ → List Listed → Bool
+passes t ns [] = true
+passes t ns (c ∷ cs) = cond (cond (oneOf (c .number) ns) true (t c)) (passes t ns cs) false
+
+both : (a b : Bool) → cond a b false ≡ true → (a ≡ true) × (b ≡ true)
+both true b h = (refl, h)
+both false b h = clash (sym h)
+
+rest-in : (t : Listed → Bool) (n : ℕ) (ns : List ℕ) (cs : List Listed) → passes t ns cs ≡ true → oneOf n ns ≡ false → t (noFcb n Unlisted) ≡ true
+    → t (lineIn n cs) ≡ true
+rest-in t n ns [] p o d = d
+rest-in t n ns (c ∷ cs) p o d =
+    let here = both (cond (oneOf (c .number) ns) true (t c)) (passes t ns cs) p in
+    split (bool-cases (eqb n (c .number)))
+    (λ e. let out : oneOf (c .number) ns ≡ false = sym (ap (λ (m : ℕ). oneOf m ns) (eqb-true n (c .number) e)) ∙ o in
+    rw e (rw out at (here .0)))
+    (λ e. rw e (rest-in t n ns cs (here .1) o d))
+
+pub rest : (t : Listed → Bool) (told : Type 0) (n : ℕ) (ns : List ℕ) → passes t ns calls ≡ true → t (noFcb n Unlisted) ≡ true → None told n ns
+    → t (lineIn n calls) ≡ true
+rest t told n ns p d x = rest-in t n ns calls p (none-of told n ns x) d

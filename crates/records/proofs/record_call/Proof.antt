@@ -1,0 +1,73 @@
+-- A refusal is the ruling's, with nothing touched; a plan is followed within the disk's bounds.
+use mathlib.Core.Path.{_≡_, sym, _∙_}
+use Rattle.format.specs.Diskette.{eightInch}
+use Rattle.disk.specs.Eight.{eight-sound}
+use Rattle.facts.specs.Naming.{run-own}
+use Rattle.model.specs.Lent.{lend}
+use Rattle.rulings.specs.declared.Ruling.the-variants.{Follow}
+use Rattle.rulings.specs.Ruling.{ruling}
+use Rattle.rulings.specs.Bounds.{Sure, ruling-sure}
+use Rattle.records.specs.Carry.{record-refused, record-carried}
+use borrow.Author.Needs.{needs}
+use Rattle.records.proofs.record_call.Statement.{statement}
+use Rattle.records.proofs.record_call.Tie as tie
+
+-- the plan is what the ruling says, and names entries and a block of the disk
+follows : (c : tie.After-known-told2) → let a = c .before .before .before .before .before .before .before .before .before .before .before .before .before .before .args in
+    ruling eightInch (a .asked .number) (a .session .user) (lend (a .image .now) (a .map .now) (a .fcb .now) (a .buffer .now)) ≡ Follow (c .before .plan .given .0 .0)
+follows c = sym (c .before .before .before .rule .ensures (c .before .before .before .before .before .before .before .before .before .before .before .before .before .before .args .buffer .now)) ∙ c .before .plan .given .1
+
+sure : (c : tie.After-known-told2) → let a = c .before .before .before .before .before .before .before .before .before .before .before .before .before .before .args in
+    Sure eightInch (a .asked .number) (a .image .now) (a .fcb .now) (c .before .plan .given .0 .0)
+sure c =
+    let s = c .before .before .before .before .before .before .before .before .before .before .before .before .before .before in let a = s .args in
+    ruling-sure eight-sound run-own (a .asked .number) (lend (a .image .now) (a .map .now) (a .fcb .now) (a .buffer .now)) (a .session)
+    (s .pre .0) (s .pre .1) (s .pre .5) (s .pre .4) (c .before .plan .given .0 .0) (follows c)
+
+follow-requires : tie.Need-follow-requires
+follow-requires c κs =
+    let s = c .before .before .before .before .before .before .before .before .before .before .before .before .before .before .before .before .before .before in let t = c .before .before .before .before .before .before .before .before .before .before .before .target-of in let w = sure (c .before .before .before .before) in (
+      s .pre .0,
+      s .pre .1,
+      s .pre .2,
+      s .pre .3,
+      rw (t .ensures .extent) (w .extent),
+      rw (t .ensures .at) (w .at),
+      rw (t .ensures .after) (w .after),
+      w .on-disk,
+      rw (← t .ensures .extent) at (w .own),
+    )
+
+returns : tie.Need-returns
+returns c =
+    let s = c .before .before .before .before .before .before .before .before .before .before .before .before .before .before .before in let a = s .args in
+    record-refused eightInch (a .asked) (lend (a .image .now) (a .map .now) (a .fcb .now) (a .buffer .now)) (a .session) (c .refuse .result) (s .pre .6)
+    (c .before .before .code .given .0 .0) (sym (c .before .before .before .before .rule .ensures (a .buffer .now)) ∙ c .before .before .code .given .1) (c .refuse .ensures)
+
+returns-2 : tie.Need-returns-2
+returns-2 c =
+    let s = c .before .before .before .before .before .before .before .before .before .before .before .before .before .before .before .before .before .before .before .before .before .before .before .before .before .before .before .before in let a = s .args in let t = c .before .before .before .before .before .before .before .before .before .before .before .before .before .before .before .before .before .before .before .before .before .target-of in let f = c .before .before .before .before .before .before .before .before .before .follow in let left = f .last .1 in
+    record-carried eightInch (a .asked) (lend (a .image .now) (a .map .now) (a .fcb .now) (a .buffer .now)) (a .session) (c .done .result) (s .pre .6)
+    (c .before .before .before .before .before .before .before .before .before .before .before .before .before .before .before .plan .given .0 .0) (t .result) (lend (left .0) (left .1 .0) (left .1 .1 .0) (left .1 .1 .1 .0))
+    (follows (c .before .before .before .before .before .before .before .before .before .before .before .before .before .before)) (t .ensures) (c .done .ensures) (f .ensures)
+
+pub record-call-spec : {M : Type 1} → statement M
+record-call-spec =
+    tie.close
+    (tie.spec
+    (λ c κs. search needs)
+    (λ c κs. search needs)
+    (λ c. search needs)
+    (λ c κs. search needs)
+    (λ c. search needs)
+    follow-requires
+    (λ c κs. search needs)
+    (λ c. search needs)
+    (λ c. search needs)
+    (λ c. search needs)
+    returns
+    (λ c. search needs)
+    (λ c. search needs)
+    (λ c. search needs)
+    (λ c. search needs)
+    returns-2)

@@ -1,0 +1,49 @@
+-- The kind of call decides between the two halves of the definition; the plan's entry and block are the disk's.
+use mathlib.Core.Path.{_≡_, sym, _∙_}
+use Prim.Native.Nat.{_<_}
+use Rattle.format.specs.Diskette.{eightInch}
+use Rattle.format.specs.Entries.{entryAt, extentOf}
+use Rattle.records.specs.Carry.{entry-on-disk, block-on-disk}
+use borrow.Author.Needs.{needs}
+use Rattle.records.proofs.transfer.Statement.{statement}
+use Rattle.records.proofs.transfer.Tie as tie
+
+write-at-requires : tie.Need-write-at-requires
+write-at-requires c κs =
+    let s = c .before .before .before .before .before .before .before .before .before .before .before .before .before in let a = s .args in let b = c .before .before .before .before .before .before .before .before .block-of in
+    let h : b .result < eightInch .blocks = rw (b .ensures) (block-on-disk eightInch (a .plan) (s .pre .6)) in
+    let k : c .entry-of .result < eightInch .entries = rw (c .entry-of .ensures) (entry-on-disk eightInch (a .plan) (s .pre .6)) in
+    let o : extentOf (a .fcb .now) ≡ extentOf (entryAt eightInch (a .image .now) (c .entry-of .result)) = rw (c .entry-of .ensures) (s .pre .7) in search needs
+
+returns : tie.Need-returns
+returns c =
+    rw (sym (c .before .before .before .before .before .before .before .before .before .before .before .before .before .before .writes .ensures) ∙ c .before .before .before .before .before .before .before .before .before .before .before .before .before .if1 .taken)
+    (c .before .before .before .before .before .before .write-at .ensures ∙ rw (c .before .before .before .before .before .before .before .before .before .before .before .before .before .before .before .block-of .ensures, c .before .before .before .before .before .before .before .entry-of .ensures, c .before .before .before .before .before .before .before .before .before .before .before .before .slot-for .ensures .0))
+
+read-at-requires : tie.Need-read-at-requires
+read-at-requires c κs =
+    let s = c .before .before .before .before .before .before .before .before .before .before in let b = c .before .before .before .before .before .block-of in
+    let h : b .result < eightInch .blocks = rw (b .ensures) (block-on-disk eightInch (s .args .plan) (s .pre .6)) in search needs
+
+returns-2 : tie.Need-returns-2
+returns-2 c = rw (sym (c .before .before .before .before .before .before .before .before .before .writes .ensures) ∙ c .before .before .before .before .before .before .before .before .if1 .left) (c .before .before .before .before .read-at .ensures _ ∙ rw (c .before .before .before .before .before .before .before .before .before .before .block-of .ensures))
+
+pub transfer-spec : {M : Type 1} → statement M
+transfer-spec =
+    tie.close
+    (tie.spec
+    (λ c κs. search needs)
+    (λ c κs. search needs)
+    (λ c κs. search needs)
+    (λ c κs. search needs)
+    write-at-requires
+    (λ c. search needs)
+    (λ c. search needs)
+    (λ c. search needs)
+    (λ c. search needs)
+    returns
+    read-at-requires
+    (λ c. search needs)
+    (λ c. search needs)
+    (λ c. search needs)
+    returns-2)
