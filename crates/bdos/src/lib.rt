@@ -48,7 +48,8 @@ pub fn call(
         ≡ step eightInch asked (lend (now (image .entry)) (now (map .entry)) (now (fcb .entry)) (now (buffer .entry))) session ⌝ }
 {
     let number = asked.number;
-    if !calls::is_call(number) {
+    let kind = calls::kind_of(number);
+    if !calls::is_listed(kind) {
         return answers::refuse(Code::NotListed, session);
     }
     if !admission::parameters_right(asked, image, map, fcb, buffer, session) {
@@ -62,5 +63,5 @@ pub fn call(
     if number == 13 {
         return plain::log_in(map, &marks, session);
     }
-    dispatch::own_call(asked, image, map, fcb, buffer, session, &chain)
+    dispatch::own_call(kind, asked, image, map, fcb, buffer, session, &chain)
 }

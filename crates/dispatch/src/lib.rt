@@ -63,8 +63,9 @@ fn search_call(
     searching::search_next(image, buffer, session)
 }
 
-// Every call but 13, once the first three rows have passed it.
+// Every call but 13, once the first three rows have passed it; its kind is handed in.
 pub fn own_call(
+    kind: Kind,
     asked: Asked,
     image: &mut [u8],
     map: &mut [u16],
@@ -73,13 +74,12 @@ pub fn own_call(
     session: Session,
     chain: &[u8],
 ) -> Answer
-    requires { ⌜ (isCall (asked .number) ≡ true) × (asked .number ≡ 13 → ⊥)
+    requires { ⌜ (kind ≡ kindOf (asked .number)) × (isCall (asked .number) ≡ true) × (asked .number ≡ 13 → ⊥)
         × Ready eightInch asked (lend (now image) (now map) (now fcb) (now buffer)) session
         × Indexed eightInch (entryAt eightInch (now image)) (now chain) ⌝ }
     ensures { λ r. ⌜ outcome r (now (image .exit)) (now (map .exit)) (now (fcb .exit)) (now (buffer .exit))
         ≡ ownStep eightInch asked (lend (now (image .entry)) (now (map .entry)) (now (fcb .entry)) (now (buffer .entry))) session ⌝ }
 {
-    let kind = calls::kind_of(asked.number);
     match kind {
         Kind::Quiet => quiet_call(asked, image, map, fcb, buffer, session, chain),
         Kind::Search => search_call(asked, image, map, fcb, buffer, session),

@@ -19,29 +19,36 @@ abbrev given : tie.Start → Lent
 given c = lend (c .args .image .now) (c .args .map .now) (c .args .fcb .now) (c .args .buffer .now)
 
 -- what each passed test says
-called : (c : tie.Else1) → isCall (c .before .before .before .before .before .before .args .asked .number) ≡ true
-called c = sym (c .before .is-call .ensures) ∙ not-false _ (c .if1 .left)
+listed : (c : tie.After-is-listed) → isCall (c .before .before .before .before .before .before .args .asked .number) ≡ c .is-listed .result
+unfolding isCall
+listed c = sym (c .is-listed .ensures ∙ rw (c .before .kind-of .ensures))
+
+called : (c : tie.Else1) → isCall (c .before .before .before .before .before .before .before .args .asked .number) ≡ true
+called c = listed (c .before) ∙ not-false _ (c .if1 .left)
 
 parameters : (c : tie.Else2) →
-    let s = c .before .before .before .before .before .before .before .before .before .before .before .before in
+    let s = c .before .before .before .before .before .before .before .before .before .before .before .before .before in
     parametersRight eightInch (given s) (s .args .asked) (s .args .session) ≡ true
 parameters c = sym (c .before .parameters-right .ensures) ∙ not-false _ (c .if2 .left)
 
 ready : (c : tie.Else3) →
-    let s = c .before .before .before .before .before .before .before .before .before .before .before .before .before .before .before .before .before .before .before .before in
+    let s = c .before .before .before .before .before .before .before .before .before .before .before .before .before .before .before .before .before .before .before .before .before in
     Ready eightInch (s .args .asked) (given s) (s .args .session)
 ready c =
     ready-of eightInch _ _ _ (parameters (c .before .before .before .before .before .before .before .before))
     (sym (c .before .before .before .disk-right .ensures .0 _ _) ∙ not-false _ (c .if3 .left))
 
-is-call-requires : tie.Need-is-call-requires
-is-call-requires c κs = search needs
+kind-of-requires : tie.Need-kind-of-requires
+kind-of-requires c κs = search needs
+
+is-listed-requires : tie.Need-is-listed-requires
+is-listed-requires c κs = search needs
 
 refuse-requires : tie.Need-refuse-requires
 refuse-requires c κs = search needs
 
 returns : tie.Need-returns
-returns c = unlisted-step eightInch _ _ _ _ (sym (c .before .before .is-call .ensures) ∙ not-true _ (c .before .if1 .taken)) (c .refuse .ensures)
+returns c = unlisted-step eightInch _ _ _ _ (listed (c .before .before) ∙ not-true _ (c .before .if1 .taken)) (c .refuse .ensures)
 
 parameters-right-requires : tie.Need-parameters-right-requires
 parameters-right-requires c κs = search needs
@@ -116,7 +123,7 @@ same-length-12 c = search needs
 returns-4 : tie.Need-returns-4
 returns-4 c =
     let k = called (c .before .before .before .before .before .before .before .before .before .before .before .before .before .before .before .before .before .before .before .before) in
-    let a = c .before .before .before .before .before .before .before .before .before .before .before .before .before .before .before .before .before .before .before .before .before .before .before .before .before .before .args .asked in
+    let a = c .before .before .before .before .before .before .before .before .before .before .before .before .before .before .before .before .before .before .before .before .before .before .before .before .before .before .before .args .asked in
     c .before .before .log-in .ensures a _ _ _ (c .before .before .before .before .before .before .before .before .before .disk-right .ensures .1 (not-false _ (c .before .before .before .before .before .before .if3 .left)) .0)
     ∙ own-at eightInch a _ _ 13 (c .before .before .before .before .before .if4 .taken) ∙ sym (step-own eightInch _ _ _ k (ready (c .before .before .before .before .before .before)))
 
@@ -125,6 +132,7 @@ slice-aggregate-own-call c = search needs
 
 own-call-requires : tie.Need-own-call-requires
 own-call-requires c κs = (
+  c .before .before .before .before .before .before .before .before .before .before .before .before .before .before .before .before .before .before .before .before .before .before .kind-of .ensures,
   called (c .before .before .before .before .before .before .before .before .before .before .before .before .before .before .before .before .before .before .before .before),
   c .before .before .before .before .before .if4 .left,
   ready (c .before .before .before .before .before .before),
@@ -152,7 +160,8 @@ pub call-spec : {M : Type 1} → statement M
 call-spec =
     tie.close
     (tie.spec
-    is-call-requires
+    kind-of-requires
+    is-listed-requires
     refuse-requires
     returns
     parameters-right-requires
