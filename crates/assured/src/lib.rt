@@ -1,7 +1,7 @@
 // The demands once more, of `call` itself: functions above it that go by its contract alone, and ask nothing of what they are handed.
 ghost use mathlib.Core.Path.{_≡_};
 ghost use mathlib.Core.Bool.{true};
-ghost use Prim.Native.Nat.{_+_, _%_, _≤_, _<_};
+ghost use Prim.Native.Nat.{_+_, _≤_, _<_};
 ghost use lib.ListN.{length};
 ghost use Rattle.format.specs.Diskette.{eightInch, extents, extentRecords};
 ghost use Rattle.format.specs.Fcb.{fcbBytes};
@@ -13,7 +13,7 @@ ghost use Rattle.table.specs.Own.{ask};
 ghost use Rattle.effects.specs.Book.{ofRecord, acceptedAnswer};
 ghost use Rattle.demands.specs.Runs.{run};
 ghost use Rattle.targets.specs.Target.{TargetOf};
-ghost use Rattle.assured.specs.Script.{request, requests, callsLeft, Ends, diskOf};
+ghost use Rattle.assured.specs.Script.{request, askedAt, requests, callsLeft, Ends, diskOf};
 ghost use Rattle.assured.specs.Demands.{logIn, writesAnswer, targetSet, Told, Framed, LoggedIn, ReadsBack};
 use model::Answer;
 use model::Asked;
@@ -107,11 +107,15 @@ fn wrote(number: u8, answer: Answer) -> bool
     false
 }
 
-// A number of a script as a byte.
-fn low_byte(x: usize) -> u8
-    ensures { λ r. ⌜ r ≡ x % 256 ⌝ }
+// What a call of a script asks for: its first two numbers, as bytes.
+fn asked_at(script: &[usize], at: usize) -> Asked
+    requires { ⌜ at + 4 ≤ length (now script) ⌝ }
+    ensures { λ r. ⌜ r ≡ askedAt (now (script .entry)) at ⌝ }
 {
-    (x % 256) as u8
+    Asked {
+        number: (script[at] % 256) as u8,
+        argument: (script[at + 1] % 256) as u8,
+    }
 }
 
 // Where the next n bytes end, or the bytes themselves if they are fewer.
@@ -145,10 +149,7 @@ fn make_call(
     let fcb_to = ends_at(fcbs, fcb_from, script[at + 2]);
     let from = p.buffers;
     let to = ends_at(buffers, from, script[at + 3]);
-    let asked = Asked {
-        number: low_byte(script[at]),
-        argument: low_byte(script[at + 1]),
-    };
+    let asked = asked_at(script, at);
     let r = bdos::call(
         asked,
         image,
