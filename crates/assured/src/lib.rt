@@ -42,9 +42,9 @@ pub struct ReadBack {
     pub answer: Answer,
 }
 
-// Demand 1, of `call` itself: it is refused, by the first row of the table that holds and with nothing changed, or carried out. And of
-// demand 3 what it says of one call: no byte changes but in the entries of the files that it names, in an empty entry that became
-// theirs, and in the one record that it wrote.
+// Demand 1, of the call that is exported: it is refused, by the first row of the table that holds and with nothing changed, or carried
+// out. And of demand 3 what it says of one call: no byte changes but in the entries of the files that it names, in an empty entry that
+// became theirs, and in the one record that it wrote.
 pub fn one_call(
     asked: Asked,
     image: &mut [u8],
@@ -107,7 +107,7 @@ fn wrote(number: u8, answer: Answer) -> bool
     false
 }
 
-// What a call of a script asks for: its first two numbers, as bytes.
+// What a call of a script asks for: its first two numbers, as bytes. The call is there whole: the loop's test.
 fn asked_at(script: &[usize], at: usize) -> Asked
     requires { ⌜ at + 4 ≤ length (now script) ⌝ }
     ensures { λ r. ⌜ r ≡ askedAt (now (script .entry)) at ⌝ }
@@ -118,7 +118,7 @@ fn asked_at(script: &[usize], at: usize) -> Asked
     }
 }
 
-// Where the next n bytes end, or the bytes themselves if they are fewer.
+// Where the next n bytes end, or all of them if fewer are left. A part starts within its slice: the loop's invariant.
 fn ends_at(bytes: &[u8], from: usize, n: usize) -> usize
     requires { ⌜ from ≤ length (now bytes) ⌝ }
     ensures { λ r. ⌜ Ends (now (bytes .entry)) from n r ⌝ }
@@ -129,7 +129,8 @@ fn ends_at(bytes: &[u8], from: usize, n: usize) -> usize
     bytes.len()
 }
 
-// The next call of a script: those that are left, made on what it leaves, come to what they and it came to before.
+// The next call of a script: those that are left, made on what it leaves, come to what they and it came to before. What it requires is the
+// loop's test and invariant.
 fn make_call(
     script: &[usize],
     at: usize,
@@ -240,7 +241,7 @@ fn target_of(number: u8, fcb: &[u8]) -> Target
     }
 }
 
-// Call 33 through an FCB, r0 to r2 set to the record of a target.
+// Call 33 through an FCB, r0 to r2 set to the record of a target. Its FCB and its target are those of a write that was accepted.
 fn read_again(
     target: Target,
     image: &mut [u8],
