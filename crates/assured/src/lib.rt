@@ -207,7 +207,7 @@ pub fn log_in_and_run(
 ) -> Ran
     ensures { λ r. ⌜ LoggedIn (diskOf (now (image .entry)) (now (map .entry)) session) (logIn argument (now (fcb .entry)) (now (buffer .entry)))
         (requests (now (script .entry)) (now (fcbs .entry)) (now (buffers .entry)))
-        (r .accepted) (diskOf (now (image .exit)) (now (map .exit)) (r .session)) ⌝ }
+        (r .accepted) (diskOf (now (image .exit)) (now (map .exit)) (r .session)) (now (fcb .exit)) (now (buffer .exit)) ⌝ }
 {
     let asked = Asked {
         number: 13,
