@@ -104,16 +104,19 @@ module _ (d : Disk) (q : Request) (o : Outcome) (f b : Bytes) (meets : o ≡ ste
   met-run qs e h = h ∙ ap (λ (x : Disk). run eightInch x qs) met-after
 
 -- ---- demand 3: a log-in that was refused leaves the disk as a refusal does; after one that was accepted the calls are made, and
--- nothing is lost
-pub data LoggedIn (d : Disk) (q : Request) (qs : List Request) (accepted : Bool) (e : Disk) : Type 0 where
-  login-refused : accepted ≡ false → accepts eightInch d q ≡ false → e ≡ after eightInch d q → LoggedIn d q qs accepted e
+-- nothing is lost. fcb and buffer are those of the log-in afterwards
+pub data LoggedIn (d : Disk) (q : Request) (qs : List Request) (accepted : Bool) (e : Disk) (fcb buffer : Bytes) : Type 0 where
+  login-refused : accepted ≡ false → accepts eightInch d q ≡ false → e ≡ after eightInch d q
+      → fcb ≡ outcomeOf eightInch d q .lent .fcb → buffer ≡ outcomeOf eightInch d q .lent .buffer → LoggedIn d q qs accepted e fcb buffer
   calls-made : accepted ≡ true → accepts eightInch d q ≡ true → e ≡ run eightInch (after eightInch d q) qs
-      → NothingLost eightInch e (bookFrom d q qs) → LoggedIn d q qs accepted e
+      → fcb ≡ outcomeOf eightInch d q .lent .fcb → buffer ≡ outcomeOf eightInch d q .lent .buffer
+      → NothingLost eightInch e (bookFrom d q qs) → LoggedIn d q qs accepted e fcb buffer
 
 pub logged-in : (d : Disk) (q : Request) → q .asked .number ≡ 13 → (qs : List Request) (e : Disk) → accepts eightInch d q ≡ true
-    → e ≡ run eightInch (after eightInch d q) qs → LoggedIn d q qs true e
-logged-in d q n qs e a m =
-    calls-made refl a m (subst (λ (x : Disk). NothingLost eightInch x (bookFrom d q qs)) (sym m) (eight-nothing-lost d q n a qs))
+    → e ≡ run eightInch (after eightInch d q) qs → (o : Outcome) → o ≡ outcomeOf eightInch d q → LoggedIn d q qs true e (o .lent .fcb) (o .lent .buffer)
+logged-in d q n qs e a m o same =
+    calls-made refl a m (ap (λ (x : Outcome). x .lent .fcb) same) (ap (λ (x : Outcome). x .lent .buffer) same)
+    (subst (λ (x : Disk). NothingLost eightInch x (bookFrom d q qs)) (sym m) (eight-nothing-lost d q n a qs))
 
 -- ---- demand 2: a call that is no write, or was refused, leaves what it does; after a write that was accepted the calls are made, and then
 -- call 33 through the FCB that the write handed back, with r0 to r2 set to its record. Where the calls leave the file alone and the buffer

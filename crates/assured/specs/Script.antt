@@ -4,12 +4,12 @@ use mathlib.Core.Path.{_≡_, refl, ap, sym, _∙_}
 use mathlib.Core.List.{List, [], _∷_, _++_, append-assoc}
 use Prim.Native.Nat.{ℕ, suc, _+_, _-_, _%_, _≤_, _<_}
 use native.Mathlib.Omega.{arith}
-use lib.ListN.{length, getD, take, drop, length-append, length-drop, drop-of-length-le}
-use lib.Seq.{take-all, take-append-seam, drop-append-seam, drop-cons, drop-at, length-take-le}
+use lib.ListN.{length, getD, take, drop, take-append-drop, length-append, length-drop, drop-of-length-le}
+use lib.Seq.{take-all, take-append-seam, drop-append-seam, drop-cons, drop-at, length-take-le, length-front}
 use Rattle.format.specs.Diskette.{Bytes, eightInch}
 use Rattle.model.specs.declared.Asked.{Asked}
 use Rattle.model.specs.declared.Session.{Session}
-use Rattle.model.specs.Lent.{lend, Outcome}
+use Rattle.model.specs.Lent.{Lent, lend, Outcome}
 use Rattle.model.specs.Step.{step}
 use Rattle.demands.specs.Runs.{Request, Disk, outcomeOf, after, run}
 use Rattle.assured.specs.declared.Point.{Point}
@@ -124,9 +124,21 @@ none-left (n ∷ a ∷ []) fcbs buffers h = refl
 none-left (n ∷ a ∷ f ∷ []) fcbs buffers h = refl
 none-left (n ∷ a ∷ f ∷ b ∷ xs) fcbs buffers h = absurd (omega arith)
 
+-- what the call at a place asks for
+abbrev pub askedAt : List ℕ → ℕ → Asked
+askedAt script at = askedBy (getD script at 0) (getD script (at + 1) 0)
+
 -- a slice whose part came back
 abbrev pub mended : Bytes → ℕ → ℕ → Bytes → Bytes
 mended bytes from to part = take from bytes ++ (part ++ drop (to - from) (drop from bytes))
+
+-- it is as long as it was; the part is one of an outcome's buffers
+pub length-mended : (get : Lent → Bytes) (o p : Outcome) → o ≡ p → (bytes : Bytes) (from n to : ℕ) → Ends bytes from n to
+    → length (get (o .lent)) ≡ length (take (to - from) (drop from bytes)) → length (mended bytes from to (get (o .lent))) ≡ length bytes
+length-mended get o p meets bytes from n to e h =
+    length-append (take from bytes) (get (o .lent) ++ drop (to - from) (drop from bytes))
+    ∙ ap (λ (k : ℕ). length (take from bytes) + k) (length-front (drop from bytes) (get (o .lent)) (to - from) h)
+    ∙ sym (length-append (take from bytes) (drop from bytes)) ∙ ap length (take-append-drop from bytes)
 
 module _ (script : List ℕ) (at : ℕ) (fcbs buffers image map : Bytes) (p : Point) where
   pub calls-none : length script - at < 4 → callsLeft script at fcbs buffers image map p ≡ diskOf image map (p .session)
@@ -137,9 +149,9 @@ module _ (script : List ℕ) (at : ℕ) (fcbs buffers image map : Bytes) (p : Po
       ap (run eightInch (diskOf image map (p .session))) none
 
   -- one call is made
-  pub calls-next : at + 4 ≤ length script → (f b n a : ℕ) → Ends fcbs (p .fcbs) (getD script (at + 2) 0) f → Ends buffers (p .buffers) (getD script (at + 3) 0) b
-      → n ≡ getD script at 0 % 256 → a ≡ getD script (at + 1) 0 % 256 → (o : Outcome)
-      → o ≡ step eightInch (record { number = n; argument = a })
+  pub calls-next : at + 4 ≤ length script → (f b : ℕ) → Ends fcbs (p .fcbs) (getD script (at + 2) 0) f → Ends buffers (p .buffers) (getD script (at + 3) 0) b
+      → (asked : Asked) → asked ≡ askedAt script at → (o : Outcome)
+      → o ≡ step eightInch asked
       (lend image map (take (f - p .fcbs) (drop (p .fcbs) fcbs)) (take (b - p .buffers) (drop (p .buffers) buffers))) (p .session)
       → length (o .lent .fcb) ≡ length (take (f - p .fcbs) (drop (p .fcbs) fcbs))
       → length (o .lent .buffer) ≡ length (take (b - p .buffers) (drop (p .buffers) buffers))
@@ -147,7 +159,7 @@ module _ (script : List ℕ) (at : ℕ) (fcbs buffers image map : Bytes) (p : Po
       record { fcbs = f; buffers = b; session = o .answer .session }
       ≡ callsLeft script at fcbs buffers image map p
   unfolding callsLeft run requests after outcomeOf
-  calls-next h f b n a ef eb qn qa o meets lf lb =
+  calls-next h f b ef eb asked q o meets lf lb =
       let x : ℕ = getD script (at + 2) 0 in
       let y : ℕ = getD script (at + 3) 0 in
       rw (
@@ -155,8 +167,7 @@ module _ (script : List ℕ) (at : ℕ) (fcbs buffers image map : Bytes) (p : Po
         past-part buffers (o .lent .buffer) (p .buffers) y b eb (lb ∙ part-long buffers (p .buffers) y b eb),
         four script at h,
         meets,
-        qn,
-        qa,
+        q,
         ef .taken,
         eb .taken,
       )

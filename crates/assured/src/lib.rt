@@ -1,7 +1,7 @@
 // The demands once more, of `call` itself: functions above it that go by its contract alone, and ask nothing of what they are handed.
 ghost use mathlib.Core.Path.{_≡_};
 ghost use mathlib.Core.Bool.{true};
-ghost use Prim.Native.Nat.{_+_, _%_, _≤_, _<_};
+ghost use Prim.Native.Nat.{_+_, _≤_, _<_};
 ghost use lib.ListN.{length};
 ghost use Rattle.format.specs.Diskette.{eightInch, extents, extentRecords};
 ghost use Rattle.format.specs.Fcb.{fcbBytes};
@@ -13,7 +13,7 @@ ghost use Rattle.table.specs.Own.{ask};
 ghost use Rattle.effects.specs.Book.{acceptedAnswer};
 ghost use Rattle.demands.specs.Runs.{run};
 ghost use Rattle.targets.specs.Target.{TargetOf};
-ghost use Rattle.assured.specs.Script.{request, requests, callsLeft, Ends, diskOf};
+ghost use Rattle.assured.specs.Script.{request, askedAt, requests, callsLeft, Ends, diskOf};
 ghost use Rattle.assured.specs.Demands.{logIn, writesAnswer, targetSet, Told, Framed, LoggedIn, ReadsBack};
 use model::Answer;
 use model::Asked;
@@ -42,9 +42,9 @@ pub struct ReadBack {
     pub answer: Answer,
 }
 
-// Demand 1, of `call` itself: it is refused, by the first row of the table that holds and with nothing changed, or carried out. And of
-// demand 3 what it says of one call: no byte changes but in the entries of the files that it names, in an empty entry that became
-// theirs, and in the one record that it wrote.
+// Demand 1, of the call that is exported: it is refused, by the first row of the table that holds and with nothing changed, or carried
+// out. And of demand 3 what it says of one call: no byte changes but in the entries of the files that it names, in an empty entry that
+// became theirs, and in the one record that it wrote.
 pub fn one_call(
     asked: Asked,
     image: &mut [u8],
@@ -84,14 +84,18 @@ fn wrote(number: u8, answer: Answer) -> bool
     false
 }
 
-// A number of a script as a byte.
-fn low_byte(x: usize) -> u8
-    ensures { λ r. ⌜ r ≡ x % 256 ⌝ }
+// What a call of a script asks for: its first two numbers, as bytes. The call is there whole: the loop's test.
+fn asked_at(script: &[usize], at: usize) -> Asked
+    requires { ⌜ at + 4 ≤ length (now script) ⌝ }
+    ensures { λ r. ⌜ r ≡ askedAt (now (script .entry)) at ⌝ }
 {
-    (x % 256) as u8
+    Asked {
+        number: (script[at] % 256) as u8,
+        argument: (script[at + 1] % 256) as u8,
+    }
 }
 
-// Where the next n bytes end, or the bytes themselves if they are fewer.
+// Where the next n bytes end, or all of them if fewer are left. A part starts within its slice: the loop's invariant.
 fn ends_at(bytes: &[u8], from: usize, n: usize) -> usize
     requires { ⌜ from ≤ length (now bytes) ⌝ }
     ensures { λ r. ⌜ Ends (now (bytes .entry)) from n r ⌝ }
@@ -102,7 +106,8 @@ fn ends_at(bytes: &[u8], from: usize, n: usize) -> usize
     bytes.len()
 }
 
-// The next call of a script: those that are left, made on what it leaves, come to what they and it came to before.
+// The next call of a script: those that are left, made on what it leaves, come to what they and it came to before. What it requires is the
+// loop's test and invariant.
 fn make_call(
     script: &[usize],
     at: usize,
@@ -122,10 +127,7 @@ fn make_call(
     let fcb_to = ends_at(fcbs, fcb_from, script[at + 2]);
     let from = p.buffers;
     let to = ends_at(buffers, from, script[at + 3]);
-    let asked = Asked {
-        number: low_byte(script[at]),
-        argument: low_byte(script[at + 1]),
-    };
+    let asked = asked_at(script, at);
     let r = bdos::call(
         asked,
         image,
@@ -182,7 +184,7 @@ pub fn log_in_and_run(
 ) -> Ran
     ensures { λ r. ⌜ LoggedIn (diskOf (now (image .entry)) (now (map .entry)) session) (logIn argument (now (fcb .entry)) (now (buffer .entry)))
         (requests (now (script .entry)) (now (fcbs .entry)) (now (buffers .entry)))
-        (r .accepted) (diskOf (now (image .exit)) (now (map .exit)) (r .session)) ⌝ }
+        (r .accepted) (diskOf (now (image .exit)) (now (map .exit)) (r .session)) (now (fcb .exit)) (now (buffer .exit)) ⌝ }
 {
     let asked = Asked {
         number: 13,
@@ -216,7 +218,7 @@ fn target_of(number: u8, fcb: &[u8]) -> Target
     }
 }
 
-// Call 33 through an FCB, r0 to r2 set to the record of a target.
+// Call 33 through an FCB, r0 to r2 set to the record of a target. Its FCB and its target are those of a write that was accepted.
 fn read_again(
     target: Target,
     image: &mut [u8],

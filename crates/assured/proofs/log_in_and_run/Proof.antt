@@ -1,12 +1,13 @@
 -- `assured::log_in_and_run` meets its contract: the log-in's answer says whether it was accepted, and the calls are made on what it left.
-use mathlib.Core.Path.{refl, _∙_}
+use mathlib.Core.Path.{refl, ap, _∙_}
 use mathlib.Core.Bool.{true, false}
 use borrow.Author.Needs.{needs}
 use borrow.Author.Tests.{not-true, not-false}
+use Rattle.model.specs.Lent.{Outcome}
 use Rattle.effects.specs.Book.{acceptedAnswer}
 use Rattle.demands.specs.Runs.{Request, Disk}
 use Rattle.assured.specs.Script.{diskOf}
-use Rattle.assured.specs.Demands.{logIn, met-after, met-says, met-run, login-refused, logged-in}
+use Rattle.assured.specs.Demands.{logIn, met, met-after, met-says, met-run, login-refused, logged-in}
 use Rattle.assured.proofs.log_in_and_run.Statement.{statement}
 use Rattle.assured.proofs.log_in_and_run.Tie as tie
 
@@ -39,8 +40,9 @@ returns : tie.Need-returns
 returns c =
     let s = c .before .before .before .before .before .before .before .before .before .before .before .before .before .before .before .before .before .before .before .before .before .before .before in
     let meets = c .before .before .before .before .before .before .before .before .before .before .before .call .ensures in
+    let same = met (given s) (asks s) _ _ _ meets refl refl in
     login-refused refl (met-says (given s) (asks s) _ _ _ meets refl refl acceptedAnswer _ false (c .before .accepted .ensures) (not-true _ (c .if1 .taken)))
-    (met-after (given s) (asks s) _ _ _ meets refl refl)
+    (met-after (given s) (asks s) _ _ _ meets refl refl) (ap (λ (x : Outcome). x .lent .fcb) same) (ap (λ (x : Outcome). x .lent .buffer) same)
 
 run-calls-requires : tie.Need-run-calls-requires
 run-calls-requires c κs = search needs
@@ -70,6 +72,7 @@ returns-2 c =
     logged-in (given s) (asks s) refl _ _
     (met-says (given s) (asks s) _ _ _ meets refl refl acceptedAnswer _ true (c .before .before .before .before .before .before .before .before .before .before .before .before .before .before .accepted .ensures) (not-false _ (c .before .before .before .before .before .before .before .before .before .before .before .before .before .if1 .left)))
     (met-run (given s) (asks s) _ _ _ meets refl refl _ _ (c .before .before .before .before .before .before .before .before .run-calls .ensures))
+    _ (met (given s) (asks s) _ _ _ meets refl refl)
 
 pub log-in-and-run-spec : {M : Type 1} → statement M
 log-in-and-run-spec =

@@ -1,6 +1,7 @@
 -- `assured::make_call` meets its contract: the call is made of the script's numbers and of the next parts of the two slices.
 use borrow.Author.Needs.{needs}
-use Rattle.assured.specs.Script.{calls-next}
+use Rattle.model.specs.Lent.{Lent}
+use Rattle.assured.specs.Script.{length-mended, calls-next}
 use Rattle.assured.proofs.make_call.Statement.{statement}
 use Rattle.assured.proofs.make_call.Tie as tie
 
@@ -28,26 +29,8 @@ shared-slice-read-ends-at-2 c = search needs
 ends-at-requires-2 : tie.Need-ends-at-requires-2
 ends-at-requires-2 c κs = search needs
 
-mul-low-byte : tie.Need-mul-low-byte
-mul-low-byte c = search needs
-
-shared-slice-read-low-byte : tie.Need-shared-slice-read-low-byte
-shared-slice-read-low-byte c = search needs
-
-low-byte-requires : tie.Need-low-byte-requires
-low-byte-requires c κs = search needs
-
-add-low-byte : tie.Need-add-low-byte
-add-low-byte c = search needs
-
-mul-low-byte-2 : tie.Need-mul-low-byte-2
-mul-low-byte-2 c = search needs
-
-shared-slice-read-low-byte-2 : tie.Need-shared-slice-read-low-byte-2
-shared-slice-read-low-byte-2 c = search needs
-
-low-byte-requires-2 : tie.Need-low-byte-requires-2
-low-byte-requires-2 c κs = search needs
+asked-at-requires : tie.Need-asked-at-requires
+asked-at-requires c κs = search needs
 
 sub-call : tie.Need-sub-call
 sub-call c = search needs
@@ -71,10 +54,10 @@ call-requires : tie.Need-call-requires
 call-requires c κs = search needs
 
 same-length : tie.Need-same-length
-same-length c = search needs
+same-length c = let m = c .before .before .before .before .before .before .before .before .before .call in length-mended (λ (l : Lent). l .fcb) _ _ (m .ensures) _ _ _ _ (c .before .before .before .before .before .before .before .before .before .before .before .before .before .before .before .before .before .before .ends-at .ensures) (m .kept .1 .1 .1 .0)
 
 same-length-2 : tie.Need-same-length-2
-same-length-2 c = search needs
+same-length-2 c = let m = c .before .before .before .before .before .before .before .before .before .call in length-mended (λ (l : Lent). l .buffer) _ _ (m .ensures) _ _ _ _ (c .before .before .before .before .before .before .before .before .before .before .before .before .before .before .before .ends-at2 .ensures) (m .kept .1 .1 .1 .1 .0)
 
 same-length-3 : tie.Need-same-length-3
 same-length-3 c = c .before .before .before .before .before .before .before .before .before .call .kept .1 .0
@@ -84,13 +67,13 @@ same-length-4 c = c .before .before .before .before .before .before .before .bef
 
 returns : tie.Need-returns
 returns c =
-    let s = c .before .before .before .before .before .before .before .before .before .before .before .before .before .before .before .before .before .before .before .before .before .before .before .before .before .before .before .before .before .before in
+    let s = c .before .before .before .before .before .before .before .before .before .before .before .before .before .before .before .before .before .before .before .before .before .before .before .before .before .before .before in
     let a = s .args in
-    let f = c .before .before .before .before .before .before .before .before .before .before .before .before .before .before .before .before .before .before .before .before .before .ends-at .ensures in
-    let g = c .before .before .before .before .before .before .before .before .before .before .before .before .before .before .before .before .before .before .ends-at2 .ensures in
+    let f = c .before .before .before .before .before .before .before .before .before .before .before .before .before .before .before .before .before .before .ends-at .ensures in
+    let g = c .before .before .before .before .before .before .before .before .before .before .before .before .before .before .before .ends-at2 .ensures in
     let m = c .before .before .before .before .before .before .before .before .before .call in (
-      calls-next (a .script .now) (a .at) (a .fcbs .now) (a .buffers .now) (a .image .now) (a .map .now) (a .p) (s .pre .0) _ _ _ _ f g
-          (c .before .before .before .before .before .before .before .before .before .before .before .before .before .before .before .before .low-byte .ensures) (c .before .before .before .before .before .before .before .before .before .before .before .before .before .before .low-byte2 .ensures) _ (m .ensures) (m .kept .1 .1 .1 .0) (m .kept .1 .1 .1 .1 .0),
+      calls-next (a .script .now) (a .at) (a .fcbs .now) (a .buffers .now) (a .image .now) (a .map .now) (a .p) (s .pre .0) _ _ f g
+          _ (c .before .before .before .before .before .before .before .before .before .before .before .before .before .before .asked-at .ensures) _ (m .ensures) (m .kept .1 .1 .1 .0) (m .kept .1 .1 .1 .1 .0),
       f .high,
       g .high,
     )
@@ -107,13 +90,7 @@ make-call-spec =
     mul-ends-at-2
     shared-slice-read-ends-at-2
     ends-at-requires-2
-    mul-low-byte
-    shared-slice-read-low-byte
-    low-byte-requires
-    add-low-byte
-    mul-low-byte-2
-    shared-slice-read-low-byte-2
-    low-byte-requires-2
+    asked-at-requires
     sub-call
     part-call-start
     part-call-end
