@@ -10,26 +10,22 @@ use Rattle.dispatch.proofs.own_call.Statement.{statement}
 use Rattle.dispatch.proofs.own_call.Tie as tie
 
 quiet-call-requires : tie.Need-quiet-call-requires
-quiet-call-requires c κs = let p = c .before .before .before .before .before .before .before .before .before .before .before .pre in (sym (c .before .before .before .before .before .before .before .before .before .before .before .pre .0) ∙ c .before .before .before .before .enum-told .given .1, p .3 .fits, p .4)
+quiet-call-requires c κs =
+    let t = c .before .before .before .before in let p = t .before .before .before .before .before .before .before .pre in (sym (t .before .before .before .before .before .before .before .pre .0) ∙ t .enum-told .given .1, p .3 .fits, p .4)
 
 search-call-requires : tie.Need-search-call-requires
-search-call-requires c κs = let p = c .before .before .before .before .before .before .before .before .before .before .before .pre in (sym (c .before .before .before .before .before .before .before .before .before .before .before .pre .0) ∙ c .before .before .before .before .enum-told2 .given .1, p .3 .fits)
+search-call-requires c κs =
+    let t = c .before .before .before .before in let p = t .before .before .before .before .before .before .before .pre in (sym (t .before .before .before .before .before .before .before .pre .0) ∙ t .enum-told2 .given .1, p .3 .fits)
 
 delete-file-requires : tie.Need-delete-file-requires
-delete-file-requires c κs = let p = c .before .before .before .before .before .before .before .before .before .before .pre in let f = p .3 .fits in (f .image-long, f .map-long, f .fcb-long, f .user-low, p .3 .map-right (p .2))
+delete-file-requires c κs =
+    let p = c .before .before .before .before .before .before .before .before .before .before .pre in let f = p .3 .fits in
+    (f .image-long, f .map-long, f .fcb-long, f .user-low, p .3 .map-right (p .2))
 
 record-call-requires : tie.Need-record-call-requires
 record-call-requires c κs =
-    let p = c .before .before .before .before .before .before .before .before .before .before .pre in let f = p .3 .fits in let k = c .before .before .before .before .before .before .before .before .before .before .args .kind in (
-      f .image-long,
-      f .map-long,
-      f .fcb-long,
-      f .buffer-long,
-      f .user-low,
-      p .3 .image-right,
-      rw (← p .0) (moves-record k (c .before .before .before .before .match .keys9)),
-      p .4,
-    )
+    let m = c .before .before .before .before in let s = m .before .before .before .before .before .before in let p = s .pre in let f = p .3 .fits in
+    (f .image-long, f .map-long, f .fcb-long, f .buffer-long, f .user-low, p .3 .image-right, rw (← p .0) (moves-record (s .args .kind) (m .match .keys9)), p .4)
 
 returns : tie.Need-returns
 returns c = c .before .before .before .before .quiet-call .ensures
@@ -38,38 +34,41 @@ returns-2 : tie.Need-returns-2
 returns-2 c = c .before .before .search-call .ensures
 
 returns-3 : tie.Need-returns-3
-returns-3 c = c .user-number .ensures _ _ _ _ ∙ own-at eightInch _ _ _ 32 (only (of-kind User _ refl (sym (c .before .before .before .before .before .before .before .before .pre .0) ∙ c .before .enum-told3 .given .1)))
+returns-3 c =
+    let t = c .before in
+    c .user-number .ensures _ _ _ _ ∙ own-at eightInch _ _ _ 32 (only (of-kind User _ refl (sym (t .before .before .before .before .before .before .before .pre .0) ∙ t .enum-told3 .given .1)))
 
 returns-4 : tie.Need-returns-4
 returns-4 c =
-    at-number _ _ _ (only (left (of-kind Settle _ refl (sym (c .before .before .before .before .before .before .before .before .before .before .before .pre .0) ∙ c .before .before .before .before .enum-told4 .given .1)) (c .before .before .before .before .before .before .before .before .before .before .before .pre .2)))
-    (λ a. c .before .before .free-blocks .ensures a _ _ _)
+    let f = c .before .before in let t = f .before .before in let p = t .before .before .before .before .before .before .before .pre in
+    at-number _ _ _ (only (left (of-kind Settle _ refl (sym (t .before .before .before .before .before .before .before .pre .0) ∙ t .enum-told4 .given .1)) (p .2)))
+    (λ a. f .free-blocks .ensures a _ _ _)
 
 returns-5 : tie.Need-returns-5
 returns-5 c =
-    at-number _ _ _ (only (of-kind Close _ refl (sym (c .before .before .before .before .before .before .before .before .before .before .before .before .before .before .before .before .before .pre .0) ∙ c .before .before .before .before .before .before .before .before .before .before .enum-told5 .given .1)))
-    (λ a. c .before .before .before .before .before .before .close-file .ensures a _)
+    let f = c .before .before .before .before .before .before in let t = f .before .before .before .before in
+    at-number _ _ _ (only (of-kind Close _ refl (sym (t .before .before .before .before .before .before .before .pre .0) ∙ t .enum-told5 .given .1))) (λ a. f .close-file .ensures a _)
 
 returns-6 : tie.Need-returns-6
 returns-6 c =
-    at-number _ _ _ (only (of-kind Delete _ refl (sym (c .before .before .before .before .before .before .before .before .before .before .before .before .before .before .before .pre .0) ∙ c .before .before .before .before .before .before .before .before .enum-told6 .given .1)))
-    (λ a. c .before .before .before .before .delete-file .ensures a _)
+    let f = c .before .before .before .before in let t = f .before .before .before .before in
+    at-number _ _ _ (only (of-kind Delete _ refl (sym (t .before .before .before .before .before .before .before .pre .0) ∙ t .enum-told6 .given .1))) (λ a. f .delete-file .ensures a _)
 
 returns-7 : tie.Need-returns-7
 returns-7 c =
-    at-number _ _ _ (only (of-kind Create _ refl (sym (c .before .before .before .before .before .before .before .before .before .before .before .before .before .before .pre .0) ∙ c .before .before .before .before .before .before .before .enum-told7 .given .1)))
-    (λ a. c .before .before .before .before .make-file .ensures a _ _)
+    let f = c .before .before .before .before in let t = f .before .before .before in
+    at-number _ _ _ (only (of-kind Create _ refl (sym (t .before .before .before .before .before .before .before .pre .0) ∙ t .enum-told7 .given .1))) (λ a. f .make-file .ensures a _ _)
 
 returns-8 : tie.Need-returns-8
 returns-8 c =
-    at-number _ _ _ (only (of-kind Rename _ refl (sym (c .before .before .before .before .before .before .before .before .before .before .before .before .pre .0) ∙ c .before .before .before .before .before .enum-told8 .given .1)))
-    (λ a. c .before .before .rename-file .ensures a _ _)
+    let f = c .before .before in let t = f .before .before .before in
+    at-number _ _ _ (only (of-kind Rename _ refl (sym (t .before .before .before .before .before .before .before .pre .0) ∙ t .enum-told8 .given .1))) (λ a. f .rename-file .ensures a _ _)
 
 returns-9 : tie.Need-returns-9
 returns-9 c = c .before .before .before .before .before .before .before .before .record-call .ensures
 
 returns-10 : tie.Need-returns-10
-returns-10 c = not-unlisted _ (c .before .before .before .before .before .before .before .before .pre .1) (sym (c .before .before .before .before .before .before .before .before .pre .0) ∙ c .before .enum-told9 .given .1)
+returns-10 c = let t = c .before in not-unlisted _ (t .before .before .before .before .before .before .before .pre .1) (sym (t .before .before .before .before .before .before .before .pre .0) ∙ t .enum-told9 .given .1)
 
 pub own-call-spec : {M : Type 1} → statement M
 own-call-spec =

@@ -17,8 +17,8 @@ returns-3 c = at-number _ _ _ (c .before .before .before .before .if3 .taken) (�
 
 returns-4 : tie.Need-returns-4
 returns-4 c =
-    let some = of-kind Quiet _ refl (c .before .before .before .before .before .before .before .before .before .before .before .before .pre .0) in
-    let last = only (left (left (left some (c .before .before .before .before .before .before .if1 .left)) (c .before .before .before .before .before .if2 .left)) (c .before .before .before .before .if3 .left)) in
+    let i = c .before .before .before .before in let some = of-kind Quiet _ refl (i .before .before .before .before .before .before .before .before .pre .0) in
+    let last = only (left (left (left some (i .before .before .if1 .left)) (i .before .if2 .left)) (i .if3 .left)) in
     at-number _ _ _ last (λ a. c .before .before .free-space .ensures a _ _)
 
 pub quiet-call-spec : {M : Type 1} → statement M

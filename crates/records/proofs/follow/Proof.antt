@@ -14,7 +14,7 @@ use Rattle.records.proofs.follow.Tie as tie
 
 transfer-requires : tie.Need-transfer-requires
 transfer-requires c κs =
-    let s = c .before .before .before .before .before .before .before .before .before .before .before .before .before .before .before .before .before .before in let a = s .args in let came = c .before .before .before .before .before .before .before .before .before .before .arrive in let q = came .ensures [] in
+    let d = c .before .before .before .before .before .before .before .before .before .before in let s = d .before .before .before .before .before .before .before .before in let a = s .args in let came = d .arrive in let q = came .ensures [] in
     let o : extentOf (came .last .1 .1 .0) ≡ extentOf (entryAt eightInch (came .last .0) (entryOf (a .plan))) =
     ap (λ (l : Lent). extentOf (l .fcb)) q
     ∙ arrived-own eight-sound (a .target .extent) (lend (a .image .now) (a .map .now) (a .fcb .now) []) (a .plan) (s .pre .0) (s .pre .2) (s .pre .7) (s .pre .8)
@@ -23,9 +23,8 @@ transfer-requires c κs =
 
 returns : tie.Need-returns
 returns c =
-    let a = c .before .before .before .before .before .before .before .before .before .before .before .before .before .before .before .before .before .before .before .before .before .before .before .before .before .before .before .args in
-    c .before .before .before .before .before .before .before .before .transfer .ensures
-    ∙ ap (transferred eightInch (same (kindOf (a .number)) Write) (a .plan) (a .target)) (c .before .before .before .before .before .before .before .before .before .before .before .before .before .before .before .before .before .before .before .arrive .ensures (a .buffer .now))
+    let t = c .before .before .before .before .before .before .before .before in let d = t .before .before .before .before .before .before .before .before .before .before .before in let a = d .before .before .before .before .before .before .before .before .args in
+    t .transfer .ensures ∙ ap (transferred eightInch (same (kindOf (a .number)) Write) (a .plan) (a .target)) (d .arrive .ensures (a .buffer .now))
 
 pub follow-spec : {M : Type 1} → statement M
 follow-spec =

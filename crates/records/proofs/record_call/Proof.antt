@@ -15,7 +15,7 @@ use Rattle.records.proofs.record_call.Tie as tie
 -- the plan is what the ruling says, and names entries and a block of the disk
 follows : (c : tie.After-known-told2) → let a = c .before .before .before .before .before .before .before .before .before .before .before .before .before .before .args in
     ruling eightInch (a .asked .number) (a .session .user) (lend (a .image .now) (a .map .now) (a .fcb .now) (a .buffer .now)) ≡ Follow (c .before .plan .given .0 .0)
-follows c = sym (c .before .before .before .rule .ensures (c .before .before .before .before .before .before .before .before .before .before .before .before .before .before .args .buffer .now)) ∙ c .before .plan .given .1
+follows c = let d = c .before .before .before in sym (d .rule .ensures (d .before .before .before .before .before .before .before .before .before .before .before .args .buffer .now)) ∙ c .before .plan .given .1
 
 sure : (c : tie.After-known-told2) → let a = c .before .before .before .before .before .before .before .before .before .before .before .before .before .before .args in
     Sure eightInch (a .asked .number) (a .image .now) (a .fcb .now) (c .before .plan .given .0 .0)
@@ -26,17 +26,9 @@ sure c =
 
 follow-requires : tie.Need-follow-requires
 follow-requires c κs =
-    let s = c .before .before .before .before .before .before .before .before .before .before .before .before .before .before .before .before .before .before in let t = c .before .before .before .before .before .before .before .before .before .before .before .target-of in let w = sure (c .before .before .before .before) in (
-      s .pre .0,
-      s .pre .1,
-      s .pre .2,
-      s .pre .3,
-      rw (t .ensures .extent) (w .extent),
-      rw (t .ensures .at) (w .at),
-      rw (t .ensures .after) (w .after),
-      w .on-disk,
-      rw (← t .ensures .extent) at (w .own),
-    )
+    let d = c .before .before .before .before in let s = d .before .before .before .before .before .before .before .before .before .before .before .before .before .before in let t = d .before .before .before .before .before .before .before .target-of in let w = sure d in
+    let out = rw (← t .ensures .extent) at (w .own) in
+    (s .pre .0, s .pre .1, s .pre .2, s .pre .3, rw (t .ensures .extent) (w .extent), rw (t .ensures .at) (w .at), rw (t .ensures .after) (w .after), w .on-disk, out)
 
 returns : tie.Need-returns
 returns c =
@@ -46,10 +38,10 @@ returns c =
 
 returns-2 : tie.Need-returns-2
 returns-2 c =
-    let s = c .before .before .before .before .before .before .before .before .before .before .before .before .before .before .before .before .before .before .before .before .before .before .before .before .before .before .before .before in let a = s .args in let t = c .before .before .before .before .before .before .before .before .before .before .before .before .before .before .before .before .before .before .before .before .before .target-of in let f = c .before .before .before .before .before .before .before .before .before .follow in let left = f .last .1 in
+    let f = c .before .before .before .before .before .before .before .before .before in let d = f .before .before .before .before .before in let t = d .before .before .before .before .before .before .before .target-of in let s = d .before .before .before .before .before .before .before .before .before .before .before .before .before .before in let a = s .args in
+    let left = f .follow .last .1 in
     record-carried eightInch (a .asked) (lend (a .image .now) (a .map .now) (a .fcb .now) (a .buffer .now)) (a .session) (c .done .result) (s .pre .6)
-    (c .before .before .before .before .before .before .before .before .before .before .before .before .before .before .before .plan .given .0 .0) (t .result) (lend (left .0) (left .1 .0) (left .1 .1 .0) (left .1 .1 .1 .0))
-    (follows (c .before .before .before .before .before .before .before .before .before .before .before .before .before .before)) (t .ensures) (c .done .ensures) (f .ensures)
+    (d .before .plan .given .0 .0) (t .result) (lend (left .0) (left .1 .0) (left .1 .1 .0) (left .1 .1 .1 .0)) (follows d) (t .ensures) (c .done .ensures) (f .follow .ensures)
 
 pub record-call-spec : {M : Type 1} → statement M
 record-call-spec =
