@@ -1,9 +1,9 @@
 // The calls as code tells them apart: `model`'s list once more, by each of its columns. A match whose arms are single numbers and plain
 // answers is one look-up.
 ghost use mathlib.Core.Path.{_≡_};
-ghost use mathlib.Core.Bool.{true, cond, not};
-ghost use Rattle.model.specs.declared.Kind.the-variants.{Unlisted, Read, Write};
-ghost use Rattle.model.specs.Kinds.{kindOf, usesFcb, isRandom, same};
+ghost use mathlib.Core.Bool.{not};
+ghost use Rattle.model.specs.declared.Kind.the-variants.{Unlisted, Write};
+ghost use Rattle.model.specs.Kinds.{kindOf, usesFcb, isRandom, same, ofRecord};
 use model::Kind;
 
 // The kind of a number; one that is not there is of no call.
@@ -87,7 +87,7 @@ pub fn writes(number: u8) -> bool
 
 // Whether a call moves a record.
 pub fn moves_record(number: u8) -> bool
-    ensures { λ r. ⌜ r ≡ cond (same (kindOf number) Read) true (same (kindOf number) Write) ⌝ }
+    ensures { λ r. ⌜ r ≡ ofRecord (kindOf number) ⌝ }
 {
     match kind_of(number) {
         Kind::Read => true,

@@ -18,13 +18,13 @@ use Rattle.model.specs.declared.Kind.{Kind}
 use Rattle.model.specs.declared.Kind.the-variants.{Unlisted, Quiet, Search, User, Settle, Close, Delete, Create, Rename, Read, Write}
 use Rattle.model.specs.Codes.{aOf, hOf}
 use Rattle.model.specs.Lent.{Lent, Outcome, answerOf}
-use Rattle.model.specs.Kinds.{oneOf, kindOf}
+use Rattle.model.specs.Kinds.{oneOf, kindOf, ofRecord}
 use Rattle.model.specs.Table.{callRows}
 use Rattle.model.specs.Step.{refusedSession, told, step}
 use Rattle.table.specs.Carried.{AnswersEntry, Done}
 use Rattle.table.specs.Refuse.{row-of, Refuses, unlisted, parameter, disk, own}
 use Rattle.table.specs.Total.{RefusedBy, CarriedOut, total}
-use Rattle.effects.specs.Book.{ofRecord, acceptedAnswer}
+use Rattle.effects.specs.Book.{acceptedAnswer}
 
 -- ---- a code that the table gives for a call is no acceptance
 -- every call of the list is of records

@@ -13,7 +13,7 @@ use Rattle.model.specs.declared.Session.{Session}
 use Rattle.model.specs.declared.Kind.{Kind}
 use Rattle.model.specs.declared.Kind.the-variants.{Unlisted, Quiet, Search, User, Settle, Close, Delete, Create, Rename, Read, Write}
 use Rattle.model.proofs.Kind.{the-type}
-use Rattle.model.specs.Kinds.{Listed, calls, kindOf, kindNumber, same, numbersIn}
+use Rattle.model.specs.Kinds.{Listed, calls, kindOf, kindNumber, same, numbersIn, ofRecord}
 use Rattle.model.specs.Lent.{Lent, Outcome}
 use Rattle.table.specs.First.{_&_}
 use Rattle.table.specs.Own.{AtEach, at-kind, calling}
@@ -61,7 +61,7 @@ tag-is Rename = refl
 tag-is Read = refl
 tag-is Write = refl
 
-pub moves-record : (k : Kind) → (tagOf the-type k ≡ 9) ⊎ (tagOf the-type k ≡ 10) → cond (same k Read) true (same k Write) ≡ true
+pub moves-record : (k : Kind) → (tagOf the-type k ≡ 9) ⊎ (tagOf the-type k ≡ 10) → ofRecord k ≡ true
 moves-record k (inl q) = rw (eq-eqb (kindNumber k) 9 (sym (tag-is k) ∙ q))
 moves-record k (inr q) =
     let w : same k Write ≡ true = eq-eqb (kindNumber k) 10 (sym (tag-is k) ∙ q) in split (bool-cases (same k Read)) (λ t. rw t) (λ f. rw (f, w))

@@ -16,7 +16,7 @@ use Rattle.model.specs.declared.Answer.{Answer}
 use Rattle.model.specs.Lent.{Lent, rowsOf, Outcome}
 use Rattle.model.specs.Closing.{takesSlot}
 use Rattle.model.specs.Target.{targetSlot, stays, blockThere}
-use Rattle.model.specs.Kinds.{kindOf, same}
+use Rattle.model.specs.Kinds.{kindOf, same, ofRecord}
 use Rattle.model.specs.declared.Kind.{Kind}
 use Rattle.model.specs.declared.Kind.the-variants.{Settle, Close, Delete, Read, Write}
 
@@ -44,9 +44,6 @@ unfoldable pub enteredFor : ℕ → ℕ → ℕ → Book → Book
 enteredFor b e j u c = cond (eqb c b) (pendingFor e j) (u c)
 
 -- ---- the answer of an accepted call: H is 0, and A is 0 for the record calls, not 255 for the others
-abbrev pub ofRecord : Kind → Bool
-ofRecord k = cond (same k Read) true (same k Write)
-
 unfoldable pub acceptedAnswer : ℕ → Answer → Bool
 acceptedAnswer n a = eqb (a .h) 0 and cond (ofRecord (kindOf n)) (eqb (a .a) 0) (not (eqb (a .a) 255))
 

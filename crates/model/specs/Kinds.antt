@@ -81,6 +81,10 @@ kindNumber Write = 10
 abbrev pub same : Kind → Kind → Bool
 same k j = eqb (kindNumber k) (kindNumber j)
 
+-- the record calls
+abbrev pub ofRecord : Kind → Bool
+ofRecord k = cond (same k Read) true (same k Write)
+
 -- there is a call of this number
 unfoldable pub isCall : ℕ → Bool
 isCall n = not (same (kindOf n) Unlisted)

@@ -24,7 +24,7 @@ use Rattle.model.specs.declared.Plan.{Plan}
 use Rattle.model.specs.declared.Plan.the-variants.{Stay, Move, Make}
 use Rattle.model.specs.Lent.{Lent, answerOf, ended}
 use Rattle.model.specs.Target.{targetSlot, moved, made, haveRead, haveWritten, targetExtent}
-use Rattle.model.specs.Kinds.{kindOf, same}
+use Rattle.model.specs.Kinds.{kindOf, same, ofRecord}
 use Rattle.model.specs.declared.Kind.the-variants.{Read, Write}
 use Rattle.model.specs.Calls.{done, readAt, reading, writtenAt, writing}
 use Rattle.model.specs.Step.{refusedSession}
@@ -109,7 +109,7 @@ module _ (G : Geometry) (s : Session) (l : Lent) (n : ℕ) where
 
 -- ---- a record call: refused with nothing changed, or the plan carried out
 module _ (G : Geometry) (asked : Asked) (l : Lent) (s : Session) (r : Answer)
-    (which : cond (same (kindOf (asked .number)) Read) true (same (kindOf (asked .number)) Write) ≡ true) where
+    (which : ofRecord (kindOf (asked .number)) ≡ true) where
   pub record-refused : (code : Code) → ruling G (asked .number) (s .user) l ≡ Refuse code → r ≡ answerOf code (refusedSession code s)
       → record { answer = r; lent = l } ≡ ownStep G asked l s
   record-refused code q h = rw (own-record G asked l s which, q, h)

@@ -10,8 +10,8 @@ ghost use Rattle.format.specs.Fcb.{fcbBytes};
 ghost use Rattle.model.specs.Lent.{lend, outcome};
 ghost use Rattle.model.specs.Closing.{closedImage};
 ghost use Rattle.model.specs.Target.{moved, made};
-ghost use Rattle.model.specs.Kinds.{kindOf, same};
-ghost use Rattle.model.specs.declared.Kind.the-variants.{Read, Write};
+ghost use Rattle.model.specs.Kinds.{kindOf, same, ofRecord};
+ghost use Rattle.model.specs.declared.Kind.the-variants.{Write};
 ghost use Rattle.chains.specs.Chain.{Indexed};
 ghost use Rattle.table.specs.OwnStep.{ownStep};
 ghost use Rattle.rulings.specs.Bounds.{OnDisk, OwnExtent};
@@ -151,7 +151,7 @@ pub fn record_call(
 ) -> Answer
     requires { ⌜ (length (now image) ≡ imageBytes eightInch) × (length (now map) ≡ eightInch .blocks) × (length (now fcb) ≡ fcbBytes)
         × (length (now buffer) ≡ recordBytes) × (session .user ≤ 15) × (consistent eightInch (now image) ≡ true)
-        × (cond (same (kindOf (asked .number)) Read) true (same (kindOf (asked .number)) Write) ≡ true)
+        × (ofRecord (kindOf (asked .number)) ≡ true)
         × Indexed eightInch (entryAt eightInch (now image)) (now chain) ⌝ }
     ensures { λ r. ⌜ outcome r (now (image .exit)) (now (map .exit)) (now (fcb .exit)) (now (buffer .exit))
         ≡ ownStep eightInch asked (lend (now (image .entry)) (now (map .entry)) (now (fcb .entry)) (now (buffer .entry))) session ⌝ }

@@ -20,7 +20,7 @@ use Rattle.model.specs.declared.Verdict.the-variants.{Passed, Refused}
 use Rattle.model.specs.declared.Plan.{Plan}
 use Rattle.model.specs.Lent.{Lent, Outcome}
 use Rattle.model.specs.Target.{targetExtent, plan}
-use Rattle.model.specs.Kinds.{kindOf, isRandom, same}
+use Rattle.model.specs.Kinds.{kindOf, isRandom, same, ofRecord}
 use Rattle.model.specs.declared.Kind.the-variants.{Read, Write}
 use Rattle.model.specs.Table.{Row, when, firstRow, ownRows}
 use Rattle.model.specs.Calls.{reading, read, writing, written}
@@ -118,7 +118,7 @@ module _ (G : Geometry) (asked : Asked) (l : Lent) (s : Session) where
   unfolding ownStep ruling
   by-rows n r e = rw r (by-verdict n (firstRow (rulingRows G n (s .user) l)) (following n) e)
 
-  pub own-record : cond (same (kindOf (asked .number)) Read) true (same (kindOf (asked .number)) Write) ≡ true
+  pub own-record : ofRecord (kindOf (asked .number)) ≡ true
       → ownStep G asked l s ≡ ruled (following (asked .number)) (ruling G (asked .number) (s .user) l)
   unfolding read written effect kindOf
   own-record h =
