@@ -74,14 +74,15 @@ pub told : (asked : Asked) (l : Lent) (s : Session) (o : Outcome) → o ≡ step
 told asked l s o m =
     split (eight-total asked l s) (λ r. told-refused (r .0) (r .1) (m ∙ r .1 .is)) (λ c. told-carried c (m ∙ c .is))
 
--- ---- demand 3, byte by byte: each byte of the image stays, or lies in an entry of a file that the call names, in an empty entry that
--- became such a file's, or in the one record that the call wrote
-abbrev pub Framed : Asked → Lent → Session → Outcome → Type 0
-Framed asked l s o =
-    Frame eightInch (l .drive .image) (o .lent .drive .image) (names (asked .number) (s .user) (l .fcb)) (MayWrite eightInch (asked .number) l s o)
+-- ---- demand 3, byte by byte: each byte of the image stays, or lies in an entry of a file that the call names, in at most one empty entry,
+-- which became such a file's, or in the one record that the call wrote; image and map keep their lengths
+pub record Framed (asked : Asked) (l : Lent) (s : Session) (o : Outcome) : Type 0 where
+  pub frame : Frame eightInch (l .drive .image) (o .lent .drive .image) (names (asked .number) (s .user) (l .fcb)) (MayWrite eightInch (asked .number) l s o)
+  pub map-length : length (o .lent .drive .map) ≡ length (l .drive .map)
 
 pub framed : (asked : Asked) (l : Lent) (s : Session) (o : Outcome) → o ≡ step eightInch asked l s → Framed asked l s o
-framed asked l s o m = subst (Framed asked l s) (sym m) (step-ok eight-sound asked l s .frame)
+framed asked l s o m =
+    let ok = step-ok eight-sound asked l s in subst (Framed asked l s) (sym m) record { frame = ok .frame; map-length = ok .map-length }
 
 -- ---- an outcome that meets the contract: it is that of the request, and leaves the disk after it
 module _ (d : Disk) (q : Request) (o : Outcome) (f b : Bytes) (meets : o ≡ step eightInch (q .asked) (lend (d .drive .image) (d .drive .map) f b) (d .session))

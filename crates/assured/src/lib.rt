@@ -42,9 +42,9 @@ pub struct ReadBack {
     pub answer: Answer,
 }
 
-// Demand 1, of the call that is exported: it is refused, by the first row of the table that holds and with nothing changed, or carried
-// out. And of demand 3 what it says of one call: no byte changes but in the entries of the files that it names, in an empty entry that
-// became theirs, and in the one record that it wrote.
+// Demand 1, of the exported call itself: it is refused, by the first row of the table that holds and with nothing changed, or carried out.
+// And of demand 3 what it says of one call: no byte changes but in the entries of the files that it names, in at most one empty entry,
+// which became theirs, and in the one record that it wrote; image and map keep their lengths.
 pub fn one_call(
     asked: Asked,
     image: &mut [u8],

@@ -7,8 +7,7 @@ use Prim.Native.Nat.{ℕ, zero, suc, _*_, _%_, _≤_}
 use native.Mathlib.Omega.{arith}
 use lib.Dec.{eqb}
 use lib.ListN.{length, getD, replicate, length-replicate}
-use borrow.Author.Tests.{eq-eqb, not-true}
-use Rattle.lists.specs.Cases.{split, eq-or-ne, not-both}
+use Rattle.lists.specs.Cases.{split, eq-or-ne}
 use Rattle.lists.specs.Tests.{_and_}
 use Rattle.lists.specs.Splice.{splice}
 use Rattle.table.specs.Own.{ask, verdict-unlisted}
@@ -21,28 +20,26 @@ use Rattle.disk.specs.Eight.{eight-sound}
 use Rattle.model.specs.declared.Asked.{Asked}
 use Rattle.model.specs.declared.Session.{Session}
 use Rattle.model.specs.declared.Code.{Code}
-use Rattle.model.specs.declared.Code.the-variants.{Accepted, NotListed}
+use Rattle.model.specs.declared.Code.the-variants.{Accepted, NotListed, BadParameter, BadDisk, BadRecord, NotCurrent, Failed, BadName, SearchOver, ReadOnly, Exists, NotClosed, NoExtent, NoRecord, NoEntry, DiskFull}
 use Rattle.model.specs.declared.Kind.the-variants.{Write}
 use Rattle.model.specs.Codes.{aOf}
 use Rattle.model.specs.Target.{targetExtent, targetRecord}
 use Rattle.model.specs.Lent.{Lent, lend, Outcome, ends, ended}
 use Rattle.model.specs.Kinds.{isCall, kindOf, usesFcb}
-use Rattle.model.specs.Table.{callRows}
 use Rattle.model.specs.Calls.{createdAt, created, done}
 use Rattle.model.specs.Entering.{madeRow}
 use Rattle.model.specs.Step.{effect, step}
 use Rattle.fields.specs.Entering.{length-copied}
 use Rattle.fields.specs.Making.{length-madeRow}
 use Rattle.fields.specs.Erased.{ErasedDisk, all-erased, erased-consistent}
-use Rattle.table.specs.Refuse.{row-of, Refuses, unlisted, parameter, disk, own}
-use Rattle.table.specs.Total.{RefusedBy, total, total-refused}
+use Rattle.table.specs.Total.{total, total-refused}
 use Rattle.effects.specs.Book.{acceptedAnswer}
 use Rattle.demands.specs.Runs.{Request, Disk, lentTo, outcomeOf, left, accepts, after, run}
 use Rattle.demands.specs.Reading.{Gives, atRecord, recordNumber}
 use Rattle.demands.specs.ReadBack.{readFcb}
 use Rattle.demands.specs.Begins.{Asks}
 use Rattle.demands.specs.Eight.{eight-read-back, eight-begins}
-use Rattle.examples.specs.Erased.{start, blank, notes, fitting, login-step, space-step, erased-count}
+use Rattle.examples.specs.Erased.{start, blank, notes, fitting, space-step, erased-count}
 use Rattle.examples.specs.OneFile.{oneFile, fileFcb, length-fileFcb, InRange, Entry, entryOf, drive-low, fcb-name, one-long, one-consistent, one-count, one-sized}
 
 -- a build answers a call by its place in a run, counted from 0, and by what is asked, lent and handed on
@@ -109,9 +106,6 @@ abbrev pub onLogged : ℕ → Bytes → Outcome
 onLogged n img = step eightInch (ask n) (lentAfter img) (ended start)
 
 module _ (img : Bytes) (long : Long eightInch img) (right : consistent eightInch img ≡ true) where
-  pub logged-is : step eightInch (ask 13) (lend img notes fileFcb blank) start ≡ done 0 start (lentAfter img)
-  logged-is = login-step eightInch img long right notes fileFcb blank start (fitting fileFcb length-fileFcb) (ask 0)
-
   space-answers : (onLogged 46 img .answer .a ≡ 0) × (onLogged 46 img .answer .h ≡ 0)
   space-answers = let two = space-step eightInch img long right notes fileFcb blank start (fitting fileFcb length-fileFcb) (ask 0) in (rw two, rw two)
 
@@ -182,14 +176,29 @@ first-accepted img erased =
 abbrev pub RefusesAll : Build → Type 0
 RefusesAll b = (k : ℕ) (asked : Asked) (l : Lent) (s : Session) → b k asked l s .answer .a ≡ 0 → b k asked l s .answer .h ≡ 0 → ⊥
 
--- as no refusal of the table is: none has A = 0
-refusal-a : (asked : Asked) (l : Lent) (s : Session) (c : Code) → Refuses eightInch asked l s c → aOf c ≡ 0 → ⊥
-refusal-a asked l s c (unlisted e f) q = let z : aOf c ≡ 255 = ap aOf e in omega arith
-refusal-a asked l s c (parameter e f) q = let z : aOf c ≡ 255 = ap aOf e in omega arith
-refusal-a asked l s c (disk e f) q = let z : aOf c ≡ 255 = ap aOf e in omega arith
-refusal-a asked l s c (own g w d) q =
-    not-both (eqb (aOf c) 0) (eq-eqb _ _ q)
-    (not-true _ (row-of (λ (cs : List ℕ) (x : Code). not (eqb (aOf x) 0)) (asked .number) c (callRows eightInch asked l s) refl d .passes))
+-- so one whose every answer is a refusal's is such a build, whatever the codes: only an accepted call has A = 0
+refusal-a : (c : Code) → ((n : ℕ) → c ≡ Accepted n → ⊥) → aOf c ≡ 0 → ⊥
+refusal-a (Accepted n) h q = h n refl
+refusal-a NotListed h q = omega arith
+refusal-a BadParameter h q = omega arith
+refusal-a BadDisk h q = omega arith
+refusal-a BadRecord h q = omega arith
+refusal-a NotCurrent h q = omega arith
+refusal-a Failed h q = omega arith
+refusal-a BadName h q = omega arith
+refusal-a SearchOver h q = omega arith
+refusal-a ReadOnly h q = omega arith
+refusal-a Exists h q = omega arith
+refusal-a NotClosed h q = omega arith
+refusal-a NoExtent h q = omega arith
+refusal-a NoRecord h q = omega arith
+refusal-a NoEntry h q = omega arith
+refusal-a DiskFull h q = omega arith
+
+refusing : (b : Build) (code : ℕ → Asked → Lent → Session → Code)
+    → ((k : ℕ) (asked : Asked) (l : Lent) (s : Session) (n : ℕ) → code k asked l s ≡ Accepted n → ⊥)
+    → ((k : ℕ) (asked : Asked) (l : Lent) (s : Session) → b k asked l s .answer .a ≡ aOf (code k asked l s)) → RefusesAll b
+refusing b code never is k asked l s a h = refusal-a (code k asked l s) (never k asked l s) (sym (is k asked l s) ∙ a)
 
 -- one that answers a fixed A
 abbrev pub AnswersFixed : ℕ → Build → Type 0
@@ -313,13 +322,13 @@ pub record Useful (b : Build) : Type 0 where
   pub not-sizes : MakesUpSizes b → ⊥
 
 pub record Useless : Type 0 where
-  -- no refusal of the table has A = 0, so that one by refusals alone is such a build
-  pub refusals : (asked : Asked) (l : Lent) (s : Session) (c : Code) → RefusedBy eightInch asked l s c → aOf c ≡ 0 → ⊥
+  -- whose every answer is a refusal's
+  pub refusals : (b : Build) (code : ℕ → Asked → Lent → Session → Code)
+      → ((k : ℕ) (asked : Asked) (l : Lent) (s : Session) (n : ℕ) → code k asked l s ≡ Accepted n → ⊥)
+      → ((k : ℕ) (asked : Asked) (l : Lent) (s : Session) → b k asked l s .answer .a ≡ aOf (code k asked l s)) → RefusesAll b
   pub refuses-all : (b : Build) → RefusesAll b → Falls b
   pub fixed : (a : ℕ) (b : Build) → AnswersFixed a b → Falls b
   pub nothing : (b : Build) → DoesNothing b → Falls b
-  -- its first call, a log-in, is right, and leaves what its second is asked on
-  pub first-only-runs : (img : Bytes) → ErasedDisk eightInch img → firstOnly 0 (ask 13) (lend img notes fileFcb blank) start ≡ done 0 start (lentAfter img)
   pub first-only : Falls firstOnly
   pub first-only-write : Forgets firstOnly
   pub made-up-space : (b : Build) → MakesUpSpace b → Falls b
@@ -334,11 +343,10 @@ useless size is =
     let erased : ErasedDisk eightInch img = all-erased eight-sound size is in
     let stands : Falls right → ⊥ = λ f. f .differs refl in
     record {
-      refusals = λ asked l s c r. refusal-a asked l s c (r .source);
+      refusals = refusing;
       refuses-all = refuses-all-falls img erased;
       fixed = fixed-falls img erased;
       nothing = nothing-falls img erased;
-      first-only-runs = λ i e. logged-is i (e .long) (erased-consistent eightInch i e);
       first-only = first-only-falls img erased;
       first-only-write = first-only-forgets img erased;
       made-up-space = space-falls img erased;
