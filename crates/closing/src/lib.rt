@@ -120,7 +120,8 @@ fn record_blocks(map: &mut [u16], es: [u8; 16], fs: [u8; 16])
     }
 }
 
-// Whether a close leaves a row as it is, as most do that a move begins with: the FCB brings no block and no later end.
+// Whether a close is seen to leave a row as it is, as most do that a move begins with: the FCB's slots are the row's, and its end is no
+// later.
 fn close_keeps(row: &[u8], fcb: &[u8]) -> bool
     requires { ⌜ (entryBytes ≤ length (now row)) × (entryBytes ≤ length (now fcb)) ⌝ }
     ensures { λ r. ⌜ r ≡ closeKeeps (now (row .entry)) (now (fcb .entry)) ⌝ }

@@ -1,4 +1,4 @@
-// The way from a call's number to the call's own function, once the first three rows of the table have passed it.
+// The way from a call's kind to the call's own function, once the first three rows of the table have passed it.
 ghost use mathlib.Core.Path.{_≡_};
 ghost use mathlib.Core.Bool.{true};
 ghost use Rattle.format.specs.Diskette.{eightInch};

@@ -1,4 +1,4 @@
--- The calls of document 01, once: the number of each, its kind, and how it uses the FCB. All that goes by "which call" follows from this list.
+-- The calls of document 01, once: the number of each, its kind (what it may change besides A, H and the search), and how it uses the FCB.
 use mathlib.Core.Bool.{Bool, true, false, cond, not}
 use mathlib.Core.List.{List, [], _∷_}
 use Prim.Native.Nat.{ℕ}
