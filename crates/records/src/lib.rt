@@ -1,6 +1,6 @@
 // The record calls carried out: the FCB comes to the target's extent, and a record is read or written there.
 ghost use mathlib.Core.Path.{_≡_};
-ghost use mathlib.Core.Bool.{true, cond};
+ghost use mathlib.Core.Bool.{true};
 ghost use Prim.Native.Nat.{_≤_, _<_};
 ghost use lib.ListN.{length};
 ghost use Rattle.format.specs.Diskette.{Bytes, eightInch, imageBytes, recordBytes, extents, extentRecords};
@@ -12,7 +12,7 @@ ghost use Rattle.model.specs.Closing.{closedImage};
 ghost use Rattle.model.specs.Target.{moved, made};
 ghost use Rattle.model.specs.Kinds.{kindOf, same, ofRecord};
 ghost use Rattle.model.specs.declared.Kind.the-variants.{Write};
-ghost use Rattle.chains.specs.Chain.{Indexed};
+ghost use Rattle.chains.specs.Chain.{Findable};
 ghost use Rattle.table.specs.OwnStep.{ownStep};
 ghost use Rattle.rulings.specs.Bounds.{OnDisk, OwnExtent};
 ghost use Rattle.records.specs.Carry.{arrived, entryOf, blockOf, transferred};
@@ -149,10 +149,8 @@ pub fn record_call(
     session: Session,
     chain: &[u8],
 ) -> Answer
-    requires { ⌜ (length (now image) ≡ imageBytes eightInch) × (length (now map) ≡ eightInch .blocks) × (length (now fcb) ≡ fcbBytes)
-        × (length (now buffer) ≡ recordBytes) × (session .user ≤ 15) × (consistent eightInch (now image) ≡ true)
-        × (ofRecord (kindOf (asked .number)) ≡ true)
-        × Indexed eightInch (entryAt eightInch (now image)) (now chain) ⌝ }
+    requires { ⌜ (length (now map) ≡ eightInch .blocks) × (length (now buffer) ≡ recordBytes) × (consistent eightInch (now image) ≡ true)
+        × (ofRecord (kindOf (asked .number)) ≡ true) × Findable eightInch (now image) (now chain) (session .user) (now fcb) ⌝ }
     ensures { λ r. ⌜ outcome r (now (image .exit)) (now (map .exit)) (now (fcb .exit)) (now (buffer .exit))
         ≡ ownStep eightInch asked (lend (now (image .entry)) (now (map .entry)) (now (fcb .entry)) (now (buffer .entry))) session ⌝ }
 {

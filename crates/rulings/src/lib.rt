@@ -1,12 +1,12 @@
 // The record calls decided, by the state as it came: refused with a code, or told a plan. Nothing is changed here.
 ghost use mathlib.Core.Path.{_≡_};
-ghost use Prim.Native.Nat.{_≤_, _<_};
+ghost use Prim.Native.Nat.{_<_};
 ghost use lib.ListN.{length};
 ghost use Rattle.format.specs.Diskette.{Bytes, eightInch, imageBytes, slotCount};
 ghost use Rattle.format.specs.Entries.{entryAt};
 ghost use Rattle.format.specs.Fcb.{fcbBytes};
 ghost use Rattle.model.specs.Lent.{lend};
-ghost use Rattle.chains.specs.Chain.{Indexed};
+ghost use Rattle.chains.specs.Chain.{Findable};
 ghost use Rattle.targets.specs.Target.{TargetOf};
 ghost use Rattle.rulings.specs.Ruling.{readTo, readFrom, Among, guarded, blockFor, writeNew, writeTo, writeFrom, ruling};
 use format::Found;
@@ -151,8 +151,7 @@ pub fn rule(
     fcb: &[u8],
     user: u8,
 ) -> Ruling
-    requires { ⌜ (length (now image) ≡ imageBytes eightInch) × (length (now map) ≡ eightInch .blocks) × (length (now fcb) ≡ fcbBytes)
-        × TargetOf number (now fcb) target × (user ≤ 15) × Indexed eightInch (entryAt eightInch (now image)) (now chain) ⌝ }
+    requires { ⌜ (length (now map) ≡ eightInch .blocks) × TargetOf number (now fcb) target × Findable eightInch (now image) (now chain) user (now fcb) ⌝ }
     ensures { λ r. ⌜ ((buffer : Bytes) → r ≡ ruling eightInch number user (lend (now (image .entry)) (now (map .entry)) (now (fcb .entry)) buffer)) ⌝ }
 {
     let extent = target.extent;
