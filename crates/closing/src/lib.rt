@@ -3,7 +3,7 @@ ghost use mathlib.Core.Path.{_≡_};
 ghost use Prim.Native.Nat.{_≤_, _<_};
 ghost use lib.ListN.{length};
 ghost use Rattle.lists.specs.Fold.{foldBelow};
-ghost use Rattle.format.specs.Diskette.{Bytes, eightInch, imageBytes, entryBytes, slotBytes, slotCount};
+ghost use Rattle.format.specs.Diskette.{Bytes, eightInch, Long, entryBytes, slotBytes, slotCount};
 ghost use Rattle.format.specs.Entries.{entryAt};
 ghost use Rattle.format.specs.Fcb.{fcbBytes};
 ghost use Rattle.model.specs.Lent.{lend, outcome};
@@ -133,7 +133,7 @@ fn close_keeps(row: &[u8], fcb: &[u8]) -> bool
 
 // Entry e takes the FCB's blocks, which become recorded, and its end where that is later.
 pub fn close_entry(image: &mut [u8], map: &mut [u16], e: usize, fcb: &[u8])
-    requires { ⌜ (length (now image) ≡ imageBytes eightInch) × (length (now fcb) ≡ fcbBytes) × (e < eightInch .entries) ⌝ }
+    requires { ⌜ Long eightInch (now image) × (length (now fcb) ≡ fcbBytes) × (e < eightInch .entries) ⌝ }
     ensures { λ _. ⌜ (now (image .exit) ≡ closedImage eightInch (now (image .entry)) e (now (fcb .entry)))
         × (now (map .exit) ≡ closedMap eightInch (entryAt eightInch (now (image .entry)) e) (now (fcb .entry)) (now (map .entry))) ⌝ }
 {

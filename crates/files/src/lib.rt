@@ -3,7 +3,7 @@ ghost use mathlib.Core.Path.{_≡_};
 ghost use mathlib.Core.Bool.{false};
 ghost use Prim.Native.Nat.{_<_};
 ghost use lib.ListN.{length};
-ghost use Rattle.format.specs.Diskette.{Bytes, eightInch, imageBytes};
+ghost use Rattle.format.specs.Diskette.{Bytes, eightInch, Long};
 ghost use Rattle.format.specs.Entries.{entryAt, named};
 ghost use Rattle.format.specs.Fcb.{fcbBytes};
 ghost use Rattle.model.specs.Calls.{largerSize, fileSize};
@@ -79,7 +79,7 @@ pub fn make_file(image: &mut [u8], fcb: &mut [u8], session: Session, chain: &[u8
 
 // The larger of a size and that of an entry, where the entry is of the file.
 fn larger_size(image: &[u8], e: usize, user: u8, fcb: &[u8], size: usize) -> usize
-    requires { ⌜ (length (now image) ≡ imageBytes eightInch) × (e < eightInch .entries) × (length (now fcb) ≡ fcbBytes) ⌝ }
+    requires { ⌜ Long eightInch (now image) × (e < eightInch .entries) × (length (now fcb) ≡ fcbBytes) ⌝ }
     ensures { λ r. ⌜ r ≡ largerSize (entryAt eightInch (now (image .entry))) (named false user (now (fcb .entry)) 1) size e ⌝ }
 {
     let r = rows::row(image, e);
@@ -95,7 +95,7 @@ fn larger_size(image: &[u8], e: usize, user: u8, fcb: &[u8], size: usize) -> usi
 
 // The size of the file that the FCB names: the largest over its entries.
 fn largest_size(image: &[u8], user: u8, fcb: &[u8]) -> usize
-    requires { ⌜ (length (now image) ≡ imageBytes eightInch) × (length (now fcb) ≡ fcbBytes) ⌝ }
+    requires { ⌜ Long eightInch (now image) × (length (now fcb) ≡ fcbBytes) ⌝ }
     ensures { λ r. ⌜ r ≡ fileSize eightInch (entryAt eightInch (now (image .entry))) (named false user (now (fcb .entry)) 1) ⌝ }
 {
     let mut size = 0;
@@ -109,7 +109,7 @@ fn largest_size(image: &[u8], user: u8, fcb: &[u8]) -> usize
 
 // 35: the size of the file that the FCB names, in r0 to r2.
 pub fn file_size(image: &[u8], fcb: &mut [u8], session: Session) -> Answer
-    requires { ⌜ (length (now image) ≡ imageBytes eightInch) × (length (now fcb) ≡ fcbBytes) ⌝ }
+    requires { ⌜ Long eightInch (now image) × (length (now fcb) ≡ fcbBytes) ⌝ }
     ensures { λ r. ⌜ ((asked : Asked) (map buffer : Bytes) → outcome r (now (image .entry)) map (now (fcb .exit)) buffer
         ≡ ownStep eightInch (calling 35 asked) (lend (now (image .entry)) map (now (fcb .entry)) buffer) session) ⌝ }
 {

@@ -2,7 +2,7 @@
 ghost use mathlib.Core.Path.{_≡_};
 ghost use Prim.Native.Nat.{_<_, max};
 ghost use lib.ListN.{length};
-ghost use Rattle.format.specs.Diskette.{eightInch, imageBytes, slotCount};
+ghost use Rattle.format.specs.Diskette.{eightInch, Long, slotCount};
 ghost use Rattle.format.specs.Entries.{entryAt, extentOf, findFile};
 ghost use Rattle.format.specs.Fcb.{fcbBytes, randomOf};
 ghost use Rattle.chains.specs.Chain.{Findable};
@@ -106,7 +106,7 @@ pub fn larger(x: u8, y: u8) -> u8
 
 // Slot j as the FCB has it once it has come from entry e to entry t.
 pub fn arrived_slot(image: &[u8], fcb: &[u8], e: usize, t: usize, j: usize) -> u8
-    requires { ⌜ (length (now image) ≡ imageBytes eightInch) × (length (now fcb) ≡ fcbBytes) × (t < eightInch .entries) × (j < slotCount) ⌝ }
+    requires { ⌜ Long eightInch (now image) × (length (now fcb) ≡ fcbBytes) × (t < eightInch .entries) × (j < slotCount) ⌝ }
     ensures { λ r. ⌜ r ≡ arrivedSlot eightInch (entryAt eightInch (now (image .entry))) (now (fcb .entry)) e t j ⌝ }
 {
     if t == e {
@@ -117,7 +117,7 @@ pub fn arrived_slot(image: &[u8], fcb: &[u8], e: usize, t: usize, j: usize) -> u
 
 // The larger of the counts that the FCB, come from entry e to entry t, and that entry have.
 pub fn arrived_count(image: &[u8], fcb: &[u8], e: usize, t: usize) -> u8
-    requires { ⌜ (length (now image) ≡ imageBytes eightInch) × (length (now fcb) ≡ fcbBytes) × (t < eightInch .entries) ⌝ }
+    requires { ⌜ Long eightInch (now image) × (length (now fcb) ≡ fcbBytes) × (t < eightInch .entries) ⌝ }
     ensures { λ r. ⌜ r ≡ arrivedCount (entryAt eightInch (now (image .entry))) (now (fcb .entry)) e t ⌝ }
 {
     let count = entries::count_of(rows::row(image, t));
