@@ -24,13 +24,8 @@ delete-file-requires c κs =
 
 record-call-requires : tie.Need-record-call-requires
 record-call-requires c κs =
-    let m = c .before .before .before .before in let s = m .before .before .before .before .before .before in let p = s .pre in let f = p .3 .fits in (
-      f .map-long,
-      f .buffer-long,
-      p .3 .image-right,
-      rw (← p .0) (moves-record (s .args .kind) (m .match .keys9)),
-      record { image-long = f .image-long; fcb-long = f .fcb-long; user-low = f .user-low; indexed = p .4 },
-    )
+    let m = c .before .before .before .before in let s = m .before .before .before .before .before .before in let p = s .pre in let f = p .3 .fits in
+    (f .map-long, f .buffer-long, p .3 .image-right, rw (← p .0) (moves-record (s .args .kind) (m .match .keys9)), search needs)
 
 returns : tie.Need-returns
 returns c = c .before .before .before .before .quiet-call .ensures
