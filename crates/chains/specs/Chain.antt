@@ -2,7 +2,7 @@
 -- are one past the entry's; 0 is none. So a walk back along the chain of a key meets every entry that has it.
 use mathlib.Core.Path.{_≡_, ap, sym, _∙_}
 use mathlib.Core.Bool.{Bool, true, false, cond}
-use Prim.Native.Nat.{ℕ, _+_, _<_}
+use Prim.Native.Nat.{ℕ, _+_, _≤_, _<_}
 use native.Mathlib.Omega.{arith}
 use lib.Dec.{eqb}
 use lib.ListN.{getD, length, set, length-set}
@@ -10,9 +10,10 @@ use lib.Seq.{getD-set-same, getD-set-other}
 use borrow.Author.Tests.{eq-eqb, ne-eqb}
 use Rattle.lists.specs.Cases.{split, bool-cases, lt-or-le, eq-or-ne, not-both}
 use Rattle.lists.specs.Below.{lastBelow, last-none, last-hit, last-miss}
-use Rattle.format.specs.Diskette.{Bytes, Geometry}
-use Rattle.format.specs.Entries.{Rows, used}
+use Rattle.format.specs.Diskette.{Bytes, Geometry, Long}
+use Rattle.format.specs.Entries.{Rows, entryAt, used}
 use Rattle.format.specs.Consistent.{alone}
+use Rattle.format.specs.Fcb.{fcbBytes}
 use Rattle.keys.specs.Key.{keyCount, keyOf}
 
 -- the key of entry f; keyCount, which is no key, where it is not used
@@ -37,6 +38,13 @@ pub record Chained (G : Geometry) (d : Rows) (n : ℕ) (chain : Bytes) : Type 0 
 pub record Indexed (G : Geometry) (d : Rows) (chain : Bytes) : Type 0 where
   pub chained : Chained G d (G .entries) chain
   pub single : (e : ℕ) → e < G .entries → alone G d e ≡ true
+
+-- what a look-up of an FCB's file is handed: an image and an FCB of their lengths, a user of at most 15, the entries by their keys
+pub record Findable (G : Geometry) (image chain : Bytes) (user : ℕ) (fcb : Bytes) : Type 0 where
+  pub image-long : Long G image
+  pub fcb-long : length fcb ≡ fcbBytes
+  pub user-low : user ≤ 15
+  pub indexed : Indexed G (entryAt G image) chain
 
 module _ (d : Rows) where
   pub key-used : (f : ℕ) → used (d f) ≡ true → keyIn d f ≡ keyOf (d f)

@@ -1,16 +1,16 @@
 // Closing an entry: what call 16 and a move share, and call 16 itself.
 ghost use mathlib.Core.Path.{_≡_};
-ghost use Prim.Native.Nat.{ℕ, _≤_, _<_};
+ghost use Prim.Native.Nat.{_≤_, _<_};
 ghost use lib.ListN.{length};
 ghost use Rattle.lists.specs.Fold.{foldBelow};
-ghost use Rattle.format.specs.Diskette.{Bytes, eightInch, imageBytes, entryBytes, slotBytes, slotCount};
+ghost use Rattle.format.specs.Diskette.{Bytes, eightInch, Long, entryBytes, slotBytes, slotCount};
 ghost use Rattle.format.specs.Entries.{entryAt};
 ghost use Rattle.format.specs.Fcb.{fcbBytes};
 ghost use Rattle.model.specs.Lent.{lend, outcome};
 ghost use Rattle.model.specs.Closing.{takesSlot, mergedByte, mergedSlots, endsLater, laterEnd, closedRow, closedNote, closedMap, closedImage, closedFcb};
 ghost use Rattle.table.specs.Own.{calling};
 ghost use Rattle.table.specs.OwnStep.{ownStep};
-ghost use Rattle.chains.specs.Chain.{Indexed};
+ghost use Rattle.chains.specs.Chain.{Findable};
 ghost use Rattle.closing.specs.Laws.{closeKeeps};
 ghost use Rattle.model.specs.declared.Asked.{Asked};
 use format::Found;
@@ -134,7 +134,7 @@ fn close_keeps(row: &[u8], fcb: &[u8]) -> bool
 
 // Entry e takes the FCB's blocks, which become recorded, and its end where that is later.
 pub fn close_entry(image: &mut [u8], map: &mut [u16], e: usize, fcb: &[u8])
-    requires { ⌜ (length (now image) ≡ imageBytes eightInch) × (length (now fcb) ≡ fcbBytes) × (e < eightInch .entries) ⌝ }
+    requires { ⌜ Long eightInch (now image) × (length (now fcb) ≡ fcbBytes) × (e < eightInch .entries) ⌝ }
     ensures { λ _. ⌜ (now (image .exit) ≡ closedImage eightInch (now (image .entry)) e (now (fcb .entry)))
         × (now (map .exit) ≡ closedMap eightInch (entryAt eightInch (now (image .entry)) e) (now (fcb .entry)) (now (map .entry))) ⌝ }
 {
@@ -163,8 +163,7 @@ pub fn close_file(
     session: Session,
     chain: &[u8],
 ) -> Answer
-    requires { ⌜ (length (now image) ≡ imageBytes eightInch) × (length (now fcb) ≡ fcbBytes) × (session .user ≤ 15)
-        × Indexed eightInch (entryAt eightInch (now image)) (now chain) ⌝ }
+    requires { ⌜ Findable eightInch (now image) (now chain) (session .user) (now fcb) ⌝ }
     ensures { λ r. ⌜ ((asked : Asked) (buffer : Bytes) → outcome r (now (image .exit)) (now (map .exit)) (now (fcb .exit)) buffer
         ≡ ownStep eightInch (calling 16 asked) (lend (now (image .entry)) (now (map .entry)) (now (fcb .entry)) buffer) session) ⌝ }
 {

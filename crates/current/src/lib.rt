@@ -2,11 +2,11 @@
 ghost use mathlib.Core.Path.{_≡_};
 ghost use Prim.Native.Nat.{_≤_};
 ghost use lib.ListN.{length};
-ghost use Rattle.format.specs.Diskette.{eightInch, imageBytes, entryBytes};
+ghost use Rattle.format.specs.Diskette.{eightInch, entryBytes};
 ghost use Rattle.format.specs.Entries.{entryAt, slotsOf};
 ghost use Rattle.format.specs.Fcb.{fcbBytes, fcbRight, current};
 ghost use Rattle.slots.specs.Slots.{slotsSame};
-ghost use Rattle.chains.specs.Chain.{Indexed};
+ghost use Rattle.chains.specs.Chain.{Findable};
 use format::Found;
 
 // Whether an FCB's name, numbers and cr are in range.
@@ -35,8 +35,7 @@ pub fn slots_own(row: &[u8], fcb: &[u8]) -> bool
 
 // The entry of a current FCB.
 pub fn current_entry(image: &[u8], map: &[u16], chain: &[u8], user: u8, fcb: &[u8]) -> Found
-    requires { ⌜ (length (now image) ≡ imageBytes eightInch) × (length (now fcb) ≡ fcbBytes) × (user ≤ 15)
-        × Indexed eightInch (entryAt eightInch (now image)) (now chain) ⌝ }
+    requires { ⌜ Findable eightInch (now image) (now chain) user (now fcb) ⌝ }
     ensures { λ r. ⌜ r ≡ current eightInch (entryAt eightInch (now (image .entry))) (now (map .entry)) user (now (fcb .entry)) ⌝ }
 {
     if !fcb_right(fcb) {

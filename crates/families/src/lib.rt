@@ -4,7 +4,7 @@ ghost use mathlib.Core.Bool.{true, false};
 ghost use Prim.Native.Nat.{ℕ, _≤_, _<_};
 ghost use lib.ListN.{length};
 ghost use Rattle.lists.specs.Tests.{_and_};
-ghost use Rattle.format.specs.Diskette.{Bytes, eightInch, imageBytes, entryBytes};
+ghost use Rattle.format.specs.Diskette.{Bytes, eightInch, Long, entryBytes};
 ghost use Rattle.format.specs.Entries.{entryAt, named, readOnly};
 ghost use Rattle.format.specs.Notes.{mapRight, releasedMap};
 ghost use Rattle.format.specs.Fcb.{fcbBytes};
@@ -35,7 +35,7 @@ fn guards(wild: bool, user: u8, fcb: &[u8], r: &[u8]) -> bool
 
 // Whether t1' is set in an entry that the FCB names.
 fn any_read_only(image: &[u8], wild: bool, user: u8, fcb: &[u8]) -> bool
-    requires { ⌜ (length (now image) ≡ imageBytes eightInch) × (length (now fcb) ≡ fcbBytes) ⌝ }
+    requires { ⌜ Long eightInch (now image) × (length (now fcb) ≡ fcbBytes) ⌝ }
     ensures { λ r. ⌜ ((map buffer : Bytes) → r ≡ anyReadOnly eightInch (lend (now (image .entry)) map (now (fcb .entry)) buffer) wild user) ⌝ }
 {
     let mut e = 0;
@@ -50,7 +50,7 @@ fn any_read_only(image: &[u8], wild: bool, user: u8, fcb: &[u8]) -> bool
 
 // Gives an entry the new name, where it has the old one.
 fn rename_entry(image: &mut [u8], e: usize, user: u8, fcb: &[u8])
-    requires { ⌜ (length (now image) ≡ imageBytes eightInch) × (e < eightInch .entries) × (length (now fcb) ≡ fcbBytes) ⌝ }
+    requires { ⌜ Long eightInch (now image) × (e < eightInch .entries) × (length (now fcb) ≡ fcbBytes) ⌝ }
     ensures { λ _. ⌜ now (image .exit) ≡ changedRow eightInch (named false user (now (fcb .entry)) 1) (renamedRow (now (fcb .entry))) (now (image .entry)) e ⌝ }
 {
     if entries::is_named(false, user, fcb, 1, rows::row(image, e)) {
@@ -61,7 +61,7 @@ fn rename_entry(image: &mut [u8], e: usize, user: u8, fcb: &[u8])
 
 // Gives every extent of the old name the new one.
 fn rename_entries(image: &mut [u8], user: u8, fcb: &[u8])
-    requires { ⌜ (length (now image) ≡ imageBytes eightInch) × (length (now fcb) ≡ fcbBytes) ⌝ }
+    requires { ⌜ Long eightInch (now image) × (length (now fcb) ≡ fcbBytes) ⌝ }
     ensures { λ _. ⌜ now (image .exit) ≡ changedRows eightInch (named false user (now (fcb .entry)) 1) (renamedRow (now (fcb .entry))) (now (image .entry)) ⌝ }
 {
     let mut e = 0;
@@ -73,7 +73,7 @@ fn rename_entries(image: &mut [u8], user: u8, fcb: &[u8])
 
 // 23: every extent of the name in bytes 1 to 11 gets the name in bytes 17 to 27.
 pub fn rename_file(image: &mut [u8], fcb: &[u8], session: Session) -> Answer
-    requires { ⌜ (length (now image) ≡ imageBytes eightInch) × (length (now fcb) ≡ fcbBytes) ⌝ }
+    requires { ⌜ Long eightInch (now image) × (length (now fcb) ≡ fcbBytes) ⌝ }
     ensures { λ r. ⌜ ((asked : Asked) (map buffer : Bytes) → outcome r (now (image .exit)) map (now (fcb .entry)) buffer
         ≡ ownStep eightInch (calling 23 asked) (lend (now (image .entry)) map (now (fcb .entry)) buffer) session) ⌝ }
 {
@@ -99,7 +99,7 @@ pub fn rename_file(image: &mut [u8], fcb: &[u8], session: Session) -> Answer
 
 // Empties an entry that the FCB names and frees the blocks that it lists; the answer is its mark.
 fn erase_entry(image: &mut [u8], map: &mut [u16], e: usize, user: u8, fcb: &[u8]) -> u8
-    requires { ⌜ (length (now image) ≡ imageBytes eightInch) × (length (now map) ≡ eightInch .blocks) × (e < eightInch .entries) × (length (now fcb) ≡ fcbBytes) ⌝ }
+    requires { ⌜ Long eightInch (now image) × (length (now map) ≡ eightInch .blocks) × (e < eightInch .entries) × (length (now fcb) ≡ fcbBytes) ⌝ }
     ensures { λ r. ⌜ Erased eightInch (named true user (now (fcb .entry)) 1) (now (image .entry)) (now (map .entry)) e (now (image .exit)) (now (map .exit)) r ⌝ }
 {
     let r = rows::row(image, e);
@@ -114,8 +114,8 @@ fn erase_entry(image: &mut [u8], map: &mut [u16], e: usize, user: u8, fcb: &[u8]
 
 // Empties the entries that the FCB names; the blocks that they list, and those that are pending for them, become free.
 fn erase_entries(image: &mut [u8], map: &mut [u16], user: u8, fcb: &[u8])
-    requires { ⌜ (length (now image) ≡ imageBytes eightInch) × (length (now map) ≡ eightInch .blocks) × (length (now fcb) ≡ fcbBytes)
-        × (user ≤ 15) × (mapRight eightInch (entryAt eightInch (now image)) (now map) ≡ true) ⌝ }
+    requires { ⌜ Long eightInch (now image) × (length (now map) ≡ eightInch .blocks) × (length (now fcb) ≡ fcbBytes) × (user ≤ 15)
+        × (mapRight eightInch (entryAt eightInch (now image)) (now map) ≡ true) ⌝ }
     ensures { λ _. ⌜ (now (image .exit) ≡ changedRows eightInch (named true user (now (fcb .entry)) 1) erasedRow (now (image .entry)))
         × (now (map .exit) ≡ releasedMap eightInch (entryAt eightInch (now (image .entry)))
         (λ (e : ℕ). named true user (now (fcb .entry)) 1 (entryAt eightInch (now (image .entry)) e)) (now (map .entry))) ⌝ }
@@ -131,8 +131,8 @@ fn erase_entries(image: &mut [u8], map: &mut [u16], user: u8, fcb: &[u8])
 
 // 19: every extent that the name matches becomes empty, and the blocks of all of them free.
 pub fn delete_file(image: &mut [u8], map: &mut [u16], fcb: &[u8], session: Session) -> Answer
-    requires { ⌜ (length (now image) ≡ imageBytes eightInch) × (length (now map) ≡ eightInch .blocks) × (length (now fcb) ≡ fcbBytes)
-        × (session .user ≤ 15) × (mapRight eightInch (entryAt eightInch (now image)) (now map) ≡ true) ⌝ }
+    requires { ⌜ Long eightInch (now image) × (length (now map) ≡ eightInch .blocks) × (length (now fcb) ≡ fcbBytes) × (session .user ≤ 15)
+        × (mapRight eightInch (entryAt eightInch (now image)) (now map) ≡ true) ⌝ }
     ensures { λ r. ⌜ ((asked : Asked) (buffer : Bytes) → outcome r (now (image .exit)) (now (map .exit)) (now (fcb .entry)) buffer
         ≡ ownStep eightInch (calling 19 asked) (lend (now (image .entry)) (now (map .entry)) (now (fcb .entry)) buffer) session) ⌝ }
 {

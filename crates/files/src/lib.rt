@@ -1,9 +1,9 @@
 // Calls 15, 22 and 35: a file is opened, made, and its size told.
 ghost use mathlib.Core.Path.{_≡_};
 ghost use mathlib.Core.Bool.{false};
-ghost use Prim.Native.Nat.{ℕ, _≤_, _<_};
+ghost use Prim.Native.Nat.{_<_};
 ghost use lib.ListN.{length};
-ghost use Rattle.format.specs.Diskette.{Bytes, eightInch, imageBytes};
+ghost use Rattle.format.specs.Diskette.{Bytes, eightInch, Long};
 ghost use Rattle.format.specs.Entries.{entryAt, named};
 ghost use Rattle.format.specs.Fcb.{fcbBytes};
 ghost use Rattle.model.specs.Calls.{largerSize, fileSize};
@@ -11,7 +11,7 @@ ghost use Rattle.model.specs.Lent.{lend, outcome};
 ghost use Rattle.model.specs.Table.{askedEntry};
 ghost use Rattle.table.specs.Own.{calling};
 ghost use Rattle.table.specs.OwnStep.{ownStep};
-ghost use Rattle.chains.specs.Chain.{Indexed};
+ghost use Rattle.chains.specs.Chain.{Findable};
 ghost use Rattle.files.specs.Asked.{asksRight};
 ghost use Rattle.model.specs.declared.Asked.{Asked};
 use format::ENTRIES;
@@ -34,8 +34,7 @@ fn asks_right(fcb: &[u8]) -> bool
 
 // The entry that 15 and 22 ask for: of the FCB's name, with ex = byte 12 and s2 0.
 fn find_asked(image: &[u8], chain: &[u8], user: u8, fcb: &[u8]) -> Found
-    requires { ⌜ (length (now image) ≡ imageBytes eightInch) × (length (now fcb) ≡ fcbBytes) × (user ≤ 15)
-        × Indexed eightInch (entryAt eightInch (now image)) (now chain) ⌝ }
+    requires { ⌜ Findable eightInch (now image) (now chain) user (now fcb) ⌝ }
     ensures { λ r. ⌜ ((map buffer : Bytes) → r ≡ askedEntry eightInch (lend (now (image .entry)) map (now (fcb .entry)) buffer) user) ⌝ }
 {
     chains::find_file(image, chain, user, fcb, 1, lists::wide(fcb[12]))
@@ -43,8 +42,7 @@ fn find_asked(image: &[u8], chain: &[u8], user: u8, fcb: &[u8]) -> Found
 
 // 15: the FCB takes the entry of its name and of the extent that byte 12 gives.
 pub fn open_file(image: &[u8], fcb: &mut [u8], session: Session, chain: &[u8]) -> Answer
-    requires { ⌜ (length (now image) ≡ imageBytes eightInch) × (length (now fcb) ≡ fcbBytes) × (session .user ≤ 15)
-        × Indexed eightInch (entryAt eightInch (now image)) (now chain) ⌝ }
+    requires { ⌜ Findable eightInch (now image) (now chain) (session .user) (now fcb) ⌝ }
     ensures { λ r. ⌜ ((asked : Asked) (map buffer : Bytes) → outcome r (now (image .entry)) map (now (fcb .exit)) buffer
         ≡ ownStep eightInch (calling 15 asked) (lend (now (image .entry)) map (now (fcb .entry)) buffer) session) ⌝ }
 {
@@ -60,8 +58,7 @@ pub fn open_file(image: &[u8], fcb: &mut [u8], session: Session, chain: &[u8]) -
 
 // 22: the first empty entry becomes the new file's, and the FCB takes it.
 pub fn make_file(image: &mut [u8], fcb: &mut [u8], session: Session, chain: &[u8]) -> Answer
-    requires { ⌜ (length (now image) ≡ imageBytes eightInch) × (length (now fcb) ≡ fcbBytes) × (session .user ≤ 15)
-        × Indexed eightInch (entryAt eightInch (now image)) (now chain) ⌝ }
+    requires { ⌜ Findable eightInch (now image) (now chain) (session .user) (now fcb) ⌝ }
     ensures { λ r. ⌜ ((asked : Asked) (map buffer : Bytes) → outcome r (now (image .exit)) map (now (fcb .exit)) buffer
         ≡ ownStep eightInch (calling 22 asked) (lend (now (image .entry)) map (now (fcb .entry)) buffer) session) ⌝ }
 {
@@ -82,7 +79,7 @@ pub fn make_file(image: &mut [u8], fcb: &mut [u8], session: Session, chain: &[u8
 
 // The larger of a size and that of an entry, where the entry is of the file.
 fn larger_size(image: &[u8], e: usize, user: u8, fcb: &[u8], size: usize) -> usize
-    requires { ⌜ (length (now image) ≡ imageBytes eightInch) × (e < eightInch .entries) × (length (now fcb) ≡ fcbBytes) ⌝ }
+    requires { ⌜ Long eightInch (now image) × (e < eightInch .entries) × (length (now fcb) ≡ fcbBytes) ⌝ }
     ensures { λ r. ⌜ r ≡ largerSize (entryAt eightInch (now (image .entry))) (named false user (now (fcb .entry)) 1) size e ⌝ }
 {
     let r = rows::row(image, e);
@@ -98,7 +95,7 @@ fn larger_size(image: &[u8], e: usize, user: u8, fcb: &[u8], size: usize) -> usi
 
 // The size of the file that the FCB names: the largest over its entries.
 fn largest_size(image: &[u8], user: u8, fcb: &[u8]) -> usize
-    requires { ⌜ (length (now image) ≡ imageBytes eightInch) × (length (now fcb) ≡ fcbBytes) ⌝ }
+    requires { ⌜ Long eightInch (now image) × (length (now fcb) ≡ fcbBytes) ⌝ }
     ensures { λ r. ⌜ r ≡ fileSize eightInch (entryAt eightInch (now (image .entry))) (named false user (now (fcb .entry)) 1) ⌝ }
 {
     let mut size = 0;
@@ -112,7 +109,7 @@ fn largest_size(image: &[u8], user: u8, fcb: &[u8]) -> usize
 
 // 35: the size of the file that the FCB names, in r0 to r2.
 pub fn file_size(image: &[u8], fcb: &mut [u8], session: Session) -> Answer
-    requires { ⌜ (length (now image) ≡ imageBytes eightInch) × (length (now fcb) ≡ fcbBytes) ⌝ }
+    requires { ⌜ Long eightInch (now image) × (length (now fcb) ≡ fcbBytes) ⌝ }
     ensures { λ r. ⌜ ((asked : Asked) (map buffer : Bytes) → outcome r (now (image .entry)) map (now (fcb .exit)) buffer
         ≡ ownStep eightInch (calling 35 asked) (lend (now (image .entry)) map (now (fcb .entry)) buffer) session) ⌝ }
 {

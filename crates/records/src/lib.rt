@@ -1,9 +1,9 @@
 // The record calls carried out: the FCB comes to the target's extent, and a record is read or written there.
 ghost use mathlib.Core.Path.{_≡_};
-ghost use mathlib.Core.Bool.{true, cond};
+ghost use mathlib.Core.Bool.{true};
 ghost use Prim.Native.Nat.{_≤_, _<_};
 ghost use lib.ListN.{length};
-ghost use Rattle.format.specs.Diskette.{Bytes, eightInch, imageBytes, recordBytes, extents, extentRecords};
+ghost use Rattle.format.specs.Diskette.{Bytes, eightInch, Long, recordBytes, extents, extentRecords};
 ghost use Rattle.format.specs.Entries.{entryAt, extentOf};
 ghost use Rattle.format.specs.Consistent.{consistent};
 ghost use Rattle.format.specs.Fcb.{fcbBytes};
@@ -12,7 +12,7 @@ ghost use Rattle.model.specs.Closing.{closedImage};
 ghost use Rattle.model.specs.Target.{moved, made};
 ghost use Rattle.model.specs.Kinds.{kindOf, same, ofRecord};
 ghost use Rattle.model.specs.declared.Kind.the-variants.{Write};
-ghost use Rattle.chains.specs.Chain.{Indexed};
+ghost use Rattle.chains.specs.Chain.{Findable};
 ghost use Rattle.table.specs.OwnStep.{ownStep};
 ghost use Rattle.rulings.specs.Bounds.{OnDisk, OwnExtent};
 ghost use Rattle.records.specs.Carry.{arrived, entryOf, blockOf, transferred};
@@ -25,7 +25,7 @@ use targets::Target;
 
 // A move: the present extent, entry e, is closed, and the FCB takes entry t as it stands then, of its own extent.
 fn move_to(image: &mut [u8], map: &mut [u16], fcb: &mut [u8], e: usize, t: usize)
-    requires { ⌜ (length (now image) ≡ imageBytes eightInch) × (length (now fcb) ≡ fcbBytes) × (e < eightInch .entries) × (t < eightInch .entries) ⌝ }
+    requires { ⌜ Long eightInch (now image) × (length (now fcb) ≡ fcbBytes) × (e < eightInch .entries) × (t < eightInch .entries) ⌝ }
     ensures { λ _. ⌜ ((buffer : Bytes) → lend (now (image .exit)) (now (map .exit)) (now (fcb .exit)) buffer
         ≡ moved eightInch (extentOf (entryAt eightInch (closedImage eightInch (now (image .entry)) e (now (fcb .entry))) t))
         (lend (now (image .entry)) (now (map .entry)) (now (fcb .entry)) buffer) e t) ⌝ }
@@ -36,8 +36,7 @@ fn move_to(image: &mut [u8], map: &mut [u16], fcb: &mut [u8], e: usize, t: usize
 
 // A move into an extent that has no entry: the present extent is closed, and the FCB takes the entry that is made for it at t.
 fn make_next(image: &mut [u8], map: &mut [u16], fcb: &mut [u8], e: usize, t: usize, extent: usize)
-    requires { ⌜ (length (now image) ≡ imageBytes eightInch) × (length (now fcb) ≡ fcbBytes) × (e < eightInch .entries) × (t < eightInch .entries)
-        × (extent < extents) ⌝ }
+    requires { ⌜ Long eightInch (now image) × (length (now fcb) ≡ fcbBytes) × (e < eightInch .entries) × (t < eightInch .entries) × (extent < extents) ⌝ }
     ensures { λ _. ⌜ ((buffer : Bytes) → lend (now (image .exit)) (now (map .exit)) (now (fcb .exit)) buffer
         ≡ made eightInch extent (lend (now (image .entry)) (now (map .entry)) (now (fcb .entry)) buffer) e t) ⌝ }
 {
@@ -49,7 +48,7 @@ fn make_next(image: &mut [u8], map: &mut [u16], fcb: &mut [u8], e: usize, t: usi
 
 // The FCB comes to the target's extent, as the plan says.
 fn arrive(image: &mut [u8], map: &mut [u16], fcb: &mut [u8], plan: Plan, extent: usize)
-    requires { ⌜ (length (now image) ≡ imageBytes eightInch) × (length (now fcb) ≡ fcbBytes) × (extent < extents) × OnDisk eightInch plan
+    requires { ⌜ Long eightInch (now image) × (length (now fcb) ≡ fcbBytes) × (extent < extents) × OnDisk eightInch plan
         × OwnExtent eightInch (now image) (now fcb) extent plan ⌝ }
     ensures { λ _. ⌜ ((buffer : Bytes) → lend (now (image .exit)) (now (map .exit)) (now (fcb .exit)) buffer
         ≡ arrived eightInch extent (lend (now (image .entry)) (now (map .entry)) (now (fcb .entry)) buffer) plan) ⌝ }
@@ -93,8 +92,8 @@ fn transfer(
     plan: Plan,
     target: Target,
 )
-    requires { ⌜ (length (now image) ≡ imageBytes eightInch) × (length (now map) ≡ eightInch .blocks) × (length (now fcb) ≡ fcbBytes)
-        × (length (now buffer) ≡ recordBytes) × (target .at < extentRecords) × (target .after ≤ extentRecords) × OnDisk eightInch plan
+    requires { ⌜ Long eightInch (now image) × (length (now map) ≡ eightInch .blocks) × (length (now fcb) ≡ fcbBytes) × (length (now buffer) ≡ recordBytes)
+        × (target .at < extentRecords) × (target .after ≤ extentRecords) × OnDisk eightInch plan
         × (extentOf (now fcb) ≡ extentOf (entryAt eightInch (now image) (entryOf plan))) ⌝ }
     ensures { λ _. ⌜ lend (now (image .exit)) (now (map .exit)) (now (fcb .exit)) (now (buffer .exit))
         ≡ transferred eightInch (same (kindOf number) Write) plan target (lend (now (image .entry)) (now (map .entry)) (now (fcb .entry)) (now (buffer .entry))) ⌝ }
@@ -128,9 +127,9 @@ fn follow(
     plan: Plan,
     target: Target,
 )
-    requires { ⌜ (length (now image) ≡ imageBytes eightInch) × (length (now map) ≡ eightInch .blocks) × (length (now fcb) ≡ fcbBytes)
-        × (length (now buffer) ≡ recordBytes) × (target .extent < extents) × (target .at < extentRecords) × (target .after ≤ extentRecords)
-        × OnDisk eightInch plan × OwnExtent eightInch (now image) (now fcb) (target .extent) plan ⌝ }
+    requires { ⌜ Long eightInch (now image) × (length (now map) ≡ eightInch .blocks) × (length (now fcb) ≡ fcbBytes) × (length (now buffer) ≡ recordBytes)
+        × (target .extent < extents) × (target .at < extentRecords) × (target .after ≤ extentRecords) × OnDisk eightInch plan
+        × OwnExtent eightInch (now image) (now fcb) (target .extent) plan ⌝ }
     ensures { λ _. ⌜ lend (now (image .exit)) (now (map .exit)) (now (fcb .exit)) (now (buffer .exit))
         ≡ transferred eightInch (same (kindOf number) Write) plan target
         (arrived eightInch (target .extent) (lend (now (image .entry)) (now (map .entry)) (now (fcb .entry)) (now (buffer .entry))) plan) ⌝ }
@@ -149,10 +148,8 @@ pub fn record_call(
     session: Session,
     chain: &[u8],
 ) -> Answer
-    requires { ⌜ (length (now image) ≡ imageBytes eightInch) × (length (now map) ≡ eightInch .blocks) × (length (now fcb) ≡ fcbBytes)
-        × (length (now buffer) ≡ recordBytes) × (session .user ≤ 15) × (consistent eightInch (now image) ≡ true)
-        × (ofRecord (kindOf (asked .number)) ≡ true)
-        × Indexed eightInch (entryAt eightInch (now image)) (now chain) ⌝ }
+    requires { ⌜ (length (now map) ≡ eightInch .blocks) × (length (now buffer) ≡ recordBytes) × (consistent eightInch (now image) ≡ true)
+        × (ofRecord (kindOf (asked .number)) ≡ true) × Findable eightInch (now image) (now chain) (session .user) (now fcb) ⌝ }
     ensures { λ r. ⌜ outcome r (now (image .exit)) (now (map .exit)) (now (fcb .exit)) (now (buffer .exit))
         ≡ ownStep eightInch asked (lend (now (image .entry)) (now (map .entry)) (now (fcb .entry)) (now (buffer .entry))) session ⌝ }
 {

@@ -1,12 +1,12 @@
 // The record calls decided, by the state as it came: refused with a code, or told a plan. Nothing is changed here.
 ghost use mathlib.Core.Path.{_≡_};
-ghost use Prim.Native.Nat.{_≤_, _<_};
+ghost use Prim.Native.Nat.{_<_};
 ghost use lib.ListN.{length};
-ghost use Rattle.format.specs.Diskette.{Bytes, eightInch, imageBytes, slotCount};
+ghost use Rattle.format.specs.Diskette.{Bytes, eightInch, Long, slotCount};
 ghost use Rattle.format.specs.Entries.{entryAt};
 ghost use Rattle.format.specs.Fcb.{fcbBytes};
 ghost use Rattle.model.specs.Lent.{lend};
-ghost use Rattle.chains.specs.Chain.{Indexed};
+ghost use Rattle.chains.specs.Chain.{Findable};
 ghost use Rattle.targets.specs.Target.{TargetOf};
 ghost use Rattle.rulings.specs.Ruling.{readTo, readFrom, Among, guarded, blockFor, writeNew, writeTo, writeFrom, ruling};
 use format::Found;
@@ -22,7 +22,7 @@ pub enum Ruling {
 
 // Reading record r of an extent that has entry t, in slot j.
 fn read_to(image: &[u8], fcb: &[u8], e: usize, t: usize, j: usize, r: usize) -> Ruling
-    requires { ⌜ (length (now image) ≡ imageBytes eightInch) × (length (now fcb) ≡ fcbBytes) × (t < eightInch .entries) × (j < slotCount) ⌝ }
+    requires { ⌜ Long eightInch (now image) × (length (now fcb) ≡ fcbBytes) × (t < eightInch .entries) × (j < slotCount) ⌝ }
     ensures { λ o. ⌜ o ≡ readTo eightInch (entryAt eightInch (now (image .entry))) (now (fcb .entry)) e t j r ⌝ }
 {
     if lists::wide(targets::arrived_count(image, fcb, e, t)) <= r {
@@ -45,7 +45,7 @@ fn rule_read(
     j: usize,
     target: Found,
 ) -> Ruling
-    requires { ⌜ (length (now image) ≡ imageBytes eightInch) × (length (now fcb) ≡ fcbBytes) × (j < slotCount) × Among (eightInch .entries) target ⌝ }
+    requires { ⌜ Long eightInch (now image) × (length (now fcb) ≡ fcbBytes) × (j < slotCount) × Among (eightInch .entries) target ⌝ }
     ensures { λ r. ⌜ r ≡ readFrom eightInch (entryAt eightInch (now (image .entry))) (now (fcb .entry)) number e j at target ⌝ }
 {
     let Found::At(t) = target else {
@@ -56,7 +56,7 @@ fn rule_read(
 
 // Whether t1' is set in the FCB's entry or in the target's.
 fn is_guarded(image: &[u8], e: usize, target: Found) -> bool
-    requires { ⌜ (length (now image) ≡ imageBytes eightInch) × (e < eightInch .entries) × Among (eightInch .entries) target ⌝ }
+    requires { ⌜ Long eightInch (now image) × (e < eightInch .entries) × Among (eightInch .entries) target ⌝ }
     ensures { λ r. ⌜ r ≡ guarded (entryAt eightInch (now (image .entry))) e target ⌝ }
 {
     if entries::is_read_only(rows::row(image, e)) {
@@ -81,7 +81,7 @@ fn block_for(map: &[u16], slot: u8) -> Found
 
 // Writing into an extent that has no entry: one is made in the first empty place.
 fn write_new(image: &[u8], map: &[u16], code: Code, e: usize) -> Ruling
-    requires { ⌜ (length (now image) ≡ imageBytes eightInch) × (length (now map) ≡ eightInch .blocks) ⌝ }
+    requires { ⌜ Long eightInch (now image) × (length (now map) ≡ eightInch .blocks) ⌝ }
     ensures { λ r. ⌜ r ≡ writeNew eightInch (entryAt eightInch (now (image .entry))) (now (map .entry)) code e ⌝ }
 {
     let Found::At(t) = entries::find_empty(image) else {
@@ -103,8 +103,8 @@ fn write_to(
     j: usize,
     target: Found,
 ) -> Ruling
-    requires { ⌜ (length (now image) ≡ imageBytes eightInch) × (length (now map) ≡ eightInch .blocks) × (length (now fcb) ≡ fcbBytes)
-        × (j < slotCount) × Among (eightInch .entries) target ⌝ }
+    requires { ⌜ Long eightInch (now image) × (length (now map) ≡ eightInch .blocks) × (length (now fcb) ≡ fcbBytes) × (j < slotCount)
+        × Among (eightInch .entries) target ⌝ }
     ensures { λ r. ⌜ r ≡ writeTo eightInch (entryAt eightInch (now (image .entry))) (now (map .entry)) (now (fcb .entry)) code e j target ⌝ }
 {
     let Found::At(t) = target else {
@@ -127,8 +127,8 @@ fn rule_write(
     j: usize,
     target: Found,
 ) -> Ruling
-    requires { ⌜ (length (now image) ≡ imageBytes eightInch) × (length (now map) ≡ eightInch .blocks) × (length (now fcb) ≡ fcbBytes)
-        × (e < eightInch .entries) × (j < slotCount) × Among (eightInch .entries) target ⌝ }
+    requires { ⌜ Long eightInch (now image) × (length (now map) ≡ eightInch .blocks) × (length (now fcb) ≡ fcbBytes) × (e < eightInch .entries) × (j < slotCount)
+        × Among (eightInch .entries) target ⌝ }
     ensures { λ r. ⌜ r ≡ writeFrom eightInch (entryAt eightInch (now (image .entry))) (now (map .entry)) (now (fcb .entry)) number e j extent target ⌝ }
 {
     if is_guarded(image, e, target) {
@@ -151,8 +151,7 @@ pub fn rule(
     fcb: &[u8],
     user: u8,
 ) -> Ruling
-    requires { ⌜ (length (now image) ≡ imageBytes eightInch) × (length (now map) ≡ eightInch .blocks) × (length (now fcb) ≡ fcbBytes)
-        × TargetOf number (now fcb) target × (user ≤ 15) × Indexed eightInch (entryAt eightInch (now image)) (now chain) ⌝ }
+    requires { ⌜ (length (now map) ≡ eightInch .blocks) × TargetOf number (now fcb) target × Findable eightInch (now image) (now chain) user (now fcb) ⌝ }
     ensures { λ r. ⌜ ((buffer : Bytes) → r ≡ ruling eightInch number user (lend (now (image .entry)) (now (map .entry)) (now (fcb .entry)) buffer)) ⌝ }
 {
     let extent = target.extent;

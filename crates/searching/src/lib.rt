@@ -3,7 +3,7 @@
 ghost use mathlib.Core.Path.{_≡_};
 ghost use Prim.Native.Nat.{ℕ, _≤_};
 ghost use lib.ListN.{length};
-ghost use Rattle.format.specs.Diskette.{Bytes, eightInch, recordBytes, imageBytes, entryBytes};
+ghost use Rattle.format.specs.Diskette.{Bytes, eightInch, recordBytes, Long, entryBytes};
 ghost use Rattle.format.specs.Entries.{entryAt};
 ghost use Rattle.format.specs.Fcb.{fcbBytes};
 ghost use Rattle.model.specs.Lent.{lend, outcome};
@@ -50,7 +50,7 @@ fn hit(user: u8, pattern: &[u8], row: &[u8]) -> bool
 
 // The first entry from a place on that a pattern hits.
 fn find_hit(image: &[u8], user: u8, pattern: &[u8], from: usize) -> Found
-    requires { ⌜ (length (now image) ≡ imageBytes eightInch) × (patternBytes ≤ length (now pattern)) ⌝ }
+    requires { ⌜ Long eightInch (now image) × (patternBytes ≤ length (now pattern)) ⌝ }
     ensures { λ r. ⌜ r ≡ findHit eightInch (entryAt eightInch (now (image .entry))) user (now (pattern .entry)) from ⌝ }
 {
     let mut e = from;
@@ -72,7 +72,7 @@ fn first_match(
     buffer: &mut [u8],
     session: Session,
 ) -> Answer
-    requires { ⌜ (length (now image) ≡ imageBytes eightInch) × (length (now buffer) ≡ recordBytes) ⌝ }
+    requires { ⌜ Long eightInch (now image) × (length (now buffer) ≡ recordBytes) ⌝ }
     ensures { λ r. ⌜ ((map fcb : Bytes) → outcome r (now (image .entry)) map fcb (now (buffer .exit))
         ≡ searchedFrom eightInch session (lend (now (image .entry)) map fcb (now (buffer .entry))) pattern from) ⌝ }
 {
@@ -101,7 +101,7 @@ fn pattern_right(fcb: &[u8]) -> bool
 
 // 17: the first entry that the FCB's name and byte 12 match.
 pub fn search_first(image: &[u8], fcb: &[u8], buffer: &mut [u8], session: Session) -> Answer
-    requires { ⌜ (length (now image) ≡ imageBytes eightInch) × (length (now fcb) ≡ fcbBytes) × (length (now buffer) ≡ recordBytes) ⌝ }
+    requires { ⌜ Long eightInch (now image) × (length (now fcb) ≡ fcbBytes) × (length (now buffer) ≡ recordBytes) ⌝ }
     ensures { λ r. ⌜ ((asked : Asked) (map : Bytes) → outcome r (now (image .entry)) map (now (fcb .entry)) (now (buffer .exit))
         ≡ ownStep eightInch (calling 17 asked) (lend (now (image .entry)) map (now (fcb .entry)) (now (buffer .entry))) session) ⌝ }
 {
@@ -115,7 +115,7 @@ pub fn search_first(image: &[u8], fcb: &[u8], buffer: &mut [u8], session: Sessio
 
 // 18: the next entry that the session's pattern matches.
 pub fn search_next(image: &[u8], buffer: &mut [u8], session: Session) -> Answer
-    requires { ⌜ (length (now image) ≡ imageBytes eightInch) × (length (now buffer) ≡ recordBytes) ⌝ }
+    requires { ⌜ Long eightInch (now image) × (length (now buffer) ≡ recordBytes) ⌝ }
     ensures { λ r. ⌜ ((asked : Asked) (map fcb : Bytes) → outcome r (now (image .entry)) map fcb (now (buffer .exit))
         ≡ ownStep eightInch (calling 18 asked) (lend (now (image .entry)) map fcb (now (buffer .entry))) session) ⌝ }
 {

@@ -1,11 +1,11 @@
 // Where the record calls 20, 21, 33 and 34 go: the target, its entry, and its slot and count as the FCB will have them there.
 ghost use mathlib.Core.Path.{_≡_};
-ghost use Prim.Native.Nat.{_≤_, _<_, max};
+ghost use Prim.Native.Nat.{_<_, max};
 ghost use lib.ListN.{length};
-ghost use Rattle.format.specs.Diskette.{eightInch, imageBytes, slotCount};
+ghost use Rattle.format.specs.Diskette.{eightInch, Long, slotCount};
 ghost use Rattle.format.specs.Entries.{entryAt, extentOf, findFile};
 ghost use Rattle.format.specs.Fcb.{fcbBytes, randomOf};
-ghost use Rattle.chains.specs.Chain.{Indexed};
+ghost use Rattle.chains.specs.Chain.{Findable};
 ghost use Rattle.targets.specs.Target.{TargetOf, overLast, missingCode, arrivedSlot, arrivedCount, goTo};
 use format::Found;
 use model::Code;
@@ -84,9 +84,8 @@ pub fn target_entry(
     e: usize,
     extent: usize,
 ) -> Found
-    requires { ⌜ (length (now image) ≡ imageBytes eightInch) × (length (now fcb) ≡ fcbBytes)
-        × (findFile eightInch (entryAt eightInch (now image)) user (now fcb) 1 (extentOf (now fcb)) ≡ Found.At e)
-        × (user ≤ 15) × Indexed eightInch (entryAt eightInch (now image)) (now chain) ⌝ }
+    requires { ⌜ (findFile eightInch (entryAt eightInch (now image)) user (now fcb) 1 (extentOf (now fcb)) ≡ Found.At e)
+        × Findable eightInch (now image) (now chain) user (now fcb) ⌝ }
     ensures { λ r. ⌜ r ≡ findFile eightInch (entryAt eightInch (now (image .entry))) user (now (fcb .entry)) 1 extent ⌝ }
 {
     if entries::extent(fcb) == extent {
@@ -107,7 +106,7 @@ pub fn larger(x: u8, y: u8) -> u8
 
 // Slot j as the FCB has it once it has come from entry e to entry t.
 pub fn arrived_slot(image: &[u8], fcb: &[u8], e: usize, t: usize, j: usize) -> u8
-    requires { ⌜ (length (now image) ≡ imageBytes eightInch) × (length (now fcb) ≡ fcbBytes) × (t < eightInch .entries) × (j < slotCount) ⌝ }
+    requires { ⌜ Long eightInch (now image) × (length (now fcb) ≡ fcbBytes) × (t < eightInch .entries) × (j < slotCount) ⌝ }
     ensures { λ r. ⌜ r ≡ arrivedSlot eightInch (entryAt eightInch (now (image .entry))) (now (fcb .entry)) e t j ⌝ }
 {
     if t == e {
@@ -118,7 +117,7 @@ pub fn arrived_slot(image: &[u8], fcb: &[u8], e: usize, t: usize, j: usize) -> u
 
 // The larger of the counts that the FCB, come from entry e to entry t, and that entry have.
 pub fn arrived_count(image: &[u8], fcb: &[u8], e: usize, t: usize) -> u8
-    requires { ⌜ (length (now image) ≡ imageBytes eightInch) × (length (now fcb) ≡ fcbBytes) × (t < eightInch .entries) ⌝ }
+    requires { ⌜ Long eightInch (now image) × (length (now fcb) ≡ fcbBytes) × (t < eightInch .entries) ⌝ }
     ensures { λ r. ⌜ r ≡ arrivedCount (entryAt eightInch (now (image .entry))) (now (fcb .entry)) e t ⌝ }
 {
     let count = entries::count_of(rows::row(image, t));

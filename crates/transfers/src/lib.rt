@@ -2,7 +2,7 @@
 ghost use mathlib.Core.Path.{_≡_};
 ghost use Prim.Native.Nat.{_*_, _≤_, _<_};
 ghost use lib.ListN.{length};
-ghost use Rattle.format.specs.Diskette.{Bytes, eightInch, imageBytes, recordBytes, slotCount, extentRecords};
+ghost use Rattle.format.specs.Diskette.{Bytes, eightInch, Long, recordBytes, slotCount, extentRecords};
 ghost use Rattle.format.specs.Entries.{entryAt, extentOf};
 ghost use Rattle.format.specs.Fcb.{fcbBytes};
 ghost use Rattle.model.specs.Lent.{lend};
@@ -18,8 +18,8 @@ fn place_in(b: usize, r: usize) -> usize
 
 // Reading record r of the extent that the FCB has come to, in block b.
 pub fn read_at(image: &[u8], fcb: &mut [u8], buffer: &mut [u8], b: usize, r: usize, cr: usize)
-    requires { ⌜ (length (now image) ≡ imageBytes eightInch) × (length (now fcb) ≡ fcbBytes) × (length (now buffer) ≡ recordBytes)
-        × (b < eightInch .blocks) × (cr ≤ extentRecords) ⌝ }
+    requires { ⌜ Long eightInch (now image) × (length (now fcb) ≡ fcbBytes) × (length (now buffer) ≡ recordBytes) × (b < eightInch .blocks)
+        × (cr ≤ extentRecords) ⌝ }
     ensures { λ _. ⌜ ((map : Bytes) → lend (now (image .entry)) map (now (fcb .exit)) (now (buffer .exit))
         ≡ haveRead eightInch b r cr (lend (now (image .entry)) map (now (fcb .entry)) (now (buffer .entry)))) ⌝ }
 {
@@ -64,9 +64,9 @@ pub fn write_at(
     r: usize,
     cr: usize,
 )
-    requires { ⌜ (length (now image) ≡ imageBytes eightInch) × (length (now map) ≡ eightInch .blocks) × (length (now fcb) ≡ fcbBytes)
-        × (length (now buffer) ≡ recordBytes) × (t < eightInch .entries) × (j < slotCount) × (b < eightInch .blocks) × (r < extentRecords)
-        × (cr ≤ extentRecords) × (extentOf (now fcb) ≡ extentOf (entryAt eightInch (now image) t)) ⌝ }
+    requires { ⌜ Long eightInch (now image) × (length (now map) ≡ eightInch .blocks) × (length (now fcb) ≡ fcbBytes) × (length (now buffer) ≡ recordBytes)
+        × (t < eightInch .entries) × (j < slotCount) × (b < eightInch .blocks) × (r < extentRecords) × (cr ≤ extentRecords)
+        × (extentOf (now fcb) ≡ extentOf (entryAt eightInch (now image) t)) ⌝ }
     ensures { λ _. ⌜ lend (now (image .exit)) (now (map .exit)) (now (fcb .exit)) (now (buffer .entry))
         ≡ haveWritten eightInch t j b r cr (lend (now (image .entry)) (now (map .entry)) (now (fcb .entry)) (now (buffer .entry))) ⌝ }
 {

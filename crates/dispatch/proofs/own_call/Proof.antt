@@ -25,7 +25,7 @@ delete-file-requires c κs =
 record-call-requires : tie.Need-record-call-requires
 record-call-requires c κs =
     let m = c .before .before .before .before in let s = m .before .before .before .before .before .before in let p = s .pre in let f = p .3 .fits in
-    (f .image-long, f .map-long, f .fcb-long, f .buffer-long, f .user-low, p .3 .image-right, rw (← p .0) (moves-record (s .args .kind) (m .match .keys9)), p .4)
+    (f .map-long, f .buffer-long, p .3 .image-right, rw (← p .0) (moves-record (s .args .kind) (m .match .keys9)), search needs)
 
 returns : tie.Need-returns
 returns c = c .before .before .before .before .quiet-call .ensures

@@ -20,27 +20,27 @@ follows c = let d = c .before .before .before in sym (d .rule .ensures (d .befor
 sure : (c : tie.After-known-told2) → let a = c .before .before .before .before .before .before .before .before .before .before .before .before .before .before .args in
     Sure eightInch (a .asked .number) (a .image .now) (a .fcb .now) (c .before .plan .given .0 .0)
 sure c =
-    let s = c .before .before .before .before .before .before .before .before .before .before .before .before .before .before in let a = s .args in
+    let s = c .before .before .before .before .before .before .before .before .before .before .before .before .before .before in let a = s .args in let p = s .pre in
     ruling-sure eight-sound run-own (a .asked .number) (lend (a .image .now) (a .map .now) (a .fcb .now) (a .buffer .now)) (a .session)
-    (s .pre .0) (s .pre .1) (s .pre .5) (s .pre .4) (c .before .plan .given .0 .0) (follows c)
+    (p .4 .image-long) (p .0) (p .2) (p .4 .user-low) (c .before .plan .given .0 .0) (follows c)
 
 follow-requires : tie.Need-follow-requires
 follow-requires c κs =
     let d = c .before .before .before .before in let s = d .before .before .before .before .before .before .before .before .before .before .before .before .before .before in let t = d .before .before .before .before .before .before .before .target-of in let w = sure d in
-    let out = rw (← t .ensures .extent) at (w .own) in
-    (s .pre .0, s .pre .1, s .pre .2, s .pre .3, rw (t .ensures .extent) (w .extent), rw (t .ensures .at) (w .at), rw (t .ensures .after) (w .after), w .on-disk, out)
+    let out = rw (← t .ensures .extent) at (w .own) in let p = s .pre in
+    (p .4 .image-long, p .0, p .4 .fcb-long, p .1, rw (t .ensures .extent) (w .extent), rw (t .ensures .at) (w .at), rw (t .ensures .after) (w .after), w .on-disk, out)
 
 returns : tie.Need-returns
 returns c =
     let s = c .before .before .before .before .before .before .before .before .before .before .before .before .before .before .before in let a = s .args in
-    record-refused eightInch (a .asked) (lend (a .image .now) (a .map .now) (a .fcb .now) (a .buffer .now)) (a .session) (c .refuse .result) (s .pre .6)
+    record-refused eightInch (a .asked) (lend (a .image .now) (a .map .now) (a .fcb .now) (a .buffer .now)) (a .session) (c .refuse .result) (s .pre .3)
     (c .before .before .code .given .0 .0) (sym (c .before .before .before .before .rule .ensures (a .buffer .now)) ∙ c .before .before .code .given .1) (c .refuse .ensures)
 
 returns-2 : tie.Need-returns-2
 returns-2 c =
     let f = c .before .before .before .before .before .before .before .before .before in let d = f .before .before .before .before .before in let t = d .before .before .before .before .before .before .before .target-of in let s = d .before .before .before .before .before .before .before .before .before .before .before .before .before .before in let a = s .args in
     let left = f .follow .last .1 in
-    record-carried eightInch (a .asked) (lend (a .image .now) (a .map .now) (a .fcb .now) (a .buffer .now)) (a .session) (c .done .result) (s .pre .6)
+    record-carried eightInch (a .asked) (lend (a .image .now) (a .map .now) (a .fcb .now) (a .buffer .now)) (a .session) (c .done .result) (s .pre .3)
     (d .before .plan .given .0 .0) (t .result) (lend (left .0) (left .1 .0) (left .1 .1 .0) (left .1 .1 .1 .0)) (follows d) (t .ensures) (c .done .ensures) (f .follow .ensures)
 
 pub record-call-spec : {M : Type 1} → statement M

@@ -23,12 +23,12 @@ returns : tie.Need-returns
 returns c =
     λ buffer. let s = c .before .before .before .before .before .before in let a = s .args in
     sym (rule-over eightInch (a .number) (a .user) (lend (a .image .now) (a .map .now) (a .fcb .now) buffer)
-    (ap (overLast (a .number)) (sym (s .pre .3 .extent)) ∙ sym (c .before .over-last .ensures) ∙ c .if1 .taken))
+    (ap (overLast (a .number)) (sym (s .pre .1 .extent)) ∙ sym (c .before .over-last .ensures) ∙ c .if1 .taken))
 
 -- what is known on the way: the record is in range, the FCB's entry is e, and the target's entry is as the model looks it up
 in-range : (c : tie.After-current-entry) → let a = c .before .before .before .before .before .before .before .args in overLast (a .number) (targetExtent (a .number) (a .fcb .now)) ≡ false
 in-range c =
-    let s = c .before .before .before .before .before .before .before in ap (overLast (s .args .number)) (sym (s .pre .3 .extent)) ∙ sym (c .before .before .over-last .ensures) ∙ c .before .if1 .left
+    let s = c .before .before .before .before .before .before .before in ap (overLast (s .args .number)) (sym (s .pre .1 .extent)) ∙ sym (c .before .before .over-last .ensures) ∙ c .before .if1 .left
 
 entry : (c : tie.After-known-told) → let a = c .before .before .before .before .before .before .before .before .before .before .args in
     current eightInch (entryAt eightInch (a .image .now)) (a .map .now) (a .user) (a .fcb .now) ≡ At (c .before .e .given .0 .0)
@@ -44,7 +44,7 @@ target : (c : tie.After-target-entry) → let a = c .before .before .before .bef
     c .target-entry .result ≡ findFile eightInch (entryAt eightInch (a .image .now)) (a .user) (a .fcb .now) 1 (targetExtent (a .number) (a .fcb .now))
 target c =
     let s = c .before .before .before .before .before .before .before .before .before .before .before in let a = s .args in
-    c .target-entry .ensures ∙ ap (findFile eightInch (entryAt eightInch (a .image .now)) (a .user) (a .fcb .now) 1) (s .pre .3 .extent)
+    c .target-entry .ensures ∙ ap (findFile eightInch (entryAt eightInch (a .image .now)) (a .user) (a .fcb .now) 1) (s .pre .1 .extent)
 
 among : (c : tie.After-target-entry) → Among (eightInch .entries) (c .target-entry .result)
 among c k q =
@@ -65,7 +65,7 @@ slot-for-requires : tie.Need-slot-for-requires
 slot-for-requires c κs =
     let s = c .before .before .before .before .before .before .before .before .before .before .before in let a = s .args in
     target-low eightInch (entryAt eightInch (a .image .now)) (a .map .now) (a .user) (a .fcb .now) (c .before .before .e .given .0 .0) (a .number) (a .target)
-    (entry (c .before)) (s .pre .3)
+    (entry (c .before)) (s .pre .1)
 
 rule-write-requires : tie.Need-rule-write-requires
 rule-write-requires c κs =
@@ -79,7 +79,7 @@ unfolding presentEntry targetEntry targetSlot
 returns-3 c =
     λ buffer. let s = c .before .before .before .before .before .before .before .before .before .before .before .before .before .before .before in let a = s .args in
     c .rule-write .ensures
-    ∙ rw (c .before .before .before .slot-for .ensures .0, target (c .before .before .before .before), s .pre .3 .extent, s .pre .3 .at)
+    ∙ rw (c .before .before .before .slot-for .ensures .0, target (c .before .before .before .before), s .pre .1 .extent, s .pre .1 .at)
     (sym (rule-write eightInch (a .number) (a .user) (lend (a .image .now) (a .map .now) (a .fcb .now) buffer) (c .before .before .before .before .before .before .e .given .0 .0)
     (entry (c .before .before .before .before .before)) run-own (in-range (c .before .before .before .before .before .before .before .before)) (sym (c .before .before .writes .ensures) ∙ c .before .if2 .taken)))
 
@@ -91,7 +91,7 @@ unfolding presentEntry targetEntry targetSlot
 returns-4 c =
     λ buffer. let s = c .before .before .before .before .before .before .before .before .before .before .before .before .before .before .before in let a = s .args in
     c .rule-read .ensures
-    ∙ rw (c .before .before .before .slot-for .ensures .0, target (c .before .before .before .before), s .pre .3 .extent, s .pre .3 .at)
+    ∙ rw (c .before .before .before .slot-for .ensures .0, target (c .before .before .before .before), s .pre .1 .extent, s .pre .1 .at)
     (sym (rule-read eightInch (a .number) (a .user) (lend (a .image .now) (a .map .now) (a .fcb .now) buffer) (c .before .before .before .before .before .before .e .given .0 .0)
     (entry (c .before .before .before .before .before)) run-own (in-range (c .before .before .before .before .before .before .before .before)) (sym (c .before .before .writes .ensures) ∙ c .before .if2 .left)))
 
