@@ -6,8 +6,6 @@ ghost use lib.ListN.{length};
 ghost use Rattle.format.specs.Diskette.{eightInch, extents, extentRecords};
 ghost use Rattle.format.specs.Fcb.{fcbBytes};
 ghost use Rattle.model.specs.Lent.{lend, outcome};
-ghost use Rattle.model.specs.Kinds.{kindOf, same};
-ghost use Rattle.model.specs.declared.Kind.the-variants.{Write};
 ghost use Rattle.model.specs.Step.{step};
 ghost use Rattle.table.specs.Own.{ask};
 ghost use Rattle.effects.specs.Book.{acceptedAnswer};

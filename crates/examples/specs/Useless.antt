@@ -5,7 +5,6 @@ use mathlib.Core.Bool.{true, not}
 use mathlib.Core.List.{List, [], _∷_}
 use Prim.Native.Nat.{ℕ, zero, suc, _*_, _%_, _≤_}
 use native.Mathlib.Omega.{arith}
-use lib.Dec.{eqb}
 use lib.ListN.{length, getD, replicate, length-replicate}
 use Rattle.lists.specs.Cases.{split, eq-or-ne}
 use Rattle.lists.specs.Tests.{_and_}
@@ -26,7 +25,7 @@ use Rattle.model.specs.Codes.{aOf}
 use Rattle.model.specs.Target.{targetExtent, targetRecord}
 use Rattle.model.specs.Lent.{Lent, lend, Outcome, ends, ended}
 use Rattle.model.specs.Kinds.{isCall, kindOf, usesFcb}
-use Rattle.model.specs.Calls.{createdAt, created, done}
+use Rattle.model.specs.Calls.{createdAt, created}
 use Rattle.model.specs.Entering.{madeRow}
 use Rattle.model.specs.Step.{effect, step}
 use Rattle.fields.specs.Entering.{length-copied}

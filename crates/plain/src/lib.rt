@@ -1,7 +1,6 @@
 // The calls that look for no entry: 13 log in, 32 user number, 36 random record, 46 space, 98 free blocks. Each is handed only what
 // it reads or changes; what it promises holds whatever the other buffers are.
 ghost use mathlib.Core.Path.{_≡_};
-ghost use Prim.Native.Nat.{ℕ};
 ghost use lib.ListN.{length};
 ghost use Rattle.format.specs.Diskette.{Bytes, eightInch, recordBytes};
 ghost use Rattle.format.specs.Entries.{entryAt};

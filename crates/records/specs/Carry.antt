@@ -25,7 +25,7 @@ use Rattle.model.specs.declared.Plan.the-variants.{Stay, Move, Make}
 use Rattle.model.specs.Lent.{Lent, answerOf, ended}
 use Rattle.model.specs.Target.{targetSlot, moved, made, haveRead, haveWritten, targetExtent}
 use Rattle.model.specs.Kinds.{kindOf, same, ofRecord}
-use Rattle.model.specs.declared.Kind.the-variants.{Read, Write}
+use Rattle.model.specs.declared.Kind.the-variants.{Write}
 use Rattle.model.specs.Calls.{done, readAt, reading, writtenAt, writing}
 use Rattle.model.specs.Step.{refusedSession}
 use Rattle.table.specs.OwnStep.{ownStep}

@@ -1,7 +1,7 @@
 // The searches: a row against a pattern, the first entry that a pattern hits, and calls 17 and 18. Each call is handed only what it
 // reads or changes; what it promises holds whatever the other buffers are.
 ghost use mathlib.Core.Path.{_≡_};
-ghost use Prim.Native.Nat.{ℕ, _≤_};
+ghost use Prim.Native.Nat.{_≤_};
 ghost use lib.ListN.{length};
 ghost use Rattle.format.specs.Diskette.{Bytes, eightInch, recordBytes, Long, entryBytes};
 ghost use Rattle.format.specs.Entries.{entryAt};

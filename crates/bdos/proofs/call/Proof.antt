@@ -1,5 +1,5 @@
 -- `bdos::call` meets its contract: a test that fails is a row that decides, and what passed them all is ready for its own function.
-use mathlib.Core.Path.{_≡_, refl, sym, _∙_}
+use mathlib.Core.Path.{_≡_, sym, _∙_}
 use mathlib.Core.Bool.{true}
 use borrow.Author.Needs.{needs}
 use borrow.Author.Tests.{not-true, not-false}

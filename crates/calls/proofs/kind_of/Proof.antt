@@ -1,6 +1,5 @@
 -- Each arm is the kind in its number's line; the rest are the numbers that none of the lines has.
 use mathlib.Core.Path.{_≡_, refl, sym}
-use mathlib.Core.Bool.{true}
 use mathlib.Core.List.{List, [], _∷_}
 use Prim.Native.Nat.{ℕ}
 use Rattle.model.specs.Kinds.{Listed, calls, lineIn, kindOf, same}
