@@ -98,8 +98,8 @@ module _ (G : Geometry) (asked : Asked) (l : Lent) (s : Session) where
     where
       go : Refuses G asked l s c → acceptedAnswer (asked .number) (answerOf c (refusedSession c s)) ≡ false
       go (unlisted e f) = error-refused (asked .number) c (refusedSession c s) (ap (λ (d : Code). eqb (hOf d) 0) e)
-      go (parameter e f) = error-refused (asked .number) c (refusedSession c s) (ap (λ (d : Code). eqb (hOf d) 0) e)
-      go (disk e f) = error-refused (asked .number) c (refusedSession c s) (ap (λ (d : Code). eqb (hOf d) 0) e)
+      go (parameter e t f) = error-refused (asked .number) c (refusedSession c s) (ap (λ (d : Code). eqb (hOf d) 0) e)
+      go (disk e t f) = error-refused (asked .number) c (refusedSession c s) (ap (λ (d : Code). eqb (hOf d) 0) e)
       go (own g w d) =
           let row = row-of refusal (asked .number) c (callRows G asked l s) refl d in
           refusal-refused (asked .number) (row .calls) c (refusedSession c s) (row .passes) (row .applies)

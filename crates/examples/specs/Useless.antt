@@ -185,8 +185,8 @@ RefusesAll b = (k : ℕ) (asked : Asked) (l : Lent) (s : Session) → b k asked 
 -- as no refusal of the table is: none has A = 0
 refusal-a : (asked : Asked) (l : Lent) (s : Session) (c : Code) → Refuses eightInch asked l s c → aOf c ≡ 0 → ⊥
 refusal-a asked l s c (unlisted e f) q = let z : aOf c ≡ 255 = ap aOf e in omega arith
-refusal-a asked l s c (parameter e f) q = let z : aOf c ≡ 255 = ap aOf e in omega arith
-refusal-a asked l s c (disk e f) q = let z : aOf c ≡ 255 = ap aOf e in omega arith
+refusal-a asked l s c (parameter e t f) q = let z : aOf c ≡ 255 = ap aOf e in omega arith
+refusal-a asked l s c (disk e t f) q = let z : aOf c ≡ 255 = ap aOf e in omega arith
 refusal-a asked l s c (own g w d) q =
     not-both (eqb (aOf c) 0) (eq-eqb _ _ q)
     (not-true _ (row-of (λ (cs : List ℕ) (x : Code). not (eqb (aOf x) 0)) (asked .number) c (callRows eightInch asked l s) refl d .passes))
