@@ -1,5 +1,5 @@
 -- What an accepted call answers, and the session that it leaves.
-use mathlib.Core.Path.{_≡_, refl, ap, subst}
+use mathlib.Core.Path.{_≡_, refl, ap}
 use mathlib.Core.Bool.{true, false, cond}
 use Prim.Native.Nat.{ℕ, _+_}
 use lib.Dec.{eqb}
@@ -20,13 +20,12 @@ use Rattle.model.specs.declared.Kind.the-variants.{Unlisted, Quiet, Search, Use
 use Rattle.model.specs.Lent.{Lent, Outcome, rowsOf, ended, searching, withUser}
 use Rattle.model.specs.Target.{presentEntry, plan}
 use Rattle.model.specs.Search.{findHit}
-use Rattle.model.specs.Table.{askedEntry, ownRows}
+use Rattle.model.specs.Table.{askedEntry}
 use Rattle.model.specs.Calls.{entryNumber, loggedIn, freed, userSet, openedAt, opened, closedAt, closed, foundAt, searched, deleted, createdAt, created, renamed, sized, positioned, space, readAt, reading, read, writtenAt, writing, written}
 use Rattle.model.specs.Step.{told, pattern, place, settled, does}
-use Rattle.table.specs.First.{NoneHolds}
-use Rattle.table.specs.Own.{calling, not-unlisted}
+use Rattle.table.specs.Own.{not-unlisted}
 use Rattle.table.specs.Facts.{Opens, AcceptedCall}
-use Rattle.table.specs.Accept.{opens-of, closes-of, makes-of, hits-of}
+use Rattle.table.specs.Accept.{at-number, opens-of, closes-of, makes-of, hits-of}
 
 -- the entry that was looked for was found, and A is its number mod 4
 pub record AnswersEntry (r : Found) (a : ℕ) : Type 0 where
@@ -135,7 +134,7 @@ module _ (G : Geometry) (asked : Asked) (l : Lent) (s : Session) where
   carried-done c Unlisted q = not-unlisted (asked .number) (c .listed) q
   carried-done c Quiet q =
       record {
-        answers = (λ n. opened-entry n (opens-of G asked l s (subst (λ (m : ℕ). NoneHolds (ownRows G (calling m asked) l s)) n (c .none))), λ ne. ap entryNumber (no-entry ne));
+        answers = (λ n. opened-entry n (opens-of G asked l s (at-number G asked l s (c .none) 15 n)), λ ne. ap entryNumber (no-entry ne));
         no-error = refl;
         leaves = over refl refl refl;
       }

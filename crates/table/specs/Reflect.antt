@@ -126,6 +126,12 @@ module _ (G : Geometry) (l : Lent) (s : Session) where
   unfolding anyReadOnly
   writable-of wild h e b t = second-fails _ _ (any-never _ (G .entries) h e b) t
 
+  pub positions-of : not (positionRight (l .fcb)) ≡ false → Positions G l s
+  unfolding positionRight
+  positions-of h =
+      let t = not-false _ h in
+      record { ex = leb-true _ _ (and-left _ _ (and-left _ _ t)); s2 = leb-true _ _ (and-right _ _ (and-left _ _ t)); cr = leb-true _ _ (and-right _ _ t) }
+
   pub positions-right : Positions G l s → not (positionRight (l .fcb)) ≡ false
   unfolding positionRight
   positions-right p = ap not (and-both _ _ (and-both _ _ (le-leb _ _ (p .ex)) (le-leb _ _ (p .s2))) (le-leb _ _ (p .cr)))
