@@ -25,7 +25,7 @@ use Rattle.model.specs.Calls.{entryNumber, loggedIn, freed, userSet, openedAt, 
 use Rattle.model.specs.Step.{told, pattern, place, settled, does}
 use Rattle.table.specs.Own.{not-unlisted}
 use Rattle.table.specs.Facts.{Opens, AcceptedCall}
-use Rattle.table.specs.Accept.{at-number, opens-of, closes-of, makes-of, hits-of}
+use Rattle.table.specs.Accept.{own-at, hits-of}
 
 -- the entry that was looked for was found, and A is its number mod 4
 pub record AnswersEntry (r : Found) (a : ℕ) : Type 0 where
@@ -134,7 +134,7 @@ module _ (G : Geometry) (asked : Asked) (l : Lent) (s : Session) where
   carried-done c Unlisted q = not-unlisted (asked .number) (c .listed) q
   carried-done c Quiet q =
       record {
-        answers = (λ n. opened-entry n (opens-of G asked l s (at-number G asked l s (c .none) 15 n)), λ ne. ap entryNumber (no-entry ne));
+        answers = (λ n. opened-entry n (own-at G asked l s c q .0 n), λ ne. ap entryNumber (no-entry ne));
         no-error = refl;
         leaves = over refl refl refl;
       }
@@ -142,11 +142,11 @@ module _ (G : Geometry) (asked : Asked) (l : Lent) (s : Session) where
   carried-done c User q = let h = user-answered in record { answers = h .is-a; no-error = h .is-h; leaves = sets refl (h .is-session) }
   carried-done c Settle q = zero-done Settle _ refl refl (λ z. z) settled-answered
   carried-done c Close q =
-      let e = closes-of G asked l s (c .none) q .entry in
+      let e = own-at G asked l s c q .entry in
       record { answers = record { entry = e .place; found = e .is; mod-four = rw (e .is) }; no-error = refl; leaves = over refl refl refl }
   carried-done c Delete q = record { answers = refl; no-error = refl; leaves = over refl refl refl }
   carried-done c Create q =
-      let e = makes-of G asked l s (c .none) q .entry in
+      let e = own-at G asked l s c q .entry in
       record { answers = record { entry = e .place; found = e .is; mod-four = rw (e .is) }; no-error = refl; leaves = over refl refl refl }
   carried-done c Rename q = record { answers = refl; no-error = refl; leaves = over refl refl refl }
   carried-done c Read q = zero-done Read _ refl refl (λ z. z) (read-answered (asked .number))
