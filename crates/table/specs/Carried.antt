@@ -98,20 +98,6 @@ module _ (G : Geometry) (asked : Asked) (l : Lent) (s : Session) where
       split (bool-cases (eqb (asked .number) 13))
       (λ t. rw t record { is-a = refl; is-h = refl; is-session = refl }) (λ t. rw t record { is-a = refl; is-h = refl; is-session = refl })
 
-  -- 15 tells the entry that it opened; 35, 36 and 46 tell none
-  opened-entry : asked .number ≡ 15 → Opens G l s → AnswersEntry (askedEntry G l (s .user)) (entryNumber (told G asked l s .entry))
-  unfolding told opened openedAt
-  opened-entry n o =
-      let t : eqb (asked .number) 15 ≡ true = eq-eqb _ _ n in
-      record { entry = o .entry .place; found = o .entry .is; mod-four = rw (t, o .entry .is) }
-
-  no-entry : (asked .number ≡ 15 → ⊥) → told G asked l s .entry ≡ 0
-  unfolding told sized positioned space
-  no-entry ne =
-      let t : eqb (asked .number) 15 ≡ false = ne-eqb _ _ ne in
-      split (bool-cases (eqb (asked .number) 35)) (λ a. rw (t, a))
-      (λ a. split (bool-cases (eqb (asked .number) 36)) (λ b. rw (t, a, b)) (λ b. rw (t, a, b)))
-
   -- what an accepted call answers and leaves
   pub record Done (k : Kind) (o : Outcome) : Type 0 where
     pub answers : Answers k (o .answer .a)
@@ -128,6 +114,20 @@ module _ (G : Geometry) (asked : Asked) (l : Lent) (s : Session) where
     no-error = refl;
     leaves = on refl record { entry = f .place; found = f .is; on = rw (f .is) };
   }
+
+  -- 15 tells the entry that it opened; 35, 36 and 46 tell none
+  opened-entry : asked .number ≡ 15 → Opens G l s → AnswersEntry (askedEntry G l (s .user)) (entryNumber (told G asked l s .entry))
+  unfolding told opened openedAt
+  opened-entry n o =
+      let t : eqb (asked .number) 15 ≡ true = eq-eqb _ _ n in
+      record { entry = o .entry .place; found = o .entry .is; mod-four = rw (t, o .entry .is) }
+
+  no-entry : (asked .number ≡ 15 → ⊥) → told G asked l s .entry ≡ 0
+  unfolding told sized positioned space
+  no-entry ne =
+      let t : eqb (asked .number) 15 ≡ false = ne-eqb _ _ ne in
+      split (bool-cases (eqb (asked .number) 35)) (λ a. rw (t, a))
+      (λ a. split (bool-cases (eqb (asked .number) 36)) (λ b. rw (t, a, b)) (λ b. rw (t, a, b)))
 
   pub carried-done : AcceptedCall G asked l s → (k : Kind) → kindOf (asked .number) ≡ k → Done k (does G asked l s k)
   unfolding closed closedAt deleted created createdAt renamed
