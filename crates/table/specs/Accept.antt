@@ -1,5 +1,5 @@
 -- A table passes a call exactly when the call's facts hold.
-use mathlib.Core.Path.{_≡_, refl, sym, ap, _∙_}
+use mathlib.Core.Path.{_≡_, refl, sym, ap, subst, _∙_}
 use mathlib.Core.Logic.{_⊎_}
 use mathlib.Core.Bool.{true, false, not}
 use Prim.Native.Nat.{ℕ, _/_, _≤_, _<_}
@@ -22,16 +22,16 @@ use Rattle.model.specs.Lent.{Lent, rowsOf}
 use Rattle.model.specs.Target.{targetExtent, presentEntry, targetEntry, recordThere, blockThere, readOnlyThere}
 use Rattle.model.specs.declared.Asked.{Asked}
 use Rattle.model.specs.declared.Kind.{Kind}
-use Rattle.model.specs.declared.Kind.the-variants.{Unlisted, Search, User, Close, Create, Rename, Read, Write}
+use Rattle.model.specs.declared.Kind.the-variants.{Unlisted, Quiet, Search, User, Settle, Close, Delete, Create, Rename, Read, Write}
 use Rattle.model.specs.Kinds.{Listed, calls, kindOf, same, numbersIn, isCall, isRandom}
 use Rattle.model.specs.Search.{findHit}
 use Rattle.model.specs.Step.{pattern, place}
 use Rattle.model.specs.Table.{parametersRight, diskRight, ownRows, verdict}
 use Rattle.table.specs.First.{_&_, NoneHolds, passed-none, none-passed, passed-refused}
-use Rattle.table.specs.Own.{calling, AtEach, at-kind, rowsFor, verdict-rows, verdict-unlisted}
+use Rattle.table.specs.Own.{calling, AtEach, at-kind, not-unlisted, rowsFor, verdict-rows, verdict-unlisted}
 use Rattle.table.specs.Present.{there-target, file-extent-below}
-use Rattle.table.specs.Facts.{Opens, Closes, Makes, Renames, Sizes, Positions, Reads, Writes, Ready, AcceptedCall}
-use Rattle.table.specs.Reflect.{found, missed, either-found, either-missed, argument-of, parameters-right, disk-right, ready-of, some-of, some-right, none-of, writable-of, positions-right}
+use Rattle.table.specs.Facts.{Opens, Closes, Deletes, Makes, Renames, Sizes, Positions, Reads, Writes, Own, Ready, AcceptedCall}
+use Rattle.table.specs.Reflect.{found, missed, either-found, either-missed, pattern-of, pattern-right, argument-of, argument-right, parameters-right, disk-right, ready-of, some-of, some-right, none-of, none-right, writable-of, writable-right, positions-of, positions-right}
 
 -- the target's extent of 33 and 34 is below 2,048 exactly where the random record is at most 262,143
 pub random-below : (n : ℕ) (fcb : Bytes) → isRandom n ≡ true → ltb lastRecord (randomOf fcb) ≡ false → targetExtent n fcb < extents
@@ -78,6 +78,9 @@ module _ (G : Geometry) (l : Lent) (s : Session) where
   block-right n f =
       split (eq-or-ne (blockThere G n (s .user) l) 0) (λ z. and-fails-right _ _ (missed _ (f z))) (λ z. and-fails-left _ _ (ne-eqb _ _ z))
 
+pub opens-of : (G : Geometry) (asked : Asked) (l : Lent) (s : Session) → NoneHolds (ownRows G (calling 15 asked) l s) → Opens G l s
+opens-of G asked l s h = record { name = not-false _ (h .0); ex = ltb-false _ _ (h .1 .0); entry = found _ (h .1 .1 .0) }
+
 -- ---- a call's own facts, by its kind
 module _ (G : Geometry) (asked : Asked) (l : Lent) (s : Session) (none : NoneHolds (ownRows G asked l s)) where
   -- from what holds at each number of the kind
@@ -104,7 +107,7 @@ module _ (G : Geometry) (asked : Asked) (l : Lent) (s : Session) (none : NoneHol
         new = none-of G l s 17 (h .1 .1 .1 .1 .0);
       }) & tt)
 
-  pub sets-of : kindOf (asked .number) ≡ User → (asked .argument ≡ 255) ⊎ (asked .argument ≤ 15)
+  sets-of : kindOf (asked .number) ≡ User → (asked .argument ≡ 255) ⊎ (asked .argument ≤ 15)
   unfolding _or_
   sets-of = by-rows (λ (n : ℕ). (asked .argument ≡ 255) ⊎ (asked .argument ≤ 15)) User refl ((λ h. argument-of (asked .argument) (h .0)) & tt)
 
@@ -126,11 +129,37 @@ module _ (G : Geometry) (asked : Asked) (l : Lent) (s : Session) (none : NoneHol
       ((λ h. writes-of G l s 21 (h .0) (h .1 .0) (leb-false _ _ (h .1 .1 .1 .0)) (h .1 .1 .1 .1 .0) (h .1 .1 .1 .1 .1 .0))
       & (λ h. writes-of G l s 34 (h .1 .0) (h .1 .1 .0) (random-below 34 (l .fcb) refl (h .0)) (h .1 .1 .1 .1 .0) (h .1 .1 .1 .1 .1 .0)) & tt)
 
--- ---- and back, where a law says that a call is carried out
-module _ (G : Geometry) (asked : Asked) (l : Lent) (s : Session) where
-  pub opens-of : NoneHolds (ownRows G (calling 15 asked) l s) → Opens G l s
-  opens-of h = record { name = not-false _ (h .0); ex = ltb-false _ _ (h .1 .0); entry = found _ (h .1 .1 .0) }
+  -- its rows are those of its number
+  at-number : (n : ℕ) → asked .number ≡ n → NoneHolds (ownRows G (calling n asked) l s)
+  at-number n q = subst (λ (m : ℕ). NoneHolds (ownRows G (calling m asked) l s)) q none
 
+  deletes-of : kindOf (asked .number) ≡ Delete → Deletes G l s
+  deletes-of =
+      by-rows (λ (n : ℕ). Deletes G l s) Delete refl
+      ((λ h. record { name = not-false _ (h .0); files = record { some = some-of G l s true 1 (h .1 .0); writable = writable-of G l s true (h .1 .1 .0) } }) & tt)
+
+  own-of : isCall (asked .number) ≡ true → Ready G asked l s → (k : Kind) → kindOf (asked .number) ≡ k → Own G asked l s k
+  own-of t r Unlisted q = not-unlisted (asked .number) t q
+  own-of t r Quiet q = (
+    λ n. opens-of G asked l s (at-number 15 n),
+    λ n. let h = at-number 35 n in record { name = not-false _ (h .0); some = some-of G l s false 1 (h .1 .0) },
+    λ n. positions-of G l s (at-number 36 n .0),
+  )
+  own-of t r Search q = (
+    λ n. let h = at-number 17 n in record { name = not-false _ (h .0); ex = pattern-of _ (h .1 .0); entry = found _ (h .1 .1 .0) },
+    λ n. let h = at-number 18 n in record { on = not-false _ (h .0); entry = found _ (h .1 .0) },
+  )
+  own-of t r User q = sets-of q
+  own-of t r Settle q = tt
+  own-of t r Close q = closes-of q
+  own-of t r Delete q = deletes-of q
+  own-of t r Create q = makes-of q
+  own-of t r Rename q = renames-of q
+  own-of t r Read q = reads-of (r .image-right) (r .fits .user-low) q
+  own-of t r Write q = writes-by q
+
+-- ---- and back: facts that hold leave no row of the call that does
+module _ (G : Geometry) (asked : Asked) (l : Lent) (s : Session) where
   pub sizes-right : Sizes G l s → NoneHolds (ownRows G (calling 35 asked) l s)
   sizes-right o = ap not (o .name) & some-right G l s false 1 (o .some) & tt
 
@@ -151,6 +180,43 @@ module _ (G : Geometry) (asked : Asked) (l : Lent) (s : Session) where
       missed _ (o .entry) & o .writable & and-fails-right _ _ (missed _ (o .entry)) & lt-leb _ _ (o .extent)
       & either-missed _ _ (o .room) & block-right G l s 21 (o .block) & tt
 
+  -- from what holds at each number of the kind
+  to-rows : (k : Kind) → same Unlisted k ≡ false
+      → AtEach (λ (n : ℕ). Own G (calling n asked) l s k → NoneHolds (ownRows G (calling n asked) l s)) (numbersIn (λ (c : Listed). same (c .kind) k) calls)
+      → kindOf (asked .number) ≡ k → Own G (calling (asked .number) asked) l s k → NoneHolds (ownRows G asked l s)
+  to-rows k u x q = at-kind (λ (n : ℕ). Own G (calling n asked) l s k → NoneHolds (ownRows G (calling n asked) l s)) k (asked .number) u x q
+
+  own-right : (k : Kind) → kindOf (asked .number) ≡ k → Own G asked l s k → NoneHolds (ownRows G asked l s)
+  unfolding _or_ isRandom
+  own-right Unlisted q o = absurd o
+  own-right Quiet q o =
+      to-rows Quiet refl
+      ((λ (opens, sizes, positions). let p = opens refl in ap not (p .name) & le-ltb _ _ (p .ex) & missed _ (p .entry) & tt)
+      & (λ (opens, sizes, positions). sizes-right (sizes refl)) & (λ (opens, sizes, positions). positions-none (positions refl)) & (λ p. tt) & tt) q o
+  own-right Search q o =
+      to-rows Search refl
+      ((λ h. let p = h .0 refl in ap not (p .name) & pattern-right _ (p .ex) & missed _ (p .entry) & tt)
+      & (λ h. let p = h .1 refl in ap not (p .on) & missed _ (p .entry) & tt) & tt) q o
+  own-right User q o = to-rows User refl ((λ p. argument-right (asked .argument) p & tt) & tt) q o
+  own-right Settle q o = to-rows Settle refl ((λ p. tt) & (λ p. tt) & tt) q o
+  own-right Close q o = to-rows Close refl ((λ p. missed _ (p .entry) & tt) & tt) q o
+  own-right Delete q o =
+      to-rows Delete refl
+      ((λ p. ap not (p .name) & some-right G l s true 1 (p .files .some) & writable-right G l s true (p .files .writable) & tt) & tt) q o
+  own-right Create q o = to-rows Create refl (makes-right & tt) q o
+  own-right Rename q o =
+      to-rows Rename refl
+      ((λ p. ap not (p .name) & ap not (p .new-name) & some-right G l s false 1 (p .files .some)
+      & writable-right G l s false (p .files .writable) & none-right G l s 17 (p .new) & tt) & tt) q o
+  own-right Read q o =
+      to-rows Read refl
+      ((λ p. missed _ (p .entry) & and-fails-right _ _ (missed _ (p .entry)) & ap not (p .there) & tt) & reads-right & tt) q o
+  own-right Write q o =
+      to-rows Write refl
+      (writes-right
+      & (λ p. random-low 34 (l .fcb) refl (p .extent) & missed _ (p .entry) & p .writable & and-fails-right _ _ (missed _ (p .entry))
+      & either-missed _ _ (p .room) & block-right G l s 34 (p .block) & tt) & tt) q o
+
 -- ---- the table
 module _ (G : Geometry) (asked : Asked) (l : Lent) (s : Session) where
   pub passed-call : verdict G asked l s ≡ Passed → isCall (asked .number) ≡ true
@@ -162,11 +228,19 @@ module _ (G : Geometry) (asked : Asked) (l : Lent) (s : Session) where
   accepted q =
       let t = passed-call q in
       let none = passed-none (rowsFor G asked l s) (sym (verdict-rows G asked l s t) ∙ q) in
-      record { listed = t; ready = ready-of G asked l s (not-false (parametersRight G l asked s) (none .0)) (not-false (diskRight G l asked) (none .1 .0)); none = none .1 .1 }
+      let ready = ready-of G asked l s (not-false (parametersRight G l asked s) (none .0)) (not-false (diskRight G l asked) (none .1 .0)) in
+      record { listed = t; ready = ready; none = none .1 .1; own = own-of G asked l s (none .1 .1) t ready (kindOf (asked .number)) refl }
 
-  -- a call whose facts hold is passed
+  -- its own facts, where its kind is known
+  pub own-at : {k : Kind} → AcceptedCall G asked l s → kindOf (asked .number) ≡ k → Own G asked l s k
+  own-at c q = subst (Own G asked l s) q (c .own)
+
+  -- a call none of whose rows holds is passed; so is one whose facts hold
   pub passes : isCall (asked .number) ≡ true → Ready G asked l s → NoneHolds (ownRows G asked l s) → verdict G asked l s ≡ Passed
   passes t r o =
       verdict-rows G asked l s t
       ∙ none-passed (rowsFor G asked l s)
       (ap not (parameters-right G asked l s (r .fits) (r .drive)) & ap not (disk-right G asked l s (r .image-right) (r .map-right)) & o)
+
+  pub facts-pass : isCall (asked .number) ≡ true → Ready G asked l s → Own G asked l s (kindOf (asked .number)) → verdict G asked l s ≡ Passed
+  facts-pass t r o = passes t r (own-right G asked l s (kindOf (asked .number)) refl o)

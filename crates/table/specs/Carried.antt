@@ -1,5 +1,5 @@
 -- What an accepted call answers, and the session that it leaves.
-use mathlib.Core.Path.{_≡_, refl}
+use mathlib.Core.Path.{_≡_, refl, ap}
 use mathlib.Core.Bool.{true, false, cond}
 use Prim.Native.Nat.{ℕ, _+_}
 use lib.Dec.{eqb}
@@ -20,11 +20,12 @@ use Rattle.model.specs.declared.Kind.the-variants.{Unlisted, Quiet, Search, Use
 use Rattle.model.specs.Lent.{Lent, Outcome, rowsOf, ended, searching, withUser}
 use Rattle.model.specs.Target.{presentEntry, plan}
 use Rattle.model.specs.Search.{findHit}
-use Rattle.model.specs.Calls.{entryNumber, loggedIn, freed, userSet, closedAt, closed, foundAt, searched, deleted, createdAt, created, renamed, readAt, reading, read, writtenAt, writing, written}
+use Rattle.model.specs.Table.{askedEntry}
+use Rattle.model.specs.Calls.{entryNumber, loggedIn, freed, userSet, openedAt, opened, closedAt, closed, foundAt, searched, deleted, createdAt, created, renamed, sized, positioned, space, readAt, reading, read, writtenAt, writing, written}
 use Rattle.model.specs.Step.{told, pattern, place, settled, does}
 use Rattle.table.specs.Own.{not-unlisted}
-use Rattle.table.specs.Facts.{AcceptedCall}
-use Rattle.table.specs.Accept.{closes-of, makes-of, hits-of}
+use Rattle.table.specs.Facts.{Opens, AcceptedCall}
+use Rattle.table.specs.Accept.{own-at, hits-of}
 
 -- the entry that was looked for was found, and A is its number mod 4
 pub record AnswersEntry (r : Found) (a : ℕ) : Type 0 where
@@ -48,7 +49,7 @@ module _ (G : Geometry) (asked : Asked) (l : Lent) (s : Session) where
   -- ---- A: 0, the entry mod 4 for 15, 16, 17, 18 and 22, the user for 32 with 255
   abbrev pub Answers : Kind → ℕ → Type 0
   Answers Unlisted a = ⊥
-  Answers Quiet a = a ≡ entryNumber (told G asked l s .entry)
+  Answers Quiet a = (asked .number ≡ 15 → AnswersEntry (askedEntry G l (s .user)) a) × ((asked .number ≡ 15 → ⊥) → a ≡ 0)
   Answers Search a = AnswersEntry (findHit G (rowsOf G l) (s .user) (pattern G asked l s) (place G asked l s)) a
   Answers User a = a ≡ cond (eqb (asked .argument) 255) (s .user) 0
   Answers Settle a = a ≡ 0
@@ -114,19 +115,38 @@ module _ (G : Geometry) (asked : Asked) (l : Lent) (s : Session) where
     leaves = on refl record { entry = f .place; found = f .is; on = rw (f .is) };
   }
 
+  -- 15 tells the entry that it opened; 35, 36 and 46 tell none
+  opened-entry : asked .number ≡ 15 → Opens G l s → AnswersEntry (askedEntry G l (s .user)) (entryNumber (told G asked l s .entry))
+  unfolding told opened openedAt
+  opened-entry n o =
+      let t : eqb (asked .number) 15 ≡ true = eq-eqb _ _ n in
+      record { entry = o .entry .place; found = o .entry .is; mod-four = rw (t, o .entry .is) }
+
+  no-entry : (asked .number ≡ 15 → ⊥) → told G asked l s .entry ≡ 0
+  unfolding told sized positioned space
+  no-entry ne =
+      let t : eqb (asked .number) 15 ≡ false = ne-eqb _ _ ne in
+      split (bool-cases (eqb (asked .number) 35)) (λ a. rw (t, a))
+      (λ a. split (bool-cases (eqb (asked .number) 36)) (λ b. rw (t, a, b)) (λ b. rw (t, a, b)))
+
   pub carried-done : AcceptedCall G asked l s → (k : Kind) → kindOf (asked .number) ≡ k → Done k (does G asked l s k)
   unfolding closed closedAt deleted created createdAt renamed
   carried-done c Unlisted q = not-unlisted (asked .number) (c .listed) q
-  carried-done c Quiet q = record { answers = refl; no-error = refl; leaves = over refl refl refl }
+  carried-done c Quiet q =
+      record {
+        answers = (λ n. opened-entry n (own-at G asked l s c q .0 n), λ ne. ap entryNumber (no-entry ne));
+        no-error = refl;
+        leaves = over refl refl refl;
+      }
   carried-done c Search q = hit-done (hits-of G asked l s (c .none) q)
   carried-done c User q = let h = user-answered in record { answers = h .is-a; no-error = h .is-h; leaves = sets refl (h .is-session) }
   carried-done c Settle q = zero-done Settle _ refl refl (λ z. z) settled-answered
   carried-done c Close q =
-      let e = closes-of G asked l s (c .none) q .entry in
+      let e = own-at G asked l s c q .entry in
       record { answers = record { entry = e .place; found = e .is; mod-four = rw (e .is) }; no-error = refl; leaves = over refl refl refl }
   carried-done c Delete q = record { answers = refl; no-error = refl; leaves = over refl refl refl }
   carried-done c Create q =
-      let e = makes-of G asked l s (c .none) q .entry in
+      let e = own-at G asked l s c q .entry in
       record { answers = record { entry = e .place; found = e .is; mod-four = rw (e .is) }; no-error = refl; leaves = over refl refl refl }
   carried-done c Rename q = record { answers = refl; no-error = refl; leaves = over refl refl refl }
   carried-done c Read q = zero-done Read _ refl refl (λ z. z) (read-answered (asked .number))

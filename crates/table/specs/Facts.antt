@@ -13,11 +13,13 @@ use Rattle.format.specs.Fcb.{fcbBytes, crOf}
 use Rattle.facts.specs.Found.{FoundAt}
 use Rattle.format.specs.declared.Found.the-variants.{Nothing}
 use Rattle.model.specs.declared.Session.{Session}
-use Rattle.model.specs.Lent.{Lent, rowsOf}
+use Rattle.model.specs.Lent.{Lent, rowsOf, searchOn}
 use Rattle.model.specs.Target.{targetExtent, presentEntry, targetEntry, blockThere, recordThere, readOnlyThere}
 use Rattle.model.specs.Search.{patternOf, findHit}
 use Rattle.model.specs.declared.Asked.{Asked}
-use Rattle.model.specs.Kinds.{usesFcb, isCall}
+use Rattle.model.specs.declared.Kind.{Kind}
+use Rattle.model.specs.declared.Kind.the-variants.{Unlisted, Quiet, Search, User, Settle, Close, Delete, Create, Rename, Read, Write}
+use Rattle.model.specs.Kinds.{usesFcb, kindOf, isCall}
 use Rattle.model.specs.Table.{askedEntry, ownRows}
 use Rattle.table.specs.First.{NoneHolds}
 
@@ -48,6 +50,14 @@ module _ (G : Geometry) (l : Lent) (s : Session) where
     pub name : nameRight true (l .fcb) 1 ≡ true
     pub ex : (exOf (l .fcb) ≤ 31) ⊎ (exOf (l .fcb) ≡ 63)
     pub entry : FoundAt (findHit G (rowsOf G l) (s .user) (patternOf (l .fcb)) 0)
+
+  pub record SearchesOn : Type 0 where
+    pub on : searchOn s ≡ true
+    pub entry : FoundAt (findHit G (rowsOf G l) (s .user) (s .pattern) (s .place))
+
+  pub record Deletes : Type 0 where
+    pub name : nameRight true (l .fcb) 1 ≡ true
+    pub files : NamedFiles true
 
   pub record Makes : Type 0 where
     pub name : nameRight false (l .fcb) 1 ≡ true
@@ -92,8 +102,23 @@ pub record Ready (G : Geometry) (asked : Asked) (l : Lent) (s : Session) : Type 
   pub image-right : consistent G (l .drive .image) ≡ true
   pub map-right : (asked .number ≡ 13 → ⊥) → mapRight G (rowsOf G l) (l .drive .map) ≡ true
 
--- what the whole table says: the call is listed, and no row holds
+-- a call's own facts, by its kind, and by its number where the calls of a kind differ
+abbrev pub Own : Geometry → Asked → Lent → Session → Kind → Type 0
+Own G asked l s Unlisted = ⊥
+Own G asked l s Quiet = (asked .number ≡ 15 → Opens G l s) × (asked .number ≡ 35 → Sizes G l s) × (asked .number ≡ 36 → Positions G l s)
+Own G asked l s Search = (asked .number ≡ 17 → Searches G l s) × (asked .number ≡ 18 → SearchesOn G l s)
+Own G asked l s User = (asked .argument ≡ 255) ⊎ (asked .argument ≤ 15)
+Own G asked l s Settle = Unit {0}
+Own G asked l s Close = Closes G l s
+Own G asked l s Delete = Deletes G l s
+Own G asked l s Create = Makes G l s
+Own G asked l s Rename = Renames G l s
+Own G asked l s Read = Reads G l s (asked .number)
+Own G asked l s Write = Writes G l s (asked .number)
+
+-- what the whole table says: the call is listed, none of its rows holds, and so its facts do
 pub record AcceptedCall (G : Geometry) (asked : Asked) (l : Lent) (s : Session) : Type 0 where
   pub listed : isCall (asked .number) ≡ true
   pub ready : Ready G asked l s
   pub none : NoneHolds (ownRows G asked l s)
+  pub own : Own G asked l s (kindOf (asked .number))

@@ -3,7 +3,7 @@ use mathlib.Core.Path.{_≡_, refl, sym, ap, subst, _∙_}
 use mathlib.Core.Logic.{_⊎_}
 use mathlib.Core.Bool.{Bool, true, false, not, cond}
 use mathlib.Core.List.{List, [], _∷_, _++_}
-use Prim.Native.Nat.{ℕ, _≤_, _<_, _+_, _*_}
+use Prim.Native.Nat.{ℕ, _≤_, _<_}
 use lib.Dec.{eqb, ltb}
 use borrow.Author.Tests.{ltb-true, eq-eqb, eqb-true, not-true, not-false}
 use Rattle.lists.specs.Cases.{split, bool-cases, clash, not-both}
@@ -21,7 +21,7 @@ use Rattle.format.specs.declared.Found.the-variants.{Nothing}
 use Rattle.model.specs.declared.Asked.{Asked}
 use Rattle.model.specs.declared.Session.{Session}
 use Rattle.model.specs.declared.Code.{Code}
-use Rattle.model.specs.declared.Code.the-variants.{NotListed, BadParameter, BadDisk, BadRecord, NotCurrent, Failed, BadName, SearchOver, ReadOnly, Exists, NotClosed, NoExtent, NoRecord, NoEntry, DiskFull}
+use Rattle.model.specs.declared.Code.the-variants.{Accepted, NotListed, BadParameter, BadDisk, BadRecord, NotCurrent, Failed, BadName, SearchOver, ReadOnly, Exists, NotClosed, NoExtent, NoRecord, NoEntry, DiskFull}
 use Rattle.model.specs.declared.Verdict.the-variants.{Refused}
 use Rattle.model.specs.Codes.{saysOf, hOf}
 use Rattle.model.specs.Kinds.{Listed, calls, kindOf, isCall, numbersIn, oneOf}
@@ -60,15 +60,30 @@ unfolding firstRow
 row-of t n c [] h d = passed-refused c (decides-refused c [] d)
 row-of t n c (r ∷ rs) h d = kept t n c r (rowsAt n rs) (oneOf n (r .calls)) refl (both (t (r .calls) (r .row .code)) (allRows t rs) h .0) (row-of t n c rs (both (t (r .calls) (r .row .code)) (allRows t rs) h .1)) d
 
--- ---- codes told apart by what they say
-abbrev key : Code → ℕ
-key c = saysOf c .a + 256 * (saysOf c .h) + cond (saysOf c .over) 65536 0
+-- ---- codes told apart. Not by A and H: acceptance may have the A of a refusal
+abbrev codeNumber : Code → ℕ
+codeNumber (Accepted k) = 0
+codeNumber NotListed = 1
+codeNumber BadParameter = 2
+codeNumber BadDisk = 3
+codeNumber BadRecord = 4
+codeNumber NotCurrent = 5
+codeNumber Failed = 6
+codeNumber BadName = 7
+codeNumber SearchOver = 8
+codeNumber ReadOnly = 9
+codeNumber Exists = 10
+codeNumber NotClosed = 11
+codeNumber NoExtent = 12
+codeNumber NoRecord = 13
+codeNumber NoEntry = 14
+codeNumber DiskFull = 15
 
 abbrev isCode : Code → Code → Bool
-isCode c d = eqb (key c) (key d)
+isCode c d = eqb (codeNumber c) (codeNumber d)
 
 is-self : (c : Code) → isCode c c ≡ true
-is-self c = eq-eqb (key c) (key c) refl
+is-self c = eq-eqb (codeNumber c) (codeNumber c) refl
 
 -- rows whose codes fail a test decide no code that passes it
 abbrev Absent : (Code → Bool) → List Row → Type 0
@@ -141,10 +156,14 @@ module _ (G : Geometry) (asked : Asked) (l : Lent) (s : Session) where
       × (callsWith NoRecord ≡ 20 ∷ 21 ∷ 33 ∷ [])
       × (callsWith NoEntry ≡ 34 ∷ [])
       × (callsWith DiskFull ≡ 21 ∷ 34 ∷ [])
+      × (callsWith NotListed ≡ [])
+      × (callsWith BadParameter ≡ [])
+      × (callsWith BadDisk ≡ [])
+      × ((k : ℕ) → callsWith (Accepted k) ≡ [])
 
   pub by-code : ByCode
   unfolding callsWith
-  by-code = (refl, refl, refl, refl, refl, refl, refl, refl, refl, refl, refl, refl)
+  by-code = (refl, refl, refl, refl, refl, refl, refl, refl, refl, refl, refl, refl, refl, refl, refl, λ k. refl)
 
   -- a call's own rows refuse it with no other codes
   own-given : (code : Code) → Decides code (ownRows G asked l s) → oneOf (asked .number) (callsWith code) ≡ true
@@ -156,28 +175,33 @@ module _ (G : Geometry) (asked : Asked) (l : Lent) (s : Session) where
   -- where a refusal comes from: one of the first three rows, or a row of the call's own, with a code that the table has for the call
   pub data Refuses (code : Code) : Type 0 where
     unlisted : code ≡ NotListed → isCall (asked .number) ≡ false → Refuses code
-    parameter : code ≡ BadParameter → parametersRight G l asked s ≡ false → Refuses code
-    disk : code ≡ BadDisk → diskRight G l asked ≡ false → Refuses code
+    parameter : code ≡ BadParameter → isCall (asked .number) ≡ true → parametersRight G l asked s ≡ false → Refuses code
+    disk : code ≡ BadDisk → isCall (asked .number) ≡ true → diskRight G l asked ≡ false → Refuses code
     own : oneOf (asked .number) (callsWith code) ≡ true → Ready G asked l s → Decides code (ownRows G asked l s) → Refuses code
 
-  refuses-call : (code : Code) → Decides code (rowsFor G asked l s) → Refuses code
-  refuses-call code (here t q) = parameter (sym q) (not-true _ t)
-  refuses-call code (later f (here t q)) = disk (sym q) (not-true _ t)
-  refuses-call code (later f (later g d)) = own (own-given code d) (ready-of G asked l s (not-false _ f) (not-false _ g)) d
+  refuses-call : (code : Code) → isCall (asked .number) ≡ true → Decides code (rowsFor G asked l s) → Refuses code
+  refuses-call code c (here t q) = parameter (sym q) c (not-true _ t)
+  refuses-call code c (later f (here t q)) = disk (sym q) c (not-true _ t)
+  refuses-call code c (later f (later g d)) = own (own-given code d) (ready-of G asked l s (not-false _ f) (not-false _ g)) d
 
   pub refuses : (code : Code) → verdict G asked l s ≡ Refused code → Refuses code
   refuses code q =
       split (bool-cases (isCall (asked .number)))
-      (λ t. refuses-call code (refused-decides code (rowsFor G asked l s) (sym (verdict-rows G asked l s t) ∙ q)))
+      (λ t. refuses-call code t (refused-decides code (rowsFor G asked l s) (sym (verdict-rows G asked l s t) ∙ q)))
       (λ f. unlisted (refused-same code NotListed (sym q ∙ verdict-unlisted G asked l s f)) f)
 
   -- a code that none of the first three rows has comes from the call's own
   pub own-decides : (t : Code → Bool) (code : Code) → t code ≡ true → t NotListed ≡ false → t BadParameter ≡ false → t BadDisk ≡ false
       → Refuses code → Ready G asked l s × Decides code (ownRows G asked l s)
   own-decides t code h u p d (unlisted e f) = other t code h NotListed u (sym e)
-  own-decides t code h u p d (parameter e f) = other t code h BadParameter p (sym e)
-  own-decides t code h u p d (disk e f) = other t code h BadDisk d (sym e)
+  own-decides t code h u p d (parameter e c f) = other t code h BadParameter p (sym e)
+  own-decides t code h u p d (disk e c f) = other t code h BadDisk d (sym e)
   own-decides t code h u p d (own g r w) = (r, w)
+
+  -- ---- no call is refused with an acceptance
+  pub never-accepted : (k : ℕ) → verdict G asked l s ≡ Refused (Accepted k) → ⊥
+  unfolding callsWith
+  never-accepted k q = clash (sym (own-given (Accepted k) (own-decides (isCode (Accepted k)) (Accepted k) refl refl refl refl (refuses (Accepted k) q) .1)))
 
   -- a row of the call's own decides, once the first three have failed
   pub refused-own : (code : Code) → isCall (asked .number) ≡ true → Ready G asked l s → Decides code (ownRows G asked l s) → verdict G asked l s ≡ Refused code
@@ -189,8 +213,8 @@ module _ (G : Geometry) (asked : Asked) (l : Lent) (s : Session) where
   -- ---- a consistent image with a right map is never refused for the disk
   bad-disk : (code : Code) → eqb (hOf code) 1 ≡ true → Refuses code → diskRight G l asked ≡ false
   bad-disk code h (unlisted e f) = other (λ (c : Code). eqb (hOf c) 1) code h NotListed refl (sym e)
-  bad-disk code h (parameter e f) = other (λ (c : Code). eqb (hOf c) 1) code h BadParameter refl (sym e)
-  bad-disk code h (disk e f) = f
+  bad-disk code h (parameter e c f) = other (λ (c : Code). eqb (hOf c) 1) code h BadParameter refl (sym e)
+  bad-disk code h (disk e c f) = f
   bad-disk code h (own g r d) =
       not-both (eqb (hOf code) 1) h
       (not-true _ (row-of (λ (cs : List ℕ) (c : Code). not (eqb (hOf c) 1)) (asked .number) code (callRows G asked l s) refl d .passes))

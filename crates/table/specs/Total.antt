@@ -23,7 +23,7 @@ use Rattle.model.specs.Table.{ownRows, table, verdict}
 use Rattle.model.specs.Step.{refusedSession, refused, place, effect, step}
 use Rattle.table.specs.First.{NoneHolds, Decides, passed-none, refused-same, refused-decides}
 use Rattle.table.specs.Facts.{Ready, AcceptedCall}
-use Rattle.table.specs.Accept.{accepted, passes, sets-of}
+use Rattle.table.specs.Accept.{accepted, own-at, passes}
 use Rattle.table.specs.Refuse.{SearchEnds, search-over, over-search, Refuses, refuses, refused-own}
 use Rattle.table.specs.Carried.{Leaves, over, on, sets, Done, carried-done}
 
@@ -142,7 +142,7 @@ module _ (G : Geometry) (asked : Asked) (l : Lent) (s : Session) (r : InRange G 
   leaves-range t c (on k g) =
       let below : g .entry < G .entries = first-says _ (place G asked l s) (G .entries) (g .entry) (g .found) .below in
       rw (g .on) record { user = r .user; place = omega arith }
-  leaves-range t c (sets k e) = user-range t (sets-of G asked l s (c .none) k) e
+  leaves-range t c (sets k e) = user-range t (own-at G asked l s c k) e
 
 pub step-range : (G : Geometry) (asked : Asked) (l : Lent) (s : Session) → InRange G s → InRange G (step G asked l s .answer .session)
 step-range G asked l s r =
