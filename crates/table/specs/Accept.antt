@@ -1,4 +1,4 @@
--- A table passes a call exactly when the call's facts hold.
+-- A table passes a listed call that is ready exactly when none of its own rows holds, and what that says of the call: its facts, by its kind.
 use mathlib.Core.Path.{_≡_, refl, sym, ap, subst, _∙_}
 use mathlib.Core.Logic.{_⊎_}
 use mathlib.Core.Bool.{true, false, not}
@@ -31,7 +31,7 @@ use Rattle.table.specs.First.{_&_, NoneHolds, passed-none, none-passed, 
 use Rattle.table.specs.Own.{calling, AtEach, at-kind, not-unlisted, rowsFor, verdict-rows, verdict-unlisted}
 use Rattle.table.specs.Present.{there-target, file-extent-below}
 use Rattle.table.specs.Facts.{Opens, Closes, Deletes, Makes, Renames, Sizes, Positions, Reads, Writes, Own, Ready, AcceptedCall}
-use Rattle.table.specs.Reflect.{found, missed, either-found, either-missed, pattern-of, pattern-right, argument-of, argument-right, parameters-right, disk-right, ready-of, some-of, some-right, none-of, none-right, writable-of, writable-right, positions-of, positions-right}
+use Rattle.table.specs.Reflect.{found, missed, either-found, either-missed, pattern-of, argument-of, parameters-right, disk-right, ready-of, some-of, some-right, none-of, writable-of, positions-of, positions-right}
 
 -- the target's extent of 33 and 34 is below 2,048 exactly where the random record is at most 262,143
 pub random-below : (n : ℕ) (fcb : Bytes) → isRandom n ≡ true → ltb lastRecord (randomOf fcb) ≡ false → targetExtent n fcb < extents
@@ -180,43 +180,6 @@ module _ (G : Geometry) (asked : Asked) (l : Lent) (s : Session) where
       missed _ (o .entry) & o .writable & and-fails-right _ _ (missed _ (o .entry)) & lt-leb _ _ (o .extent)
       & either-missed _ _ (o .room) & block-right G l s 21 (o .block) & tt
 
-  -- from what holds at each number of the kind
-  to-rows : (k : Kind) → same Unlisted k ≡ false
-      → AtEach (λ (n : ℕ). Own G (calling n asked) l s k → NoneHolds (ownRows G (calling n asked) l s)) (numbersIn (λ (c : Listed). same (c .kind) k) calls)
-      → kindOf (asked .number) ≡ k → Own G (calling (asked .number) asked) l s k → NoneHolds (ownRows G asked l s)
-  to-rows k u x q = at-kind (λ (n : ℕ). Own G (calling n asked) l s k → NoneHolds (ownRows G (calling n asked) l s)) k (asked .number) u x q
-
-  own-right : (k : Kind) → kindOf (asked .number) ≡ k → Own G asked l s k → NoneHolds (ownRows G asked l s)
-  unfolding _or_ isRandom
-  own-right Unlisted q o = absurd o
-  own-right Quiet q o =
-      to-rows Quiet refl
-      ((λ (opens, sizes, positions). let p = opens refl in ap not (p .name) & le-ltb _ _ (p .ex) & missed _ (p .entry) & tt)
-      & (λ (opens, sizes, positions). sizes-right (sizes refl)) & (λ (opens, sizes, positions). positions-none (positions refl)) & (λ p. tt) & tt) q o
-  own-right Search q o =
-      to-rows Search refl
-      ((λ h. let p = h .0 refl in ap not (p .name) & pattern-right _ (p .ex) & missed _ (p .entry) & tt)
-      & (λ h. let p = h .1 refl in ap not (p .on) & missed _ (p .entry) & tt) & tt) q o
-  own-right User q o = to-rows User refl ((λ p. argument-right (asked .argument) p & tt) & tt) q o
-  own-right Settle q o = to-rows Settle refl ((λ p. tt) & (λ p. tt) & tt) q o
-  own-right Close q o = to-rows Close refl ((λ p. missed _ (p .entry) & tt) & tt) q o
-  own-right Delete q o =
-      to-rows Delete refl
-      ((λ p. ap not (p .name) & some-right G l s true 1 (p .files .some) & writable-right G l s true (p .files .writable) & tt) & tt) q o
-  own-right Create q o = to-rows Create refl (makes-right & tt) q o
-  own-right Rename q o =
-      to-rows Rename refl
-      ((λ p. ap not (p .name) & ap not (p .new-name) & some-right G l s false 1 (p .files .some)
-      & writable-right G l s false (p .files .writable) & none-right G l s 17 (p .new) & tt) & tt) q o
-  own-right Read q o =
-      to-rows Read refl
-      ((λ p. missed _ (p .entry) & and-fails-right _ _ (missed _ (p .entry)) & ap not (p .there) & tt) & reads-right & tt) q o
-  own-right Write q o =
-      to-rows Write refl
-      (writes-right
-      & (λ p. random-low 34 (l .fcb) refl (p .extent) & missed _ (p .entry) & p .writable & and-fails-right _ _ (missed _ (p .entry))
-      & either-missed _ _ (p .room) & block-right G l s 34 (p .block) & tt) & tt) q o
-
 -- ---- the table
 module _ (G : Geometry) (asked : Asked) (l : Lent) (s : Session) where
   pub passed-call : verdict G asked l s ≡ Passed → isCall (asked .number) ≡ true
@@ -235,12 +198,9 @@ module _ (G : Geometry) (asked : Asked) (l : Lent) (s : Session) where
   pub own-at : {k : Kind} → AcceptedCall G asked l s → kindOf (asked .number) ≡ k → Own G asked l s k
   own-at c q = subst (Own G asked l s) q (c .own)
 
-  -- a call none of whose rows holds is passed; so is one whose facts hold
+  -- a call none of whose rows holds is passed
   pub passes : isCall (asked .number) ≡ true → Ready G asked l s → NoneHolds (ownRows G asked l s) → verdict G asked l s ≡ Passed
   passes t r o =
       verdict-rows G asked l s t
       ∙ none-passed (rowsFor G asked l s)
       (ap not (parameters-right G asked l s (r .fits) (r .drive)) & ap not (disk-right G asked l s (r .image-right) (r .map-right)) & o)
-
-  pub facts-pass : isCall (asked .number) ≡ true → Ready G asked l s → Own G asked l s (kindOf (asked .number)) → verdict G asked l s ≡ Passed
-  facts-pass t r o = passes t r (own-right G asked l s (kindOf (asked .number)) refl o)

@@ -1,6 +1,7 @@
 -- What an accepted call answers, and the session that it leaves.
 use mathlib.Core.Path.{_≡_, refl, ap}
 use mathlib.Core.Bool.{true, false, cond}
+use mathlib.Core.List.{[], _∷_}
 use Prim.Native.Nat.{ℕ, _+_}
 use lib.Dec.{eqb}
 use borrow.Author.Tests.{eq-eqb, ne-eqb}
@@ -13,7 +14,7 @@ use Rattle.format.specs.declared.Found.the-variants.{At}
 use Rattle.model.specs.declared.Session.{Session}
 use Rattle.model.specs.declared.Plan.{Plan}
 use Rattle.model.specs.declared.Plan.the-variants.{Stay, Move, Make}
-use Rattle.model.specs.Kinds.{kindOf, same}
+use Rattle.model.specs.Kinds.{kindOf, same, oneOf}
 use Rattle.model.specs.declared.Asked.{Asked}
 use Rattle.model.specs.declared.Kind.{Kind}
 use Rattle.model.specs.declared.Kind.the-variants.{Unlisted, Quiet, Search, User, Settle, Close, Delete, Create, Rename, Read, Write}
@@ -23,7 +24,8 @@ use Rattle.model.specs.Search.{findHit}
 use Rattle.model.specs.Table.{askedEntry}
 use Rattle.model.specs.Calls.{entryNumber, loggedIn, freed, userSet, openedAt, opened, closedAt, closed, foundAt, searched, deleted, createdAt, created, renamed, sized, positioned, space, readAt, reading, read, writtenAt, writing, written}
 use Rattle.model.specs.Step.{told, pattern, place, settled, does}
-use Rattle.table.specs.Own.{not-unlisted}
+use Rattle.table.specs.First.{_&_}
+use Rattle.table.specs.Own.{at-one, calling, not-unlisted}
 use Rattle.table.specs.Facts.{Opens, AcceptedCall}
 use Rattle.table.specs.Accept.{own-at, hits-of}
 
@@ -49,7 +51,9 @@ module _ (G : Geometry) (asked : Asked) (l : Lent) (s : Session) where
   -- ---- A: 0, the entry mod 4 for 15, 16, 17, 18 and 22, the user for 32 with 255
   abbrev pub Answers : Kind → ℕ → Type 0
   Answers Unlisted a = ⊥
-  Answers Quiet a = (asked .number ≡ 15 → AnswersEntry (askedEntry G l (s .user)) a) × ((asked .number ≡ 15 → ⊥) → a ≡ 0)
+  Answers Quiet a =
+      (a ≡ entryNumber (told G asked l s .entry)) × (asked .number ≡ 15 → AnswersEntry (askedEntry G l (s .user)) a)
+      × (oneOf (asked .number) (35 ∷ 36 ∷ 46 ∷ []) ≡ true → a ≡ 0)
   Answers Search a = AnswersEntry (findHit G (rowsOf G l) (s .user) (pattern G asked l s) (place G asked l s)) a
   Answers User a = a ≡ cond (eqb (asked .argument) 255) (s .user) 0
   Answers Settle a = a ≡ 0
@@ -122,19 +126,16 @@ module _ (G : Geometry) (asked : Asked) (l : Lent) (s : Session) where
       let t : eqb (asked .number) 15 ≡ true = eq-eqb _ _ n in
       record { entry = o .entry .place; found = o .entry .is; mod-four = rw (t, o .entry .is) }
 
-  no-entry : (asked .number ≡ 15 → ⊥) → told G asked l s .entry ≡ 0
+  no-entry : oneOf (asked .number) (35 ∷ 36 ∷ 46 ∷ []) ≡ true → told G asked l s .entry ≡ 0
   unfolding told sized positioned space
-  no-entry ne =
-      let t : eqb (asked .number) 15 ≡ false = ne-eqb _ _ ne in
-      split (bool-cases (eqb (asked .number) 35)) (λ a. rw (t, a))
-      (λ a. split (bool-cases (eqb (asked .number) 36)) (λ b. rw (t, a, b)) (λ b. rw (t, a, b)))
+  no-entry w = at-one (λ (n : ℕ). told G (calling n asked) l s .entry ≡ 0) (asked .number) (35 ∷ 36 ∷ 46 ∷ []) w (refl & refl & refl & tt)
 
   pub carried-done : AcceptedCall G asked l s → (k : Kind) → kindOf (asked .number) ≡ k → Done k (does G asked l s k)
   unfolding closed closedAt deleted created createdAt renamed
   carried-done c Unlisted q = not-unlisted (asked .number) (c .listed) q
   carried-done c Quiet q =
       record {
-        answers = (λ n. opened-entry n (own-at G asked l s c q .0 n), λ ne. ap entryNumber (no-entry ne));
+        answers = (refl, λ n. opened-entry n (own-at G asked l s c q .0 n), λ w. ap entryNumber (no-entry w));
         no-error = refl;
         leaves = over refl refl refl;
       }

@@ -9,14 +9,14 @@ use lib.ListN.{getD}
 use borrow.Author.Tests.{eqb-true, eq-eqb, ne-eqb, leb-true, le-leb, ltb-false, le-ltb, not-false}
 use Rattle.lists.specs.Cases.{split, bool-cases, eq-or-ne, clash}
 use Rattle.lists.specs.Tests.{_and_, _or_, and-left, and-right, and-both, and-fails-left, and-fails-right, second-fails, or-left, or-right, or-then, or-cases}
-use Rattle.lists.specs.Below.{any-never, any-empty}
+use Rattle.lists.specs.Below.{any-never}
 use Rattle.format.specs.Diskette.{Geometry}
 use Rattle.format.specs.Entries.{named, readOnly, findNamed}
 use Rattle.format.specs.Consistent.{consistent}
 use Rattle.format.specs.Notes.{mapRight}
 use Rattle.format.specs.Found.{isFound}
 use Rattle.facts.specs.Long.{long-says, long-is}
-use Rattle.facts.specs.Found.{FoundAt, found-row, missed-row, is-found, not-found, none-says, none-is}
+use Rattle.facts.specs.Found.{FoundAt, found-row, missed-row, is-found, not-found, none-says}
 use Rattle.format.specs.declared.Found.{Found}
 use Rattle.format.specs.declared.Found.the-variants.{At, Nothing}
 use Rattle.model.specs.declared.Session.{Session}
@@ -51,10 +51,6 @@ pattern-right x (inr h) = and-fails-right _ _ (ap not (eq-eqb _ _ h))
 
 pub argument-of : (a : ℕ) → not (eqb a 255 or leb a 15) ≡ false → (a ≡ 255) ⊎ (a ≤ 15)
 argument-of a h = split (or-cases _ _ (not-false _ h)) (λ t. inl (eqb-true _ _ t)) (λ t. inr (leb-true _ _ t))
-
-pub argument-right : (a : ℕ) → (a ≡ 255) ⊎ (a ≤ 15) → not (eqb a 255 or leb a 15) ≡ false
-argument-right a (inl h) = ap not (or-left _ _ (eq-eqb _ _ h))
-argument-right a (inr h) = ap not (or-right _ _ (le-leb _ _ h))
 
 -- ---- lengths, user, place and drive
 module _ (G : Geometry) (asked : Asked) (l : Lent) (s : Session) where
@@ -125,22 +121,10 @@ module _ (G : Geometry) (l : Lent) (s : Session) where
   unfolding anyNamed findNamed
   none-of q h e b = none-says _ 0 (G .entries) (not-found _ h) e (omega arith) b
 
-  pub none-right : (q : ℕ) → ((e : ℕ) → e < G .entries → named false (s .user) (l .fcb) q (rowsOf G l e) ≡ false) → anyNamed G l false (s .user) q ≡ false
-  unfolding anyNamed findNamed
-  none-right q f = ap isFound (none-is (λ (e : ℕ). named false (s .user) (l .fcb) q (rowsOf G l e)) 0 (G .entries) (λ j a b. f j b))
-
   pub writable-of : (wild : Bool) → anyReadOnly G l wild (s .user) ≡ false
       → (e : ℕ) → e < G .entries → named wild (s .user) (l .fcb) 1 (rowsOf G l e) ≡ true → readOnly (rowsOf G l e) ≡ false
   unfolding anyReadOnly
   writable-of wild h e b t = second-fails _ _ (any-never _ (G .entries) h e b) t
-
-  pub writable-right : (wild : Bool)
-      → ((e : ℕ) → e < G .entries → named wild (s .user) (l .fcb) 1 (rowsOf G l e) ≡ true → readOnly (rowsOf G l e) ≡ false)
-      → anyReadOnly G l wild (s .user) ≡ false
-  unfolding anyReadOnly
-  writable-right wild f =
-      any-empty _ (G .entries)
-      (λ e b. split (bool-cases (named wild (s .user) (l .fcb) 1 (rowsOf G l e))) (λ t. and-fails-right _ _ (f e b t)) (λ t. and-fails-left _ _ t))
 
   pub positions-of : not (positionRight (l .fcb)) ≡ false → Positions G l s
   unfolding positionRight

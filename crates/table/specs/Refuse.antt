@@ -5,6 +5,7 @@ use mathlib.Core.Bool.{Bool, true, false, not, cond}
 use mathlib.Core.List.{List, [], _∷_, _++_}
 use Prim.Native.Nat.{ℕ, _≤_, _<_}
 use lib.Dec.{eqb, ltb}
+use denote.Enum.Declared.{tagOf}
 use borrow.Author.Tests.{ltb-true, eq-eqb, eqb-true, not-true, not-false}
 use Rattle.lists.specs.Cases.{split, bool-cases, clash, not-both}
 use Rattle.lists.specs.Tests.{_and_, and-right}
@@ -23,6 +24,7 @@ use Rattle.model.specs.declared.Session.{Session}
 use Rattle.model.specs.declared.Code.{Code}
 use Rattle.model.specs.declared.Code.the-variants.{Accepted, NotListed, BadParameter, BadDisk, BadRecord, NotCurrent, Failed, BadName, SearchOver, ReadOnly, Exists, NotClosed, NoExtent, NoRecord, NoEntry, DiskFull}
 use Rattle.model.specs.declared.Verdict.the-variants.{Refused}
+use Rattle.model.proofs.Code.{the-type}
 use Rattle.model.specs.Codes.{saysOf, hOf}
 use Rattle.model.specs.Kinds.{Listed, calls, kindOf, isCall, numbersIn, oneOf}
 use Rattle.model.specs.Lent.{Lent, rowsOf, searchOn}
@@ -62,22 +64,7 @@ row-of t n c (r ∷ rs) h d = kept t n c r (rowsAt n rs) (oneOf n (r .calls)) re
 
 -- ---- codes told apart. Not by A and H: acceptance may have the A of a refusal
 abbrev codeNumber : Code → ℕ
-codeNumber (Accepted k) = 0
-codeNumber NotListed = 1
-codeNumber BadParameter = 2
-codeNumber BadDisk = 3
-codeNumber BadRecord = 4
-codeNumber NotCurrent = 5
-codeNumber Failed = 6
-codeNumber BadName = 7
-codeNumber SearchOver = 8
-codeNumber ReadOnly = 9
-codeNumber Exists = 10
-codeNumber NotClosed = 11
-codeNumber NoExtent = 12
-codeNumber NoRecord = 13
-codeNumber NoEntry = 14
-codeNumber DiskFull = 15
+codeNumber c = tagOf the-type c
 
 abbrev isCode : Code → Code → Bool
 isCode c d = eqb (codeNumber c) (codeNumber d)
@@ -86,17 +73,24 @@ is-self : (c : Code) → isCode c c ≡ true
 is-self c = eq-eqb (codeNumber c) (codeNumber c) refl
 
 -- rows whose codes fail a test decide no code that passes it
+abbrev lacks : (Code → Bool) → List Row → Bool
+lacks t [] = true
+lacks t (r ∷ rs) = cond (t (r .code)) false (lacks t rs)
+
+lacks-first : (a b : Bool) → cond a false b ≡ true → (a ≡ false) × (b ≡ true)
+lacks-first true b h = clash (sym h)
+lacks-first false b h = (refl, h)
+
 abbrev Absent : (Code → Bool) → List Row → Type 0
-Absent t [] = Unit {0}
-Absent t (r ∷ rs) = (t (r .code) ≡ false) × Absent t rs
+Absent t rs = lacks t rs ≡ true
 
 module _ (t : Code → Bool) (c : Code) (h : t c ≡ true) where
   other : {A : Type 0} (d : Code) → t d ≡ false → d ≡ c → A
   other d f q = not-both (t c) h (subst (λ (x : Code). t x ≡ false) q f)
 
   absent : {A : Type 0} (rs : List Row) → Decides c rs → Absent t rs → A
-  absent rs (here {r = r} y q) a = other (r .code) (a .0) q
-  absent rs (later {rs = ts} f d) a = absent ts d (a .1)
+  absent rs (here {r = r} {rs = ts} y q) a = other (r .code) (lacks-first (t (r .code)) (lacks t ts) a .0) q
+  absent rs (later {r = r} {rs = ts} f d) a = absent ts d (lacks-first (t (r .code)) (lacks t ts) a .1)
 
   -- so a row that alone has it holds, where it is decided
   only-row : (test : Bool) (code : Code) (rs : List Row) → Decides c (when test code ∷ rs) → Absent t rs → test ≡ true
@@ -110,9 +104,9 @@ module _ (t : Code → Bool) (c : Code) (h : t c ≡ true) where
 
   behind : (front rs : List Row) → Absent t front → Decides c (front ++ rs) → Behind front rs
   behind [] rs a d = record { failed = tt; rest = d }
-  behind (r ∷ front) rs a (here y q) = other (r .code) (a .0) q
+  behind (r ∷ front) rs a (here y q) = other (r .code) (lacks-first (t (r .code)) (lacks t front) a .0) q
   behind (r ∷ front) rs a (later f d) =
-      let b = behind front rs (a .1) d in
+      let b = behind front rs (lacks-first (t (r .code)) (lacks t front) a .1) d in
       record { failed = f & b .failed; rest = b .rest }
 
 -- a search is over: a 17 whose name and byte 12 are right finds no entry, or an 18, with a search on, finds no more from its place on
@@ -238,10 +232,10 @@ module _ (G : Geometry) (asked : Asked) (l : Lent) (s : Session) where
       let d = own-decides G asked l s (isCode NotClosed) NotClosed refl refl refl refl (refuses G asked l s NotClosed q) .1 in
       at-one (λ (n : ℕ). Decides NotClosed (ownRows G (calling n asked) l s) → ⊥) (asked .number) (20 ∷ 21 ∷ 33 ∷ 34 ∷ [])
       (own-given G asked l s NotClosed d)
-      ((λ v. no-three _ _ (_ ∷ []) _ (refl & tt) (refl & tt) (λ h. h .0) v)
-      & (λ v. no-three _ _ (_ ∷ _ ∷ []) _ (refl & refl & tt) (refl & refl & refl & tt) (λ h. h .0) v)
-      & (λ v. no-three _ _ (_ ∷ _ ∷ []) _ (refl & refl & tt) (refl & refl & tt) (λ h. h .1 .0) v)
-      & (λ v. no-three _ _ (_ ∷ _ ∷ _ ∷ []) _ (refl & refl & refl & tt) (refl & refl & tt) (λ h. h .1 .0) v) & tt) d
+      ((λ v. no-three _ _ (_ ∷ []) _ refl refl (λ h. h .0) v)
+      & (λ v. no-three _ _ (_ ∷ _ ∷ []) _ refl refl (λ h. h .0) v)
+      & (λ v. no-three _ _ (_ ∷ _ ∷ []) _ refl refl (λ h. h .1 .0) v)
+      & (λ v. no-three _ _ (_ ∷ _ ∷ _ ∷ []) _ refl refl (λ h. h .1 .0) v) & tt) d
 
   -- ---- code 6 comes out only where the random record is over 262,143
   pub random-over : verdict G asked l s ≡ Refused BadRecord → lastRecord < randomOf (l .fcb)
@@ -250,8 +244,8 @@ module _ (G : Geometry) (asked : Asked) (l : Lent) (s : Session) where
       let d = own-decides G asked l s (isCode BadRecord) BadRecord refl refl refl refl (refuses G asked l s BadRecord q) .1 in
       ltb-true _ _ (at-one (λ (n : ℕ). Decides BadRecord (ownRows G (calling n asked) l s) → ltb lastRecord (randomOf (l .fcb)) ≡ true) (asked .number) (33 ∷ 34 ∷ [])
       (own-given G asked l s BadRecord d)
-      ((λ v. only-row (isCode BadRecord) BadRecord refl _ BadRecord _ v (refl & refl & refl & refl & tt))
-      & (λ v. only-row (isCode BadRecord) BadRecord refl _ BadRecord _ v (refl & refl & refl & refl & refl & tt)) & tt) d)
+      ((λ v. only-row (isCode BadRecord) BadRecord refl _ BadRecord _ v refl)
+      & (λ v. only-row (isCode BadRecord) BadRecord refl _ BadRecord _ v refl) & tt) d)
 
   -- ---- a search is over exactly where its row decides
   pub search-over : (code : Code) → saysOf code .over ≡ true → Refuses G asked l s code → SearchEnds G asked l s (asked .number)
@@ -260,13 +254,13 @@ module _ (G : Geometry) (asked : Asked) (l : Lent) (s : Session) where
       let r = row-of (λ (cs : List ℕ) (c : Code). cond (saysOf c .over) (within cs (17 ∷ 18 ∷ [])) true) (asked .number) code (callRows G asked l s) refl (d .1) in
       at-one (λ (n : ℕ). Ready G (calling n asked) l s → Decides code (ownRows G (calling n asked) l s) → SearchEnds G asked l s n) (asked .number) (17 ∷ 18 ∷ [])
       (within-one (asked .number) (r .calls) (17 ∷ 18 ∷ []) (rw h at (r .passes)) (r .applies))
-      ((λ r v. let p = behind (λ (c : Code). saysOf c .over) code h (_ ∷ _ ∷ []) _ (refl & refl & tt) v in
+      ((λ r v. let p = behind (λ (c : Code). saysOf c .over) code h (_ ∷ _ ∷ []) _ refl v in
       ends17 r (not-false _ (p .failed .0)) (pattern-of _ (p .failed .1 .0)) (last-row _ _ (p .rest)))
-      & (λ r v. let p = behind (λ (c : Code). saysOf c .over) code h (_ ∷ []) _ (refl & tt) v in ends18 r (not-false _ (p .failed .0)) (last-row _ _ (p .rest))) & tt)
+      & (λ r v. let p = behind (λ (c : Code). saysOf c .over) code h (_ ∷ []) _ refl v in ends18 r (not-false _ (p .failed .0)) (last-row _ _ (p .rest))) & tt)
       (d .0) (d .1)
     where
       last-row : (r : Found) (c : Code) → Decides code (when (not (isFound r)) c ∷ []) → r ≡ Nothing
-      last-row r c v = not-found r (not-true _ (only-row (λ (x : Code). saysOf x .over) code h _ c [] v tt))
+      last-row r c v = not-found r (not-true _ (only-row (λ (x : Code). saysOf x .over) code h _ c [] v refl))
 
   pub over-search : (n : ℕ) → SearchEnds G asked l s n → verdict G (calling n asked) l s ≡ Refused SearchOver
   unfolding isCall kindOf

@@ -4,14 +4,8 @@ use borrow.Author.Needs.{needs}
 use Rattle.answers.proofs.done.Statement.{statement}
 use Rattle.answers.proofs.done.Tie as tie
 
-end-search-requires : tie.Need-end-search-requires
-end-search-requires c κs = search needs
-
-accept-requires : tie.Need-accept-requires
-accept-requires c κs = search needs
-
 returns : tie.Need-returns
 returns c = c .accept .ensures ∙ rw (c .before .end-search .ensures)
 
 pub done-spec : {M : Type 1} → statement M
-done-spec = tie.close (tie.spec end-search-requires accept-requires returns)
+done-spec = tie.close (tie.spec (λ c κs. search needs) (λ c κs. search needs) returns)

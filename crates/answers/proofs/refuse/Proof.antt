@@ -6,12 +6,6 @@ use Rattle.model.specs.Codes.{saysOf}
 use Rattle.answers.proofs.refuse.Statement.{statement}
 use Rattle.answers.proofs.refuse.Tie as tie
 
-line-of-requires : tie.Need-line-of-requires
-line-of-requires c κs = search needs
-
-end-search-requires : tie.Need-end-search-requires
-end-search-requires c κs = search needs
-
 returns : tie.Need-returns
 returns c =
     let line = c .before .before .line-of .ensures in
@@ -25,4 +19,4 @@ returns-2 c =
     rw (on, line .0, line .1)
 
 pub refuse-spec : {M : Type 1} → statement M
-refuse-spec = tie.close (tie.spec line-of-requires end-search-requires returns returns-2)
+refuse-spec = tie.close (tie.spec (λ c κs. search needs) (λ c κs. search needs) returns returns-2)

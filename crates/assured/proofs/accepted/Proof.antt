@@ -11,9 +11,6 @@ returns : tie.Need-returns
 unfolding acceptedAnswer
 returns c = sym (and-fails-left _ _ (ne-eqb _ _ (c .if1 .taken)))
 
-moves-record-requires : tie.Need-moves-record-requires
-moves-record-requires c κs = search needs
-
 returns-2 : tie.Need-returns-2
 unfolding acceptedAnswer
 returns-2 c = let k = sym (c .before .before .moves-record .ensures) ∙ c .before .if2 .taken in sym (and-then _ _ (eq-eqb _ _ (c .before .before .before .if1 .left)) ∙ rw k)
@@ -23,4 +20,4 @@ unfolding acceptedAnswer
 returns-3 c = let k = sym (c .before .before .moves-record .ensures) ∙ c .before .if2 .left in sym (and-then _ _ (eq-eqb _ _ (c .before .before .before .if1 .left)) ∙ rw k)
 
 pub accepted-spec : {M : Type 1} → statement M
-accepted-spec = tie.close (tie.spec returns moves-record-requires returns-2 returns-3)
+accepted-spec = tie.close (tie.spec returns (λ c κs. search needs) returns-2 returns-3)

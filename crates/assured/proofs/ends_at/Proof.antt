@@ -4,12 +4,6 @@ use Rattle.assured.specs.Script.{ends-within, ends-short}
 use Rattle.assured.proofs.ends_at.Statement.{statement}
 use Rattle.assured.proofs.ends_at.Tie as tie
 
-sub-if1 : tie.Need-sub-if1
-sub-if1 c = search needs
-
-add-result : tie.Need-add-result
-add-result c = search needs
-
 returns : tie.Need-returns
 returns c = ends-within _ _ _ (search needs) (search needs)
 
@@ -17,4 +11,4 @@ returns-2 : tie.Need-returns-2
 returns-2 c = ends-short _ _ _ (search needs) (search needs)
 
 pub ends-at-spec : {M : Type 1} → statement M
-ends-at-spec = tie.close (tie.spec sub-if1 add-result returns returns-2)
+ends-at-spec = tie.close (tie.spec (λ c. search needs) (λ c. search needs) returns returns-2)

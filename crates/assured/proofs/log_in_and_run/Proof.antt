@@ -18,12 +18,6 @@ given c = let a = c .args in diskOf (a .image .now) (a .map .now) (a .session)
 abbrev asks : tie.Start → Request
 asks c = let a = c .args in logIn (a .argument) (a .fcb .now) (a .buffer .now)
 
-call-requires : tie.Need-call-requires
-call-requires c κs = search needs
-
-accepted-requires : tie.Need-accepted-requires
-accepted-requires c κs = search needs
-
 same-length : tie.Need-same-length
 same-length c = c .before .before .before .before .before .before .before .before .before .before .before .call .kept .1 .1 .1 .0
 
@@ -43,9 +37,6 @@ returns c =
     let same = met (given s) (asks s) _ _ _ meets refl refl in
     login-refused refl (met-says (given s) (asks s) _ _ _ meets refl refl acceptedAnswer _ false (c .before .accepted .ensures) (not-true _ (c .if1 .taken)))
     (met-after (given s) (asks s) _ _ _ meets refl refl) (ap (λ (x : Outcome). x .lent .fcb) same) (ap (λ (x : Outcome). x .lent .buffer) same)
-
-run-calls-requires : tie.Need-run-calls-requires
-run-calls-requires c κs = search needs
 
 same-length-5 : tie.Need-same-length-5
 same-length-5 c = c .before .before .before .before .before .before .before .before .before .before .before .before .before .before .before .before .before .before .before .before .before .before .before .before .call .kept .1 .1 .1 .0
@@ -78,14 +69,14 @@ pub log-in-and-run-spec : {M : Type 1} → statement M
 log-in-and-run-spec =
     tie.close
     (tie.spec
-    call-requires
-    accepted-requires
+    (λ c κs. search needs)
+    (λ c κs. search needs)
     same-length
     same-length-2
     same-length-3
     same-length-4
     returns
-    run-calls-requires
+    (λ c κs. search needs)
     same-length-5
     same-length-6
     same-length-7

@@ -5,54 +5,6 @@ use Rattle.assured.specs.Script.{length-mended, calls-next}
 use Rattle.assured.proofs.make_call.Statement.{statement}
 use Rattle.assured.proofs.make_call.Tie as tie
 
-add-ends-at : tie.Need-add-ends-at
-add-ends-at c = search needs
-
-mul-ends-at : tie.Need-mul-ends-at
-mul-ends-at c = search needs
-
-shared-slice-read-ends-at : tie.Need-shared-slice-read-ends-at
-shared-slice-read-ends-at c = search needs
-
-ends-at-requires : tie.Need-ends-at-requires
-ends-at-requires c κs = search needs
-
-add-ends-at-2 : tie.Need-add-ends-at-2
-add-ends-at-2 c = search needs
-
-mul-ends-at-2 : tie.Need-mul-ends-at-2
-mul-ends-at-2 c = search needs
-
-shared-slice-read-ends-at-2 : tie.Need-shared-slice-read-ends-at-2
-shared-slice-read-ends-at-2 c = search needs
-
-ends-at-requires-2 : tie.Need-ends-at-requires-2
-ends-at-requires-2 c κs = search needs
-
-asked-at-requires : tie.Need-asked-at-requires
-asked-at-requires c κs = search needs
-
-sub-call : tie.Need-sub-call
-sub-call c = search needs
-
-part-call-start : tie.Need-part-call-start
-part-call-start c = search needs
-
-part-call-end : tie.Need-part-call-end
-part-call-end c = search needs
-
-sub-call-2 : tie.Need-sub-call-2
-sub-call-2 c = search needs
-
-part-call-start-2 : tie.Need-part-call-start-2
-part-call-start-2 c = search needs
-
-part-call-end-2 : tie.Need-part-call-end-2
-part-call-end-2 c = search needs
-
-call-requires : tie.Need-call-requires
-call-requires c κs = search needs
-
 same-length : tie.Need-same-length
 same-length c = let m = c .before .before .before .before .before .before .before .before .before .call in length-mended (λ (l : Lent). l .fcb) _ _ (m .ensures) _ _ _ _ (c .before .before .before .before .before .before .before .before .before .before .before .before .before .before .before .before .before .before .ends-at .ensures) (m .kept .1 .1 .1 .0)
 
@@ -82,22 +34,22 @@ pub make-call-spec : {M : Type 1} → statement M
 make-call-spec =
     tie.close
     (tie.spec
-    add-ends-at
-    mul-ends-at
-    shared-slice-read-ends-at
-    ends-at-requires
-    add-ends-at-2
-    mul-ends-at-2
-    shared-slice-read-ends-at-2
-    ends-at-requires-2
-    asked-at-requires
-    sub-call
-    part-call-start
-    part-call-end
-    sub-call-2
-    part-call-start-2
-    part-call-end-2
-    call-requires
+    (λ c. search needs)
+    (λ c. search needs)
+    (λ c. search needs)
+    (λ c κs. search needs)
+    (λ c. search needs)
+    (λ c. search needs)
+    (λ c. search needs)
+    (λ c κs. search needs)
+    (λ c κs. search needs)
+    (λ c. search needs)
+    (λ c. search needs)
+    (λ c. search needs)
+    (λ c. search needs)
+    (λ c. search needs)
+    (λ c. search needs)
+    (λ c κs. search needs)
     same-length
     same-length-2
     same-length-3

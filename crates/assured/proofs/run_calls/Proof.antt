@@ -19,17 +19,8 @@ abbrev μ-loop : tie.MeasureT-loop
 loop-holds : tie.Need-loop-holds Inv-loop μ-loop
 loop-holds c = (refl, omega arith, omega arith, omega arith, refl, refl, refl, refl)
 
-sub-loop : tie.Need-sub-loop Inv-loop μ-loop
-sub-loop c = omega arith
-
 make-call-requires : tie.Need-make-call-requires Inv-loop μ-loop
 make-call-requires c κs = let l = c .before .before .before .before .before .loop .inv in (omega arith, l .2, l .3)
-
-add-at : tie.Need-add-at Inv-loop μ-loop
-add-at c = omega arith
-
-loop-less : tie.Need-loop-less Inv-loop μ-loop
-loop-less c = omega arith
 
 loop-again : tie.Need-loop-again Inv-loop μ-loop
 loop-again c =
@@ -72,10 +63,10 @@ run-calls-spec =
     Inv-loop
     μ-loop
     loop-holds
-    sub-loop
+    (λ c. omega arith)
     make-call-requires
-    add-at
-    loop-less
+    (λ c. omega arith)
+    (λ c. omega arith)
     loop-again
     same-length
     same-length-2

@@ -26,15 +26,6 @@ took : (c : tie.Else1) → writesTo (given (start c)) (asks (start c)) ≡ true
 took c =
     met-says (given (start c)) (asks (start c)) _ _ _ (c .before .before .before .before .before .before .before .before .before .before .call .ensures) refl refl writesAnswer _ true (c .before .wrote .ensures) (not-false _ (c .if1 .left))
 
-target-of-requires : tie.Need-target-of-requires
-target-of-requires c κs = search needs
-
-call-requires : tie.Need-call-requires
-call-requires c κs = search needs
-
-wrote-requires : tie.Need-wrote-requires
-wrote-requires c κs = search needs
-
 same-length : tie.Need-same-length
 same-length c = c .before .before .before .before .before .before .before .before .before .before .call .kept .1 .0
 
@@ -53,9 +44,6 @@ returns c =
     let meets = c .before .before .before .before .before .before .before .before .before .before .call .ensures in
     not-written refl (met-says (given s) (asks s) _ _ _ meets refl refl writesAnswer _ false (c .before .wrote .ensures) (not-true _ (c .if1 .taken)))
     (met (given s) (asks s) _ _ _ meets refl refl) refl
-
-run-calls-requires : tie.Need-run-calls-requires
-run-calls-requires c κs = search needs
 
 read-again-requires : tie.Need-read-again-requires
 read-again-requires c κs =
@@ -104,15 +92,15 @@ pub write-and-read-spec : {M : Type 1} → statement M
 write-and-read-spec =
     tie.close
     (tie.spec
-    target-of-requires
-    call-requires
-    wrote-requires
+    (λ c κs. search needs)
+    (λ c κs. search needs)
+    (λ c κs. search needs)
     same-length
     same-length-2
     same-length-3
     same-length-4
     returns
-    run-calls-requires
+    (λ c κs. search needs)
     read-again-requires
     same-length-5
     same-length-6

@@ -6,12 +6,6 @@ use Rattle.assured.specs.Demands.{writesAnswer}
 use Rattle.assured.proofs.wrote.Statement.{statement}
 use Rattle.assured.proofs.wrote.Tie as tie
 
-writes-requires : tie.Need-writes-requires
-writes-requires c κs = search needs
-
-accepted-requires : tie.Need-accepted-requires
-accepted-requires c κs = search needs
-
 returns : tie.Need-returns
 unfolding writesAnswer
 returns c = c .accepted .ensures ∙ sym (and-then _ _ (sym (c .before .before .writes .ensures) ∙ c .before .if1 .taken))
@@ -21,4 +15,4 @@ unfolding writesAnswer
 returns-2 c = sym (and-fails-left _ _ (sym (c .before .writes .ensures) ∙ c .if1 .left))
 
 pub wrote-spec : {M : Type 1} → statement M
-wrote-spec = tie.close (tie.spec writes-requires accepted-requires returns returns-2)
+wrote-spec = tie.close (tie.spec (λ c κs. search needs) (λ c κs. search needs) returns returns-2)

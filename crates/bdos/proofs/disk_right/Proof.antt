@@ -8,40 +8,16 @@ use Rattle.bdos.specs.Disk.{image-wrong, log-in-right, map-decides}
 use Rattle.bdos.proofs.disk_right.Statement.{statement}
 use Rattle.bdos.proofs.disk_right.Tie as tie
 
-is-consistent-requires : tie.Need-is-consistent-requires
-is-consistent-requires c κs = search needs
-
-same-length : tie.Need-same-length
-same-length c = search needs
-
-same-length-2 : tie.Need-same-length-2
-same-length-2 c = search needs
-
 returns : tie.Need-returns
 returns c =
     let e = c .before .before .before .before .before .is-consistent .ensures in
     (λ fcb buffer. sym (image-wrong eightInch _ _ (sym (e .0) ∙ not-true _ (c .if1 .taken))), λ t. clash (sym t))
-
-map-right-requires : tie.Need-map-right-requires
-map-right-requires c κs = search needs
-
-same-length-3 : tie.Need-same-length-3
-same-length-3 c = search needs
-
-same-length-4 : tie.Need-same-length-4
-same-length-4 c = search needs
 
 returns-2 : tie.Need-returns-2
 returns-2 c =
     let e = c .before .before .before .before .before .before .before .before .is-consistent .ensures in
     let r = not-false _ (c .before .before .before .if1 .left) in
     (λ fcb buffer. c .map-right .ensures (e .1 r .0) ∙ sym (map-decides eightInch _ _ (sym (e .0) ∙ r) (c .before .before .if2 .taken)), λ t. e .1 r)
-
-same-length-5 : tie.Need-same-length-5
-same-length-5 c = search needs
-
-same-length-6 : tie.Need-same-length-6
-same-length-6 c = search needs
 
 returns-3 : tie.Need-returns-3
 returns-3 c =
@@ -53,14 +29,14 @@ pub disk-right-spec : {M : Type 1} → statement M
 disk-right-spec =
     tie.close
     (tie.spec
-    is-consistent-requires
-    same-length
-    same-length-2
+    (λ c κs. search needs)
+    (λ c. search needs)
+    (λ c. search needs)
     returns
-    map-right-requires
-    same-length-3
-    same-length-4
+    (λ c κs. search needs)
+    (λ c. search needs)
+    (λ c. search needs)
     returns-2
-    same-length-5
-    same-length-6
+    (λ c. search needs)
+    (λ c. search needs)
     returns-3)

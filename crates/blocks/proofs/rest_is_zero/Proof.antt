@@ -8,14 +8,8 @@ use borrow.Author.Needs.{needs}
 use Rattle.blocks.proofs.rest_is_zero.Statement.{statement}
 use Rattle.blocks.proofs.rest_is_zero.Tie as tie
 
-word-requires : tie.Need-word-requires
-word-requires c κs = search needs
-
 returns : tie.Need-returns
 returns c = let r = c .before .before .before .args .r .now in refute _ (λ t. c .if1 .taken (c .before .word .ensures .0 ∙ rest-word r t))
-
-half-requires : tie.Need-half-requires
-half-requires c κs = search needs
 
 returns-2 : tie.Need-returns-2
 returns-2 c =
@@ -23,4 +17,4 @@ returns-2 c =
     ap (λ (n : ℕ). eqb n 0) (c .half .ensures .0) ∙ rest-decides r (sym (c .before .before .word .ensures .0) ∙ c .before .if1 .left)
 
 pub rest-is-zero-spec : {M : Type 1} → statement M
-rest-is-zero-spec = tie.close (tie.spec word-requires returns half-requires returns-2)
+rest-is-zero-spec = tie.close (tie.spec (λ c κs. search needs) returns (λ c κs. search needs) returns-2)

@@ -6,22 +6,10 @@ use borrow.Author.Needs.{needs}
 use Rattle.blocks.proofs.take_any.Statement.{statement}
 use Rattle.blocks.proofs.take_any.Tie as tie
 
-half-requires : tie.Need-half-requires
-half-requires c κs = search needs
-
 returns : tie.Need-returns
 returns c =
     let a = c .before .before .before .before in
     taken-zeros (a .args .marks .now) (a .args .r .now) (a .args .at) (a .pre .1) 4 (bytes-zero 4 (a .args .r .now) (a .args .at) (sym (c .before .half .ensures .0) ∙ c .if1 .taken))
 
-take-four-requires : tie.Need-take-four-requires
-take-four-requires c κs = search needs
-
-same-length : tie.Need-same-length
-same-length c = search needs
-
-returns-2 : tie.Need-returns-2
-returns-2 c = search needs
-
 pub take-any-spec : {M : Type 1} → statement M
-take-any-spec = tie.close (tie.spec half-requires returns take-four-requires same-length returns-2)
+take-any-spec = tie.close (tie.spec (λ c κs. search needs) returns (λ c κs. search needs) (λ c. search needs) (λ c. search needs))

@@ -17,29 +17,11 @@ abbrev μ-loop : tie.MeasureT-loop
 loop-holds : tie.Need-loop-holds Inv-loop μ-loop
 loop-holds c = (taken-none _ _ _, omega arith, refl)
 
-add-take-number : tie.Need-add-take-number Inv-loop μ-loop
-add-take-number c = omega arith
-
-shared-slice-read-take-number : tie.Need-shared-slice-read-take-number Inv-loop μ-loop
-shared-slice-read-take-number c = omega arith
-
-take-number-requires : tie.Need-take-number-requires Inv-loop μ-loop
-take-number-requires c κs = search needs
-
-add-j : tie.Need-add-j Inv-loop μ-loop
-add-j c = omega arith
-
-loop-less : tie.Need-loop-less Inv-loop μ-loop
-loop-less c = omega arith
-
 loop-again : tie.Need-loop-again Inv-loop μ-loop
 loop-again c =
     let b = c .before .before .before .before .before .before in let a = b .before .before .before .args in
     let k = c .before .before .take-number in
     (taken-more (a .marks .now) (a .r .now) (a .at) (b .loop .j) (b .loop .marks) (b .loop .met) (b .loop .inv .0) (k .last .0) (k .result) (k .ensures .0) (k .ensures .1), omega arith, omega (arith, k .kept .0))
-
-same-length : tie.Need-same-length Inv-loop μ-loop
-same-length c = search needs
 
 returns : tie.Need-returns Inv-loop μ-loop
 returns c = let b = c .before in let q : b .loop .j ≡ 4 = omega arith in rw q at (b .loop .inv .0)
@@ -51,11 +33,11 @@ take-four-spec =
     Inv-loop
     μ-loop
     loop-holds
-    add-take-number
-    shared-slice-read-take-number
-    take-number-requires
-    add-j
-    loop-less
+    (λ c. omega arith)
+    (λ c. omega arith)
+    (λ c κs. search needs)
+    (λ c. omega arith)
+    (λ c. omega arith)
     loop-again
-    same-length
+    (λ c. search needs)
     returns)

@@ -17,15 +17,6 @@ Inv-loop marks₀ r met₀ k₀ marks met k =
 abbrev μ-loop : tie.MeasureT-loop
 μ-loop marks₀ r met₀ k₀ marks met k = 4 - k
 
-take-four-requires : tie.Need-take-four-requires Inv-loop μ-loop
-take-four-requires c κs = search needs
-
-rest-is-zero-requires : tie.Need-rest-is-zero-requires Inv-loop μ-loop
-rest-is-zero-requires c κs = search needs
-
-same-length : tie.Need-same-length Inv-loop μ-loop
-same-length c = search needs
-
 returns : tie.Need-returns Inv-loop μ-loop
 unfolding markSlots slotsFree
 returns c =
@@ -37,23 +28,11 @@ returns c =
 loop-holds : tie.Need-loop-holds Inv-loop μ-loop
 loop-holds c = ((λ l t. t), omega arith, refl)
 
-mul-take-any : tie.Need-mul-take-any Inv-loop μ-loop
-mul-take-any c = omega arith
-
-add-take-any : tie.Need-add-take-any Inv-loop μ-loop
-add-take-any c = omega arith
-
 take-any-requires : tie.Need-take-any-requires Inv-loop μ-loop
 take-any-requires c κs =
     let b = c .before .before in let f = b .before .before .before .before .before .take-four in let a = b .before .before .before .before .before .before .before .before .before in
     let t = b .loop .inv .0 (a .args .marks .now) (f .ensures) in
     (omega (arith, f .kept .0), taken-keeps-none (a .args .marks .now) (a .args .r .now) 16 (4 * b .loop .k) (b .loop .marks) (b .loop .met) t (a .pre .1), omega arith)
-
-add-k : tie.Need-add-k Inv-loop μ-loop
-add-k c = omega arith
-
-loop-less : tie.Need-loop-less Inv-loop μ-loop
-loop-less c = omega arith
 
 loop-again : tie.Need-loop-again Inv-loop μ-loop
 loop-again c =
@@ -64,9 +43,6 @@ loop-again c =
       omega arith,
       omega (arith, t .kept .0),
     )
-
-same-length-2 : tie.Need-same-length-2 Inv-loop μ-loop
-same-length-2 c = search needs
 
 returns-2 : tie.Need-returns-2 Inv-loop μ-loop
 unfolding markSlots slotsFree
@@ -82,16 +58,16 @@ take-slots-spec =
     (tie.spec
     Inv-loop
     μ-loop
-    take-four-requires
-    rest-is-zero-requires
-    same-length
+    (λ c κs. search needs)
+    (λ c κs. search needs)
+    (λ c. search needs)
     returns
     loop-holds
-    mul-take-any
-    add-take-any
+    (λ c. omega arith)
+    (λ c. omega arith)
     take-any-requires
-    add-k
-    loop-less
+    (λ c. omega arith)
+    (λ c. omega arith)
     loop-again
-    same-length-2
+    (λ c. search needs)
     returns-2)

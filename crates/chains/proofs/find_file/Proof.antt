@@ -31,14 +31,8 @@ test a = fileTest eightInch (rows a) (a .args .user) (a .args .s .now) (a .args 
 abbrev asked : tie.Start Inv-loop μ-loop → ℕ
 asked a = fileKey (a .args .user) (a .args .s .now) (a .args .q) (a .args .ext)
 
-file-key-requires : tie.Need-file-key-requires Inv-loop μ-loop
-file-key-requires c κs = search needs
-
 shared-slice-read-wide : tie.Need-shared-slice-read-wide Inv-loop μ-loop
 shared-slice-read-wide c = omega (arith, c .before .before .before .before .before .pre .3 .chained .long, c .before .file-key .ensures .1)
-
-wide-requires : tie.Need-wide-requires Inv-loop μ-loop
-wide-requires c κs = search needs
 
 -- what the laws of the walk ask for
 only : (a : tie.Start Inv-loop μ-loop) (g : ℕ) → test a g ≡ true → keyIn (rows a) g ≡ asked a
@@ -49,18 +43,6 @@ loop-holds c =
     let a = c .before .before .before .before .before .before in let k = c .before .before .file-key in
     rw (c .wide .ensures .0, k .ensures .0) (walk-all eightInch (rows a) (test a) (asked a) (eightInch .entries) (asked-below _ _ _ _) (only a) (eightInch .entries) (a .args .chain .now) (a .pre .3 .chained) refl)
 
-sub-row : tie.Need-sub-row Inv-loop μ-loop
-sub-row c = omega arith
-
-row-requires : tie.Need-row-requires Inv-loop μ-loop
-row-requires c κs = search needs
-
-is-file-requires : tie.Need-is-file-requires Inv-loop μ-loop
-is-file-requires c κs = search needs
-
-sub-t15 : tie.Need-sub-t15 Inv-loop μ-loop
-sub-t15 c = omega arith
-
 returns : tie.Need-returns Inv-loop μ-loop
 returns c =
     let a = c .before .before .before .before .before .before .before .before .before .before .before in let b = c .before .before .before .before in
@@ -68,19 +50,10 @@ returns c =
     let h : test a (b .loop .f - 1) ≡ true = rw (c .before .is-file .ensures, c .before .before .row .ensures .0) at (c .if1 .taken) in
     sym (find-hit eightInch (rows a) (a .args .user) (a .args .s .now) (a .args .q) (a .args .ext) (a .pre .2) (a .args .chain .now) (b .loop .f - 1) (a .pre .3) (omega arith) h)
 
-sub-wide : tie.Need-sub-wide Inv-loop μ-loop
-sub-wide c = omega arith
-
-add-wide : tie.Need-add-wide Inv-loop μ-loop
-add-wide c = omega arith
-
 shared-slice-read-wide-2 : tie.Need-shared-slice-read-wide-2 Inv-loop μ-loop
 shared-slice-read-wide-2 c =
     let a = c .before .before .before .before .before .before .before .before .before .before .before .before in let b = c .before .before .before .before .before in
     omega (arith, a .pre .3 .chained .long, b .loop .inv .high)
-
-wide-requires-2 : tie.Need-wide-requires-2 Inv-loop μ-loop
-wide-requires-2 c κs = search needs
 
 loop-less : tie.Need-loop-less Inv-loop μ-loop
 loop-less c =
@@ -104,19 +77,19 @@ find-file-spec =
     (tie.spec
     Inv-loop
     μ-loop
-    file-key-requires
+    (λ c κs. search needs)
     shared-slice-read-wide
-    wide-requires
+    (λ c κs. search needs)
     loop-holds
-    sub-row
-    row-requires
-    is-file-requires
-    sub-t15
+    (λ c. omega arith)
+    (λ c κs. search needs)
+    (λ c κs. search needs)
+    (λ c. omega arith)
     returns
-    sub-wide
-    add-wide
+    (λ c. omega arith)
+    (λ c. omega arith)
     shared-slice-read-wide-2
-    wide-requires-2
+    (λ c κs. search needs)
     loop-less
     loop-again
     returns-2)

@@ -24,26 +24,14 @@ abbrev μ-loop : tie.MeasureT-loop
 abbrev rows : tie.Start Inv-loop μ-loop → Rows
 rows a = entryAt eightInch (a .args .image .now)
 
-add-wide : tie.Need-add-wide Inv-loop μ-loop
-add-wide c = omega arith
-
 shared-slice-read-wide : tie.Need-shared-slice-read-wide Inv-loop μ-loop
 shared-slice-read-wide c = omega (arith, c .before .before .before .before .pre .5 .long)
-
-wide-requires : tie.Need-wide-requires Inv-loop μ-loop
-wide-requires c κs = search needs
 
 loop-holds : tie.Need-loop-holds Inv-loop μ-loop
 loop-holds c =
     let a = c .before .before .before .before .before in let d = rows a in let e = a .args .e in
     let u : used (d e) ≡ true = rw (a .pre .3) at (a .pre .4) in
     rw (c .wide .ensures .0) (walk-before eightInch d (sameAs eightInch d e) (keyOf (d e)) e (key-below (d e)) (same-only eightInch d e run-own) (e + 1) (a .args .chain .now) (a .pre .5) (omega arith) u refl)
-
-sub-row : tie.Need-sub-row Inv-loop μ-loop
-sub-row c = omega arith
-
-row-requires : tie.Need-row-requires Inv-loop μ-loop
-row-requires c κs = search needs
 
 same-file-requires : tie.Need-same-file-requires Inv-loop μ-loop
 same-file-requires c κs =
@@ -56,19 +44,10 @@ returns c =
     let h : sameFile eightInch (d (a .args .e)) (d (b .loop .f - 1)) ≡ true = rw (c .before .same-file .ensures, c .before .before .row .ensures .0, a .pre .3) at (c .if1 .taken) in
     sym (alone-hit eightInch d (a .args .e) (b .loop .f) (b .loop .inv) (omega arith) h)
 
-sub-wide : tie.Need-sub-wide Inv-loop μ-loop
-sub-wide c = omega arith
-
-add-wide-2 : tie.Need-add-wide-2 Inv-loop μ-loop
-add-wide-2 c = omega arith
-
 shared-slice-read-wide-2 : tie.Need-shared-slice-read-wide-2 Inv-loop μ-loop
 shared-slice-read-wide-2 c =
     let a = c .before .before .before .before .before .before .before .before .before .before .before in let b = c .before .before .before .before .before in
     omega (arith, a .pre .5 .long, b .loop .inv .high)
-
-wide-requires-2 : tie.Need-wide-requires-2 Inv-loop μ-loop
-wide-requires-2 c κs = search needs
 
 loop-less : tie.Need-loop-less Inv-loop μ-loop
 loop-less c =
@@ -92,18 +71,18 @@ is-alone-spec =
     (tie.spec
     Inv-loop
     μ-loop
-    add-wide
+    (λ c. omega arith)
     shared-slice-read-wide
-    wide-requires
+    (λ c κs. search needs)
     loop-holds
-    sub-row
-    row-requires
+    (λ c. omega arith)
+    (λ c κs. search needs)
     same-file-requires
     returns
-    sub-wide
-    add-wide-2
+    (λ c. omega arith)
+    (λ c. omega arith)
     shared-slice-read-wide-2
-    wide-requires-2
+    (λ c κs. search needs)
     loop-less
     loop-again
     returns-2)

@@ -6,18 +6,9 @@ use borrow.Author.Needs.{needs}
 use Rattle.chains.proofs.same_file.Statement.{statement}
 use Rattle.chains.proofs.same_file.Tie as tie
 
-shared-slice-read-is-file : tie.Need-shared-slice-read-is-file
-shared-slice-read-is-file c = search needs
-
-extent-requires : tie.Need-extent-requires
-extent-requires c κs = search needs
-
-is-file-requires : tie.Need-is-file-requires
-is-file-requires c κs = search needs
-
 returns : tie.Need-returns
 returns c = let a = c .before .before .before .before .before in c .is-file .ensures ∙ asks-same eightInch (a .args .r .now) (a .args .t .now) (c .before .extent .result) (a .pre .2) (a .pre .3) (c .before .extent .ensures .0)
 
 pub same-file-spec : {M : Type 1} → statement M
 same-file-spec =
-    tie.close (tie.spec shared-slice-read-is-file extent-requires is-file-requires returns)
+    tie.close (tie.spec (λ c. search needs) (λ c κs. search needs) (λ c κs. search needs) returns)

@@ -9,12 +9,6 @@ use Rattle.chains.specs.Chain.{chained-none}
 use Rattle.chains.proofs.start.Statement.{statement}
 use Rattle.chains.proofs.start.Tie as tie
 
-fill-requires : tie.Need-fill-requires
-fill-requires c κs = search needs
-
-same-length : tie.Need-same-length
-same-length c = search needs
-
 returns : tie.Need-returns
 returns c =
     let a = c .before .before .before .before .before in let l = a .args .chain .now in
@@ -22,4 +16,4 @@ returns c =
     (chained-none eightInch d _ (length-fill l 0 keyCount 0 (omega arith) ∙ a .pre) (λ k h. getD-fill-in l 0 keyCount 0 (omega arith) k (omega arith) (omega arith)))
 
 pub start-spec : {M : Type 1} → statement M
-start-spec = tie.close (tie.spec fill-requires same-length returns)
+start-spec = tie.close (tie.spec (λ c κs. search needs) (λ c. search needs) returns)

@@ -11,24 +11,6 @@ use Rattle.chains.specs.Chain.{Chained, chained-more}
 use Rattle.chains.proofs.take_key.Statement.{statement}
 use Rattle.chains.proofs.take_key.Tie as tie
 
-key-requires : tie.Need-key-requires
-key-requires c κs = search needs
-
-slice-read-chain : tie.Need-slice-read-chain
-slice-read-chain c = search needs
-
-add-chain : tie.Need-add-chain
-add-chain c = search needs
-
-slice-write-chain : tie.Need-slice-write-chain
-slice-write-chain c = search needs
-
-add-chain-2 : tie.Need-add-chain-2
-add-chain-2 c = search needs
-
-cast-chain : tie.Need-cast-chain
-cast-chain c = search needs
-
 slice-write-chain-2 : tie.Need-slice-write-chain-2
 slice-write-chain-2 c =
     let long = c .before .before .before .before .before .pre .5 .long in let low = c .before .key .ensures .1 in simp length-set (omega arith)
@@ -46,9 +28,6 @@ is-alone-requires : tie.Need-is-alone-requires
 is-alone-requires c κs =
     let a = c .before .before .before .before .before .before in (a .pre .0, a .pre .1, a .pre .2, a .pre .3, a .pre .4, more (c .before .before))
 
-same-length : tie.Need-same-length
-same-length c = search needs
-
 returns : tie.Need-returns
 returns c = (c .is-alone .ensures, more (c .before .before .before))
 
@@ -56,13 +35,13 @@ pub take-key-spec : {M : Type 1} → statement M
 take-key-spec =
     tie.close
     (tie.spec
-    key-requires
-    slice-read-chain
-    add-chain
-    slice-write-chain
-    add-chain-2
-    cast-chain
+    (λ c κs. search needs)
+    (λ c. search needs)
+    (λ c. search needs)
+    (λ c. search needs)
+    (λ c. search needs)
+    (λ c. search needs)
     slice-write-chain-2
     is-alone-requires
-    same-length
+    (λ c. search needs)
     returns)

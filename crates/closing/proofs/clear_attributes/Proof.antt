@@ -7,21 +7,6 @@ use Rattle.model.specs.Closing.{closedFcb}
 use Rattle.closing.proofs.clear_attributes.Statement.{statement}
 use Rattle.closing.proofs.clear_attributes.Tie as tie
 
-slice-read-fcb : tie.Need-slice-read-fcb
-slice-read-fcb c = search needs
-
-slice-write-fcb : tie.Need-slice-write-fcb
-slice-write-fcb c = search needs
-
-slice-read-fcb-2 : tie.Need-slice-read-fcb-2
-slice-read-fcb-2 c = search needs
-
-slice-write-fcb-2 : tie.Need-slice-write-fcb-2
-slice-write-fcb-2 c = search needs
-
-same-length : tie.Need-same-length
-same-length c = search needs
-
 returns : tie.Need-returns
 unfolding closedFcb
 returns c = rw (getD-set-other {A = ℕ} _ 5 6 _ 0 (λ z. omega arith))
@@ -30,9 +15,9 @@ pub clear-attributes-spec : {M : Type 1} → statement M
 clear-attributes-spec =
     tie.close
     (tie.spec
-    slice-read-fcb
-    slice-write-fcb
-    slice-read-fcb-2
-    slice-write-fcb-2
-    same-length
+    (λ c. search needs)
+    (λ c. search needs)
+    (λ c. search needs)
+    (λ c. search needs)
+    (λ c. search needs)
     returns)

@@ -11,48 +11,12 @@ use borrow.Author.Needs.{needs}
 use Rattle.closing.proofs.close_entry.Statement.{statement}
 use Rattle.closing.proofs.close_entry.Tie as tie
 
-row-requires : tie.Need-row-requires
-row-requires c κs = search needs
-
-close-keeps-requires : tie.Need-close-keeps-requires
-close-keeps-requires c κs = search needs
-
-same-length : tie.Need-same-length
-same-length c = search needs
-
 returns : tie.Need-returns
 returns c =
     let s = c .before .before .before .before .before .before .before in
     let h : closeKeeps (entryAt eightInch (s .args .image .now) (s .args .e)) (s .args .fcb .now) ≡ true =
     sym (rw (c .before .before .row .ensures .0) at (c .before .close-keeps .ensures)) ∙ c .if1 .taken in
     let k = keeps-row eightInch _ _ h in (kept-image eightInch (s .args .image .now) (s .args .e) (s .args .fcb .now) k, sym (map-kept eightInch _ _ k (s .args .map .now)))
-
-copy-row-requires : tie.Need-copy-row-requires
-copy-row-requires c κs = search needs
-
-slice-aggregate-slots : tie.Need-slice-aggregate-slots
-slice-aggregate-slots c = search needs
-
-slots-requires : tie.Need-slots-requires
-slots-requires c κs = search needs
-
-slots-requires-2 : tie.Need-slots-requires-2
-slots-requires-2 c κs = search needs
-
-record-blocks-requires : tie.Need-record-blocks-requires
-record-blocks-requires c κs = search needs
-
-closed-row-requires : tie.Need-closed-row-requires
-closed-row-requires c κs = search needs
-
-store-row-requires : tie.Need-store-row-requires
-store-row-requires c κs = search needs
-
-same-length-2 : tie.Need-same-length-2
-same-length-2 c = search needs
-
-same-length-3 : tie.Need-same-length-3
-same-length-3 c = search needs
 
 returns-2 : tie.Need-returns-2
 returns-2 c =
@@ -74,17 +38,17 @@ pub close-entry-spec : {M : Type 1} → statement M
 close-entry-spec =
     tie.close
     (tie.spec
-    row-requires
-    close-keeps-requires
-    same-length
+    (λ c κs. search needs)
+    (λ c κs. search needs)
+    (λ c. search needs)
     returns
-    copy-row-requires
-    slice-aggregate-slots
-    slots-requires
-    slots-requires-2
-    record-blocks-requires
-    closed-row-requires
-    store-row-requires
-    same-length-2
-    same-length-3
+    (λ c κs. search needs)
+    (λ c. search needs)
+    (λ c κs. search needs)
+    (λ c κs. search needs)
+    (λ c κs. search needs)
+    (λ c κs. search needs)
+    (λ c κs. search needs)
+    (λ c. search needs)
+    (λ c. search needs)
     returns-2)

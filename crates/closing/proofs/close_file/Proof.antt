@@ -6,27 +6,6 @@ use Rattle.closing.specs.Laws.{close-refused, close-low, close-carried}
 use Rattle.closing.proofs.close_file.Statement.{statement}
 use Rattle.closing.proofs.close_file.Tie as tie
 
-current-entry-requires : tie.Need-current-entry-requires
-current-entry-requires c κs = search needs
-
-enum-known-e : tie.Need-enum-known-e
-enum-known-e c = search needs
-
-enum-told : tie.Need-enum-told
-enum-told c = search needs
-
-refuse-requires : tie.Need-refuse-requires
-refuse-requires c κs = search needs
-
-same-length : tie.Need-same-length
-same-length c = search needs
-
-same-length-2 : tie.Need-same-length-2
-same-length-2 c = search needs
-
-same-length-3 : tie.Need-same-length-3
-same-length-3 c = search needs
-
 returns : tie.Need-returns
 returns c asked buffer =
     let a = c .before .before .before .before .before .before .before .before .before .before .before .args in
@@ -43,24 +22,6 @@ close-entry-requires c κs =
     close-low eightInch (a .image .now) (a .map .now) (a .fcb .now) (a .session) (found .result) (found .ensures) (e .0 .0) (e .1) in
     search needs
 
-clear-attributes-requires : tie.Need-clear-attributes-requires
-clear-attributes-requires c κs = search needs
-
-cast-done : tie.Need-cast-done
-cast-done c = search needs
-
-done-requires : tie.Need-done-requires
-done-requires c κs = search needs
-
-same-length-4 : tie.Need-same-length-4
-same-length-4 c = search needs
-
-same-length-5 : tie.Need-same-length-5
-same-length-5 c = search needs
-
-same-length-6 : tie.Need-same-length-6
-same-length-6 c = search needs
-
 returns-2 : tie.Need-returns-2
 returns-2 c asked buffer =
     let a = c .before .before .before .before .before .before .before .before .before .before .before .before .before .before .before .before .before .before .before .before .before .before .before .before .args in
@@ -75,19 +36,19 @@ pub close-file-spec : {M : Type 1} → statement M
 close-file-spec =
     tie.close
     (tie.spec
-    current-entry-requires
-    enum-known-e
-    enum-told
-    refuse-requires
-    same-length
-    same-length-2
-    same-length-3
+    (λ c κs. search needs)
+    (λ c. search needs)
+    (λ c. search needs)
+    (λ c κs. search needs)
+    (λ c. search needs)
+    (λ c. search needs)
+    (λ c. search needs)
     returns
     close-entry-requires
-    clear-attributes-requires
-    cast-done
-    done-requires
-    same-length-4
-    same-length-5
-    same-length-6
+    (λ c κs. search needs)
+    (λ c. search needs)
+    (λ c κs. search needs)
+    (λ c. search needs)
+    (λ c. search needs)
+    (λ c. search needs)
     returns-2)

@@ -8,15 +8,9 @@ use borrow.Author.Needs.{needs}
 use Rattle.closing.proofs.close_keeps.Statement.{statement}
 use Rattle.closing.proofs.close_keeps.Tie as tie
 
-slots-own-requires : tie.Need-slots-own-requires
-slots-own-requires c κs = search needs
-
 returns : tie.Need-returns
 unfolding closeKeeps
 returns c = sym (and-fails-left _ _ (sym (c .before .slots-own .ensures) ∙ not-true _ (c .if1 .taken)))
-
-ends-later-requires : tie.Need-ends-later-requires
-ends-later-requires c κs = search needs
 
 returns-2 : tie.Need-returns-2
 unfolding closeKeeps
@@ -24,4 +18,4 @@ returns-2 c =
     ap not (c .ends-later .ensures) ∙ sym (and-then _ _ (sym (c .before .before .slots-own .ensures) ∙ not-false _ (c .before .if1 .left)))
 
 pub close-keeps-spec : {M : Type 1} → statement M
-close-keeps-spec = tie.close (tie.spec slots-own-requires returns ends-later-requires returns-2)
+close-keeps-spec = tie.close (tie.spec (λ c κs. search needs) returns (λ c κs. search needs) returns-2)

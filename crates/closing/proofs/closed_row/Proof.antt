@@ -5,33 +5,6 @@ use borrow.Author.Needs.{needs}
 use Rattle.closing.proofs.closed_row.Statement.{statement}
 use Rattle.closing.proofs.closed_row.Tie as tie
 
-slice-aggregate-slots : tie.Need-slice-aggregate-slots
-slice-aggregate-slots c = search needs
-
-slots-requires : tie.Need-slots-requires
-slots-requires c κs = search needs
-
-slots-requires-2 : tie.Need-slots-requires-2
-slots-requires-2 c κs = search needs
-
-merge-requires : tie.Need-merge-requires
-merge-requires c κs = search needs
-
-slice-aggregate-later-end : tie.Need-slice-aggregate-later-end
-slice-aggregate-later-end c = search needs
-
-later-end-requires : tie.Need-later-end-requires
-later-end-requires c κs = search needs
-
-slice-aggregate-put : tie.Need-slice-aggregate-put
-slice-aggregate-put c = search needs
-
-slice-aggregate-put-2 : tie.Need-slice-aggregate-put-2
-slice-aggregate-put-2 c = search needs
-
-put-requires : tie.Need-put-requires
-put-requires c κs = search needs
-
 returns : tie.Need-returns
 returns c =
     let l = c .before .before .before .before .before in
@@ -46,13 +19,13 @@ pub closed-row-spec : {M : Type 1} → statement M
 closed-row-spec =
     tie.close
     (tie.spec
-    slice-aggregate-slots
-    slots-requires
-    slots-requires-2
-    merge-requires
-    slice-aggregate-later-end
-    later-end-requires
-    slice-aggregate-put
-    slice-aggregate-put-2
-    put-requires
+    (λ c. search needs)
+    (λ c κs. search needs)
+    (λ c κs. search needs)
+    (λ c κs. search needs)
+    (λ c. search needs)
+    (λ c κs. search needs)
+    (λ c. search needs)
+    (λ c. search needs)
+    (λ c κs. search needs)
     returns)

@@ -5,17 +5,8 @@ use borrow.Author.Needs.{needs}
 use Rattle.closing.proofs.ends_later.Statement.{statement}
 use Rattle.closing.proofs.ends_later.Tie as tie
 
-count-of-requires : tie.Need-count-of-requires
-count-of-requires c κs = search needs
-
 returns : tie.Need-returns
 returns c = sym (never-later _ _ (sym (c .before .count-of .ensures) ∙ c .if1 .taken))
-
-end-of-requires : tie.Need-end-of-requires
-end-of-requires c κs = search needs
-
-end-of-requires-2 : tie.Need-end-of-requires-2
-end-of-requires-2 c κs = search needs
 
 returns-2 : tie.Need-returns-2
 returns-2 c =
@@ -24,4 +15,4 @@ returns-2 c =
 
 pub ends-later-spec : {M : Type 1} → statement M
 ends-later-spec =
-    tie.close (tie.spec count-of-requires returns end-of-requires end-of-requires-2 returns-2)
+    tie.close (tie.spec (λ c κs. search needs) returns (λ c κs. search needs) (λ c κs. search needs) returns-2)

@@ -9,35 +9,14 @@ use borrow.Author.Needs.{needs}
 use Rattle.closing.proofs.later_end.Statement.{statement}
 use Rattle.closing.proofs.later_end.Tie as tie
 
-ends-later-requires : tie.Need-ends-later-requires
-ends-later-requires c κs = search needs
-
-same-length : tie.Need-same-length
-same-length c = search needs
-
 returns : tie.Need-returns
 returns c = sym (later-stays _ _ (sym (c .before .ends-later .ensures) ∙ not-true _ (c .if1 .taken)))
-
-shared-slice-read-row : tie.Need-shared-slice-read-row
-shared-slice-read-row c = search needs
-
-slice-write-row : tie.Need-slice-write-row
-slice-write-row c = search needs
-
-shared-slice-read-row-2 : tie.Need-shared-slice-read-row-2
-shared-slice-read-row-2 c = search needs
 
 slice-write-row-2 : tie.Need-slice-write-row-2
 slice-write-row-2 c = simp length-set (omega arith)
 
-count-of-requires : tie.Need-count-of-requires
-count-of-requires c κs = search needs
-
 slice-write-row-3 : tie.Need-slice-write-row-3
 slice-write-row-3 c = simp length-set (omega arith)
-
-same-length-2 : tie.Need-same-length-2
-same-length-2 c = search needs
 
 returns-2 : tie.Need-returns-2
 returns-2 c =
@@ -48,14 +27,14 @@ pub later-end-spec : {M : Type 1} → statement M
 later-end-spec =
     tie.close
     (tie.spec
-    ends-later-requires
-    same-length
+    (λ c κs. search needs)
+    (λ c. search needs)
     returns
-    shared-slice-read-row
-    slice-write-row
-    shared-slice-read-row-2
+    (λ c. search needs)
+    (λ c. search needs)
+    (λ c. search needs)
     slice-write-row-2
-    count-of-requires
+    (λ c κs. search needs)
     slice-write-row-3
-    same-length-2
+    (λ c. search needs)
     returns-2)

@@ -18,27 +18,12 @@ Inv-loop es fs r₀ j₀ r j = Filled (mergedByte eightInch es fs) r₀ j r × (
 abbrev μ-loop : tie.MeasureT-loop
 μ-loop es fs r₀ j₀ r j = slotCount - j
 
-slots-same-requires : tie.Need-slots-same-requires Inv-loop μ-loop
-slots-same-requires c κs = search needs
-
 returns : tie.Need-returns Inv-loop μ-loop
 returns c = let a = c .before .before .args in sym (merged-none eightInch (a .es) (a .fs)
     (same-none eightInch (a .es) (a .fs) (omega arith) (omega arith) (sym (c .before .slots-same .ensures) ∙ c .if1 .taken)) (omega arith))
 
 loop-holds : tie.Need-loop-holds Inv-loop μ-loop
 loop-holds c = (filled-none _ _, omega arith, refl)
-
-merged-byte-requires : tie.Need-merged-byte-requires Inv-loop μ-loop
-merged-byte-requires c κs = search needs
-
-array-write-r : tie.Need-array-write-r Inv-loop μ-loop
-array-write-r c = omega arith
-
-add-j : tie.Need-add-j Inv-loop μ-loop
-add-j c = omega arith
-
-loop-less : tie.Need-loop-less Inv-loop μ-loop
-loop-less c = omega arith
 
 loop-again : tie.Need-loop-again Inv-loop μ-loop
 loop-again c =
@@ -55,12 +40,12 @@ merge-spec =
     (tie.spec
     Inv-loop
     μ-loop
-    slots-same-requires
+    (λ c κs. search needs)
     returns
     loop-holds
-    merged-byte-requires
-    array-write-r
-    add-j
-    loop-less
+    (λ c κs. search needs)
+    (λ c. omega arith)
+    (λ c. omega arith)
+    (λ c. omega arith)
     loop-again
     returns-2)

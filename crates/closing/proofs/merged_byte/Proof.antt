@@ -6,18 +6,9 @@ use Rattle.model.specs.Closing.{mergedByte}
 use Rattle.closing.proofs.merged_byte.Statement.{statement}
 use Rattle.closing.proofs.merged_byte.Tie as tie
 
-takes-slot-requires : tie.Need-takes-slot-requires
-takes-slot-requires c κs = search needs
-
-array-read-result : tie.Need-array-read-result
-array-read-result c = search needs
-
 returns : tie.Need-returns
 unfolding mergedByte slotAt
 returns c = let t = sym (c .before .takes-slot .ensures) ∙ c .if1 .taken in rw t
-
-array-read-result-2 : tie.Need-array-read-result-2
-array-read-result-2 c = search needs
 
 returns-2 : tie.Need-returns-2
 unfolding mergedByte slotAt
@@ -26,4 +17,4 @@ returns-2 c = let t = sym (c .before .takes-slot .ensures) ∙ c .if1 .left in r
 pub merged-byte-spec : {M : Type 1} → statement M
 merged-byte-spec =
     tie.close
-    (tie.spec takes-slot-requires array-read-result returns array-read-result-2 returns-2)
+    (tie.spec (λ c κs. search needs) (λ c. search needs) returns (λ c. search needs) returns-2)

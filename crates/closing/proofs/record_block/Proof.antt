@@ -12,24 +12,9 @@ use Rattle.notes.specs.Changes.{note-out}
 use Rattle.closing.proofs.record_block.Statement.{statement}
 use Rattle.closing.proofs.record_block.Tie as tie
 
-takes-slot-requires : tie.Need-takes-slot-requires
-takes-slot-requires c κs = search needs
-
 returns : tie.Need-returns
 unfolding closedNote slotIn
 returns c = let t = sym (c .before .takes-slot .ensures) ∙ not-true _ (c .if1 .taken) in rw t
-
-array-read-wide : tie.Need-array-read-wide
-array-read-wide c = search needs
-
-wide-requires : tie.Need-wide-requires
-wide-requires c κs = search needs
-
-set-note-requires : tie.Need-set-note-requires
-set-note-requires c κs = search needs
-
-same-length : tie.Need-same-length
-same-length c = search needs
 
 returns-2 : tie.Need-returns-2
 unfolding closedNote slotIn
@@ -50,11 +35,11 @@ pub record-block-spec : {M : Type 1} → statement M
 record-block-spec =
     tie.close
     (tie.spec
-    takes-slot-requires
+    (λ c κs. search needs)
     returns
-    array-read-wide
-    wide-requires
-    set-note-requires
-    same-length
+    (λ c. search needs)
+    (λ c κs. search needs)
+    (λ c κs. search needs)
+    (λ c. search needs)
     returns-2
     returns-3)

@@ -18,9 +18,6 @@ Inv-loop map₀ es fs j₀ map j = (map ≡ foldBelow (closedNote eightInch es f
 abbrev μ-loop : tie.MeasureT-loop
 μ-loop map₀ es fs j₀ map j = slotCount - j
 
-slots-same-requires : tie.Need-slots-same-requires Inv-loop μ-loop
-slots-same-requires c κs = search needs
-
 returns : tie.Need-returns Inv-loop μ-loop
 returns c = let a = c .before .before .before .args in sym (recorded-none eightInch (a .es) (a .fs)
     (same-none eightInch (a .es) (a .fs) (omega arith) (omega arith) (sym (c .before .slots-same .ensures) ∙ c .if1 .taken)) (a .map .now))
@@ -28,24 +25,12 @@ returns c = let a = c .before .before .before .args in sym (recorded-none eightI
 loop-holds : tie.Need-loop-holds Inv-loop μ-loop
 loop-holds c = (sym (fold-none _ _), omega arith, refl)
 
-record-block-requires : tie.Need-record-block-requires Inv-loop μ-loop
-record-block-requires c κs = search needs
-
-add-j : tie.Need-add-j Inv-loop μ-loop
-add-j c = omega arith
-
-loop-less : tie.Need-loop-less Inv-loop μ-loop
-loop-less c = omega arith
-
 loop-again : tie.Need-loop-again Inv-loop μ-loop
 loop-again c =
     let l = c .before .before .before .before .before .loop in
     let a = c .before .before .before .before .before .before .before .before .before .args in
     let f = closedNote eightInch (a .es) (a .fs) in
     (c .before .before .record-block .ensures ∙ ap (λ (m : Bytes). f m (l .j)) (l .inv .0) ∙ sym (fold-next f (a .map .now) (l .j)), omega arith, c .before .before .record-block .kept .0 ∙ l .inv .2)
-
-same-length : tie.Need-same-length Inv-loop μ-loop
-same-length c = search needs
 
 returns-2 : tie.Need-returns-2 Inv-loop μ-loop
 returns-2 c =
@@ -59,12 +44,12 @@ record-blocks-spec =
     (tie.spec
     Inv-loop
     μ-loop
-    slots-same-requires
+    (λ c κs. search needs)
     returns
     loop-holds
-    record-block-requires
-    add-j
-    loop-less
+    (λ c κs. search needs)
+    (λ c. omega arith)
+    (λ c. omega arith)
     loop-again
-    same-length
+    (λ c. search needs)
     returns-2)

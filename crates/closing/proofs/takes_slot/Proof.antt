@@ -8,19 +8,13 @@ use Rattle.model.specs.Closing.{takesSlot}
 use Rattle.closing.proofs.takes_slot.Statement.{statement}
 use Rattle.closing.proofs.takes_slot.Tie as tie
 
-array-read-if1 : tie.Need-array-read-if1
-array-read-if1 c = search needs
-
 returns : tie.Need-returns
 unfolding takesSlot slotIn
 returns c = sym (and-fails-left _ _ (ne-eqb _ _ (c .if1 .taken)))
-
-array-read-result : tie.Need-array-read-result
-array-read-result c = search needs
 
 returns-2 : tie.Need-returns-2
 unfolding takesSlot slotIn
 returns-2 c = sym (and-then _ _ (eq-eqb _ _ (c .if1 .left)))
 
 pub takes-slot-spec : {M : Type 1} → statement M
-takes-slot-spec = tie.close (tie.spec array-read-if1 returns array-read-result returns-2)
+takes-slot-spec = tie.close (tie.spec (λ c. search needs) returns (λ c. search needs) returns-2)

@@ -34,12 +34,6 @@ rows a = entryAt eightInch (a .args .image .now)
 abbrev fits : tie.Start Inv-loop μ-loop → ℕ → Bool
 fits a = entryFits eightInch (rows a)
 
-start-marks-requires : tie.Need-start-marks-requires Inv-loop μ-loop
-start-marks-requires c κs = search needs
-
-start-requires : tie.Need-start-requires Inv-loop μ-loop
-start-requires c κs = search needs
-
 loop-holds : tie.Need-loop-holds Inv-loop μ-loop
 loop-holds c =
     let a = c .before .before .before .before .before .before .before .before .before .before .before in
@@ -50,12 +44,6 @@ loop-holds c =
 take-record-requires : tie.Need-take-record-requires Inv-loop μ-loop
 take-record-requires c κs = (c .before .before .before .before .before .before .before .before .before .before .before .before .before .before .before .pre .0, omega arith, c .before .before .before .loop .inv .1)
 
-same-length : tie.Need-same-length Inv-loop μ-loop
-same-length c = search needs
-
-same-length-2 : tie.Need-same-length-2 Inv-loop μ-loop
-same-length-2 c = search needs
-
 returns : tie.Need-returns Inv-loop μ-loop
 unfolding consistent
 returns c =
@@ -64,12 +52,6 @@ returns c =
     let wrong = sym (c .before .before .before .before .before .take-record .ensures .0) ∙ not-true _ (c .if1 .taken) in
     let none = refute (allBelow (fits a) 64) (λ t. not-both _ (all-intro _ 4 (λ i h. all-at (fits a) 64 t (entriesPerRecord * b .loop .d + i) (omega arith))) wrong) in
     (none ∙ sym (pass-all eightInch (rows a)), λ t. clash (sym t))
-
-add-d : tie.Need-add-d Inv-loop μ-loop
-add-d c = omega arith
-
-loop-less : tie.Need-loop-less Inv-loop μ-loop
-loop-less c = omega arith
 
 loop-again : tie.Need-loop-again Inv-loop μ-loop
 loop-again c =
@@ -85,12 +67,6 @@ loop-again c =
       t .ensures .1 right .chained .long,
     )
 
-same-length-3 : tie.Need-same-length-3 Inv-loop μ-loop
-same-length-3 c = search needs
-
-same-length-4 : tie.Need-same-length-4 Inv-loop μ-loop
-same-length-4 c = search needs
-
 returns-2 : tie.Need-returns-2 Inv-loop μ-loop
 unfolding consistent
 returns-2 c =
@@ -105,16 +81,16 @@ is-consistent-spec =
     (tie.spec
     Inv-loop
     μ-loop
-    start-marks-requires
-    start-requires
+    (λ c κs. search needs)
+    (λ c κs. search needs)
     loop-holds
     take-record-requires
-    same-length
-    same-length-2
+    (λ c. search needs)
+    (λ c. search needs)
     returns
-    add-d
-    loop-less
+    (λ c. omega arith)
+    (λ c. omega arith)
     loop-again
-    same-length-3
-    same-length-4
+    (λ c. search needs)
+    (λ c. search needs)
     returns-2)

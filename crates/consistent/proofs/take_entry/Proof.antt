@@ -20,18 +20,12 @@ use Rattle.consistent.proofs.take_entry.Tie as tie
 abbrev rows : tie.Start → Rows
 rows a = entryAt eightInch (a .args .image .now)
 
-shared-slice-read-if1 : tie.Need-shared-slice-read-if1
-shared-slice-read-if1 c = search needs
-
 returns : tie.Need-returns
 unfolding empty
 returns c =
     let a = c .before .before .before .before .before .before in
     let none : empty (rows a (a .args .e)) ≡ true = rw (a .pre .3) at (eq-eqb _ _ (c .if1 .taken)) in
     (sym (empty-fits eightInch (rows a) (a .args .e) none), λ t. passed-empty eightInch (rows a) (a .args .e) (a .args .marks .now) (a .args .chain .now) none (a .pre .4))
-
-row-right-requires : tie.Need-row-right-requires
-row-right-requires c κs = search needs
 
 returns-2 : tie.Need-returns-2
 unfolding empty
@@ -53,12 +47,6 @@ bytes c j h =
     let b : getD (start c .args .r .now) (16 + j) 0 < 256 = omega (arith, c .before .before .before .shared-slice-known3 .given (16 + j)) in
     rw (slot-byte (rows (start c) (start c .args .e)) j h) (rw (start c .pre .3) at b)
 
-take-slots-requires : tie.Need-take-slots-requires
-take-slots-requires c κs = search needs
-
-same-length : tie.Need-same-length
-same-length c = search needs
-
 returns-3 : tie.Need-returns-3
 returns-3 c =
     let f = c .before .before .before .before .before in let a = start f in
@@ -69,12 +57,6 @@ take-key-requires : tie.Need-take-key-requires
 take-key-requires c κs =
     let f = c .before .before .before .before .before .before in let a = start f in
     (a .pre .0, a .pre .1, a .pre .2, a .pre .3, rw (← a .pre .3) at (row-used (rows a (a .args .e)) (right f)), a .pre .4 .chained)
-
-same-length-2 : tie.Need-same-length-2
-same-length-2 c = search needs
-
-same-length-3 : tie.Need-same-length-3
-same-length-3 c = search needs
 
 returns-4 : tie.Need-returns-4
 returns-4 c =
@@ -90,14 +72,14 @@ pub take-entry-spec : {M : Type 1} → statement M
 take-entry-spec =
     tie.close
     (tie.spec
-    shared-slice-read-if1
+    (λ c. search needs)
     returns
-    row-right-requires
+    (λ c κs. search needs)
     returns-2
-    take-slots-requires
-    same-length
+    (λ c κs. search needs)
+    (λ c. search needs)
     returns-3
     take-key-requires
-    same-length-2
-    same-length-3
+    (λ c. search needs)
+    (λ c. search needs)
     returns-4)

@@ -30,12 +30,6 @@ Inv-loop image d marks₀ chain₀ four at₀ marks chain at =
 abbrev μ-loop : tie.MeasureT-loop
 μ-loop image d marks₀ chain₀ four at₀ marks chain at = recordBytes - at
 
-four-rows-requires : tie.Need-four-rows-requires Inv-loop μ-loop
-four-rows-requires c κs = search needs
-
-all-empty-requires : tie.Need-all-empty-requires Inv-loop μ-loop
-all-empty-requires c κs = search needs
-
 returns : tie.Need-returns Inv-loop μ-loop
 returns c =
     let a = c .before .before .before .before .before .before in let f = c .before .before .four-rows in
@@ -49,12 +43,6 @@ returns c =
 loop-holds : tie.Need-loop-holds Inv-loop μ-loop
 loop-holds c = (all-none _, rw add-zero (c .before .before .before .before .before .before .pre .2), refl, omega arith, refl, refl)
 
-mul-e : tie.Need-mul-e Inv-loop μ-loop
-mul-e c = omega arith
-
-add-e : tie.Need-add-e Inv-loop μ-loop
-add-e c = omega arith
-
 row-at-requires : tie.Need-row-at-requires Inv-loop μ-loop
 row-at-requires c κs = (omega arith, omega arith)
 
@@ -67,23 +55,11 @@ take-entry-requires c κs =
     ∙ row-in-record eight-sound (a .args .image .now) (a .pre .0) (a .args .d) i (omega arith) (omega arith) in
     (a .pre .0, omega arith, omega arith, same, b .loop .inv .1)
 
-same-length : tie.Need-same-length Inv-loop μ-loop
-same-length c = search needs
-
-same-length-2 : tie.Need-same-length-2 Inv-loop μ-loop
-same-length-2 c = search needs
-
 returns-2 : tie.Need-returns-2 Inv-loop μ-loop
 returns-2 c =
     let b = c .before .before .before .before .before .before .before .before .before .before in
     let wrong = sym (c .before .before .before .before .before .take-entry .ensures .0) ∙ not-true _ (c .if2 .taken) in
     (sym (all-fails _ 4 (b .loop .at / entryBytes) (omega arith) wrong), λ t. clash (sym t))
-
-add-at : tie.Need-add-at Inv-loop μ-loop
-add-at c = omega arith
-
-loop-less : tie.Need-loop-less Inv-loop μ-loop
-loop-less c = omega arith
 
 loop-again : tie.Need-loop-again Inv-loop μ-loop
 loop-again c =
@@ -92,12 +68,6 @@ loop-again c =
     let right : t .result ≡ true = not-false _ (c .if2 .left) in
     let z : i + 1 ≡ (b .loop .at + entryBytes) / entryBytes = omega arith in
     (rw z at (all-more _ i (b .loop .inv .0) (sym (t .ensures .0) ∙ right)), rw z at (rw add-assoc at (t .ensures .1 right)), omega arith, omega arith, omega (arith, t .kept .1), omega (arith, t .kept .1))
-
-same-length-3 : tie.Need-same-length-3 Inv-loop μ-loop
-same-length-3 c = search needs
-
-same-length-4 : tie.Need-same-length-4 Inv-loop μ-loop
-same-length-4 c = search needs
 
 returns-3 : tie.Need-returns-3 Inv-loop μ-loop
 returns-3 c =
@@ -111,20 +81,20 @@ take-record-spec =
     (tie.spec
     Inv-loop
     μ-loop
-    four-rows-requires
-    all-empty-requires
+    (λ c κs. search needs)
+    (λ c κs. search needs)
     returns
     loop-holds
-    mul-e
-    add-e
+    (λ c. omega arith)
+    (λ c. omega arith)
     row-at-requires
     take-entry-requires
-    same-length
-    same-length-2
+    (λ c. search needs)
+    (λ c. search needs)
     returns-2
-    add-at
-    loop-less
+    (λ c. omega arith)
+    (λ c. omega arith)
     loop-again
-    same-length-3
-    same-length-4
+    (λ c. search needs)
+    (λ c. search needs)
     returns-3)

@@ -17,26 +17,11 @@ use Rattle.current.specs.Current.{current-by}
 use Rattle.current.proofs.current_entry.Statement.{statement}
 use Rattle.current.proofs.current_entry.Tie as tie
 
-fcb-right-requires : tie.Need-fcb-right-requires
-fcb-right-requires c κs = search needs
-
 returns : tie.Need-returns
 returns c =
     let a = c .before .before .before .before .before .before .args in
     sym (current-wrong eightInch (entryAt eightInch (a .image .now)) (a .map .now) (a .user) (a .fcb .now)
     (sym (c .before .fcb-right .ensures) ∙ not-true _ (c .if1 .taken)))
-
-extent-requires : tie.Need-extent-requires
-extent-requires c κs = search needs
-
-find-file-requires : tie.Need-find-file-requires
-find-file-requires c κs = search needs
-
-enum-known-e : tie.Need-enum-known-e
-enum-known-e c = search needs
-
-enum-told : tie.Need-enum-told
-enum-told c = search needs
 
 returns-2 : tie.Need-returns-2
 returns-2 c =
@@ -66,9 +51,6 @@ low c =
 row-requires : tie.Need-row-requires
 row-requires c κs = let l = low c in search needs
 
-slots-own-requires : tie.Need-slots-own-requires
-slots-own-requires c κs = search needs
-
 -- slots that are the entry's own fit
 returns-3 : tie.Need-returns-3
 returns-3 c =
@@ -77,12 +59,6 @@ returns-3 c =
     let same = sym (c .before .slots-own .ensures) ∙ c .if2 .taken in
     current-by eightInch d (a .map .now) (a .user) (a .fcb .now) e _ _ true (known k .0) (known k .1)
     (ap slotsOf (r .ensures .0)) refl (sym (same-slots-fit eightInch _ _ (short-slotsOf _) (short-slotsOf _) same (a .map .now) e))
-
-slots-requires : tie.Need-slots-requires
-slots-requires c κs = search needs
-
-slots-requires-2 : tie.Need-slots-requires-2
-slots-requires-2 c κs = search needs
 
 slots-fit-requires : tie.Need-slots-fit-requires
 slots-fit-requires c κs = let l = low (c .before .before .before .before .before) in search needs
@@ -109,18 +85,18 @@ pub current-entry-spec : {M : Type 1} → statement M
 current-entry-spec =
     tie.close
     (tie.spec
-    fcb-right-requires
+    (λ c κs. search needs)
     returns
-    extent-requires
-    find-file-requires
-    enum-known-e
-    enum-told
+    (λ c κs. search needs)
+    (λ c κs. search needs)
+    (λ c. search needs)
+    (λ c. search needs)
     returns-2
     row-requires
-    slots-own-requires
+    (λ c κs. search needs)
     returns-3
-    slots-requires
-    slots-requires-2
+    (λ c κs. search needs)
+    (λ c κs. search needs)
     slots-fit-requires
     returns-4
     returns-5)

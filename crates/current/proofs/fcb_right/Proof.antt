@@ -7,17 +7,11 @@ use Rattle.current.specs.Current.{fcb-fields}
 use Rattle.current.proofs.fcb_right.Statement.{statement}
 use Rattle.current.proofs.fcb_right.Tie as tie
 
-fields-right-requires : tie.Need-fields-right-requires
-fields-right-requires c κs = search needs
-
 returns : tie.Need-returns
 returns c = sym (fcb-fields _ ∙ and-fails-left _ _ (sym (c .before .fields-right .ensures) ∙ not-true _ (c .if1 .taken)))
-
-shared-slice-read-result : tie.Need-shared-slice-read-result
-shared-slice-read-result c = search needs
 
 returns-2 : tie.Need-returns-2
 returns-2 c = sym (fcb-fields _ ∙ and-then _ _ (sym (c .before .before .fields-right .ensures) ∙ not-false _ (c .before .if1 .left)))
 
 pub fcb-right-spec : {M : Type 1} → statement M
-fcb-right-spec = tie.close (tie.spec fields-right-requires returns shared-slice-read-result returns-2)
+fcb-right-spec = tie.close (tie.spec (λ c κs. search needs) returns (λ c. search needs) returns-2)

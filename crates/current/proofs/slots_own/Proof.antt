@@ -9,27 +9,6 @@ use Rattle.current.proofs.slots_own.Tie as tie
 both : (es fs gs hs : Bytes) → es ≡ gs → fs ≡ hs → slotsSame es fs ≡ slotsSame gs hs
 both es fs gs hs p q = rw (p, q)
 
-slice-aggregate-copy-slots : tie.Need-slice-aggregate-copy-slots
-slice-aggregate-copy-slots c = search needs
-
-copy-slots-requires : tie.Need-copy-slots-requires
-copy-slots-requires c κs = search needs
-
-slice-aggregate-copy-slots-2 : tie.Need-slice-aggregate-copy-slots-2
-slice-aggregate-copy-slots-2 c = search needs
-
-copy-slots-requires-2 : tie.Need-copy-slots-requires-2
-copy-slots-requires-2 c κs = search needs
-
-slice-aggregate-same : tie.Need-slice-aggregate-same
-slice-aggregate-same c = search needs
-
-slice-aggregate-same-2 : tie.Need-slice-aggregate-same-2
-slice-aggregate-same-2 c = search needs
-
-same-requires : tie.Need-same-requires
-same-requires c κs = search needs
-
 returns : tie.Need-returns
 returns c = c .same .ensures ∙ both _ _ _ _ (c .before .before .before .before .before .before .before .copy-slots .ensures) (c .before .before .before .before .copy-slots2 .ensures)
 
@@ -37,11 +16,11 @@ pub slots-own-spec : {M : Type 1} → statement M
 slots-own-spec =
     tie.close
     (tie.spec
-    slice-aggregate-copy-slots
-    copy-slots-requires
-    slice-aggregate-copy-slots-2
-    copy-slots-requires-2
-    slice-aggregate-same
-    slice-aggregate-same-2
-    same-requires
+    (λ c. search needs)
+    (λ c κs. search needs)
+    (λ c. search needs)
+    (λ c κs. search needs)
+    (λ c. search needs)
+    (λ c. search needs)
+    (λ c κs. search needs)
     returns)

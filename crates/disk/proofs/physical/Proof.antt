@@ -6,15 +6,9 @@ use borrow.Author.Needs.{needs}
 use Rattle.disk.proofs.physical.Statement.{statement}
 use Rattle.disk.proofs.physical.Tie as tie
 
-array-read-wide : tie.Need-array-read-wide
-array-read-wide c = search needs
-
-wide-requires : tie.Need-wide-requires
-wide-requires c κs = search needs
-
 returns : tie.Need-returns
 unfolding skew skewed
 returns c = let s = c .before .args .s in let l = c .wide .ensures in (l .0, omega (arith, skewed-low s (c .before .pre)), omega (arith, skewed-high s (c .before .pre)))
 
 pub physical-spec : {M : Type 1} → statement M
-physical-spec = tie.close (tie.spec array-read-wide wide-requires returns)
+physical-spec = tie.close (tie.spec (λ c. search needs) (λ c κs. search needs) returns)

@@ -4,15 +4,6 @@ use borrow.Author.Needs.{needs}
 use Rattle.disk.proofs.read_record.Statement.{statement}
 use Rattle.disk.proofs.read_record.Tie as tie
 
-offset-requires : tie.Need-offset-requires
-offset-requires c κs = search needs
-
-get-requires : tie.Need-get-requires
-get-requires c κs = search needs
-
-same-length : tie.Need-same-length
-same-length c = search needs
-
 returns : tie.Need-returns
 unfolding recordAt
 returns c =
@@ -20,4 +11,4 @@ returns c =
     rw (← c .before .before .before .before .offset .ensures .0, ← a .pre .2) (c .before .before .get .ensures)
 
 pub read-record-spec : {M : Type 1} → statement M
-read-record-spec = tie.close (tie.spec offset-requires get-requires same-length returns)
+read-record-spec = tie.close (tie.spec (λ c κs. search needs) (λ c κs. search needs) (λ c. search needs) returns)

@@ -6,15 +6,6 @@ use Rattle.fields.specs.Entering.{asExtent-own}
 use Rattle.entering.proofs.enter.Statement.{statement}
 use Rattle.entering.proofs.enter.Tie as tie
 
-clear-interface-requires : tie.Need-clear-interface-requires
-clear-interface-requires c κs = search needs
-
-copy-fields-requires : tie.Need-copy-fields-requires
-copy-fields-requires c κs = search needs
-
-same-length : tie.Need-same-length
-same-length c = search needs
-
 returns : tie.Need-returns
 unfolding entered
 returns c =
@@ -23,4 +14,4 @@ returns c =
     ∙ ap (copied (a .fcb .now)) (c .before .before .before .clear-interface .ensures ∙ ap interfaceCleared (sym (asExtent-own _ _ refl)))
 
 pub enter-spec : {M : Type 1} → statement M
-enter-spec = tie.close (tie.spec clear-interface-requires copy-fields-requires same-length returns)
+enter-spec = tie.close (tie.spec (λ c κs. search needs) (λ c κs. search needs) (λ c. search needs) returns)

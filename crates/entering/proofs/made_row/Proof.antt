@@ -17,41 +17,14 @@ Inv-loop user fcb r₀ i₀ r i = Made (madeRow user fcb) r₀ (1 + i) r × (i �
 abbrev μ-loop : tie.MeasureT-loop
 μ-loop user fcb r₀ i₀ r i = nameBytes - i
 
-array-write-r : tie.Need-array-write-r Inv-loop μ-loop
-array-write-r c = omega arith
-
 loop-holds : tie.Need-loop-holds Inv-loop μ-loop
 loop-holds c = (made-start (c .args .user) (c .args .fcb .now) _ refl refl, omega arith, refl)
-
-add-r : tie.Need-add-r Inv-loop μ-loop
-add-r c = omega arith
-
-shared-slice-read-r : tie.Need-shared-slice-read-r Inv-loop μ-loop
-shared-slice-read-r c = omega arith
-
-add-r-2 : tie.Need-add-r-2 Inv-loop μ-loop
-add-r-2 c = omega arith
-
-array-write-r-2 : tie.Need-array-write-r-2 Inv-loop μ-loop
-array-write-r-2 c = omega arith
-
-add-i : tie.Need-add-i Inv-loop μ-loop
-add-i c = omega arith
-
-loop-less : tie.Need-loop-less Inv-loop μ-loop
-loop-less c = omega arith
 
 loop-again : tie.Need-loop-again Inv-loop μ-loop
 loop-again c =
     let l = c .before .before .loop in
     let a = c .before .before .before .args in
     (made-more (madeRow (a .user) (a .fcb .now)) _ (l .r) (l .i) _ (omega arith) (sym (byte-made (a .user) (a .fcb .now) (l .i) (omega arith))) (l .inv .0), omega arith, simp length-set (l .inv .2))
-
-shared-slice-read-r-2 : tie.Need-shared-slice-read-r-2 Inv-loop μ-loop
-shared-slice-read-r-2 c = omega arith
-
-array-write-r-3 : tie.Need-array-write-r-3 Inv-loop μ-loop
-array-write-r-3 c = omega arith
 
 returns : tie.Need-returns Inv-loop μ-loop
 returns c =
@@ -65,15 +38,15 @@ made-row-spec =
     (tie.spec
     Inv-loop
     μ-loop
-    array-write-r
+    (λ c. omega arith)
     loop-holds
-    add-r
-    shared-slice-read-r
-    add-r-2
-    array-write-r-2
-    add-i
-    loop-less
+    (λ c. omega arith)
+    (λ c. omega arith)
+    (λ c. omega arith)
+    (λ c. omega arith)
+    (λ c. omega arith)
+    (λ c. omega arith)
     loop-again
-    shared-slice-read-r-2
-    array-write-r-3
+    (λ c. omega arith)
+    (λ c. omega arith)
     returns)

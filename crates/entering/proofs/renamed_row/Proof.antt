@@ -21,33 +21,6 @@ abbrev μ-loop : tie.MeasureT-loop
 loop-holds : tie.Need-loop-holds Inv-loop μ-loop
 loop-holds c = let a = c .before .args in (renamed-start (a .fcb .now) (a .t2) (search needs), omega arith, search needs)
 
-add-renamed-byte : tie.Need-add-renamed-byte Inv-loop μ-loop
-add-renamed-byte c = omega arith
-
-array-read-renamed-byte : tie.Need-array-read-renamed-byte Inv-loop μ-loop
-array-read-renamed-byte c = omega arith
-
-add-renamed-byte-2 : tie.Need-add-renamed-byte-2 Inv-loop μ-loop
-add-renamed-byte-2 c = omega arith
-
-shared-slice-read-renamed-byte : tie.Need-shared-slice-read-renamed-byte Inv-loop μ-loop
-shared-slice-read-renamed-byte c = omega arith
-
-renamed-byte-requires : tie.Need-renamed-byte-requires Inv-loop μ-loop
-renamed-byte-requires c κs = search needs
-
-add-r : tie.Need-add-r Inv-loop μ-loop
-add-r c = omega arith
-
-array-write-r : tie.Need-array-write-r Inv-loop μ-loop
-array-write-r c = omega arith
-
-add-i : tie.Need-add-i Inv-loop μ-loop
-add-i c = omega arith
-
-loop-less : tie.Need-loop-less Inv-loop μ-loop
-loop-less c = omega arith
-
 loop-again : tie.Need-loop-again Inv-loop μ-loop
 unfolding renamedByte
 loop-again c =
@@ -69,14 +42,14 @@ renamed-row-spec =
     Inv-loop
     μ-loop
     loop-holds
-    add-renamed-byte
-    array-read-renamed-byte
-    add-renamed-byte-2
-    shared-slice-read-renamed-byte
-    renamed-byte-requires
-    add-r
-    array-write-r
-    add-i
-    loop-less
+    (λ c. omega arith)
+    (λ c. omega arith)
+    (λ c. omega arith)
+    (λ c. omega arith)
+    (λ c κs. search needs)
+    (λ c. omega arith)
+    (λ c. omega arith)
+    (λ c. omega arith)
+    (λ c. omega arith)
     loop-again
     returns)

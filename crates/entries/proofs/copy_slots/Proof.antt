@@ -6,15 +6,9 @@ use borrow.Author.Needs.{needs}
 use Rattle.entries.proofs.copy_slots.Statement.{statement}
 use Rattle.entries.proofs.copy_slots.Tie as tie
 
-get-requires : tie.Need-get-requires
-get-requires c κs = search needs
-
-same-length : tie.Need-same-length
-same-length c = search needs
-
 returns : tie.Need-returns
 unfolding slotsOf
 returns c = let s = c .before .before .before .before .before .before in c .before .before .get .ensures ∙ ap (part (s .args .r .now) 16) (s .pre .1)
 
 pub copy-slots-spec : {M : Type 1} → statement M
-copy-slots-spec = tie.close (tie.spec get-requires same-length returns)
+copy-slots-spec = tie.close (tie.spec (λ c κs. search needs) (λ c. search needs) returns)

@@ -4,18 +4,9 @@ use borrow.Author.Needs.{needs}
 use Rattle.entries.proofs.covers_extent.Statement.{statement}
 use Rattle.entries.proofs.covers_extent.Tie as tie
 
-extent-requires : tie.Need-extent-requires
-extent-requires c κs = search needs
-
-run-of-requires : tie.Need-run-of-requires
-run-of-requires c κs = search needs
-
-run-of-requires-2 : tie.Need-run-of-requires-2
-run-of-requires-2 c κs = search needs
-
 returns : tie.Need-returns
 unfolding covers
 returns c = rw (c .run-of2 .ensures, c .before .run-of .ensures, c .before .before .extent .ensures .0)
 
 pub covers-extent-spec : {M : Type 1} → statement M
-covers-extent-spec = tie.close (tie.spec extent-requires run-of-requires run-of-requires-2 returns)
+covers-extent-spec = tie.close (tie.spec (λ c κs. search needs) (λ c κs. search needs) (λ c κs. search needs) returns)

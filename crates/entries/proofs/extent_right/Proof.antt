@@ -6,17 +6,11 @@ use Rattle.lists.specs.Tests.{and-then, and-fails-left}
 use Rattle.entries.proofs.extent_right.Statement.{statement}
 use Rattle.entries.proofs.extent_right.Tie as tie
 
-shared-slice-read-if1 : tie.Need-shared-slice-read-if1
-shared-slice-read-if1 c = search needs
-
 returns : tie.Need-returns
 returns c = sym (and-fails-left _ _ (lt-leb _ _ (c .if1 .taken)))
-
-shared-slice-read-result : tie.Need-shared-slice-read-result
-shared-slice-read-result c = search needs
 
 returns-2 : tie.Need-returns-2
 returns-2 c = sym (and-then _ _ (le-leb _ _ (c .before .if1 .left)))
 
 pub extent-right-spec : {M : Type 1} → statement M
-extent-right-spec = tie.close (tie.spec shared-slice-read-if1 returns shared-slice-read-result returns-2)
+extent-right-spec = tie.close (tie.spec (λ c. search needs) returns (λ c. search needs) returns-2)

@@ -26,12 +26,6 @@ test c = let a = c .args in emptyTest (entryAt eightInch (a .image .now))
 loop-holds : tie.Need-loop-holds Inv-loop μ-loop
 loop-holds c = refl
 
-row-requires : tie.Need-row-requires Inv-loop μ-loop
-row-requires c κs = search needs
-
-shared-slice-read-if1 : tie.Need-shared-slice-read-if1 Inv-loop μ-loop
-shared-slice-read-if1 c = omega arith
-
 returns : tie.Need-returns Inv-loop μ-loop
 unfolding findEmpty empty
 returns c =
@@ -39,12 +33,6 @@ returns c =
     let m = l .before .before in
     let t : test m (l .loop .e) ≡ true = rw (← c .before .before .row .ensures .0) (eq-eqb _ _ (c .if1 .taken)) in
     look-hit (test m) 0 (eightInch .entries) (l .loop .e) (l .loop .inv) (omega arith) t
-
-add-e : tie.Need-add-e Inv-loop μ-loop
-add-e c = omega arith
-
-loop-less : tie.Need-loop-less Inv-loop μ-loop
-loop-less c = omega arith
 
 loop-again : tie.Need-loop-again Inv-loop μ-loop
 unfolding empty
@@ -68,10 +56,10 @@ find-empty-spec =
     Inv-loop
     μ-loop
     loop-holds
-    row-requires
-    shared-slice-read-if1
+    (λ c κs. search needs)
+    (λ c. omega arith)
     returns
-    add-e
-    loop-less
+    (λ c. omega arith)
+    (λ c. omega arith)
     loop-again
     returns-2)

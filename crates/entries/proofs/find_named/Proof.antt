@@ -25,12 +25,6 @@ test c = let a = c .args in namedTest (entryAt eightInch (a .image .now)) (a .wi
 loop-holds : tie.Need-loop-holds Inv-loop μ-loop
 loop-holds c = refl
 
-row-requires : tie.Need-row-requires Inv-loop μ-loop
-row-requires c κs = search needs
-
-is-named-requires : tie.Need-is-named-requires Inv-loop μ-loop
-is-named-requires c κs = search needs
-
 returns : tie.Need-returns Inv-loop μ-loop
 unfolding findNamed
 returns c =
@@ -38,12 +32,6 @@ returns c =
     let m = l .before .before .before in
     let t : test m (l .loop .e) ≡ true = rw (c .before .is-named .ensures, c .before .before .row .ensures .0) at (c .if1 .taken) in
     look-hit (test m) 0 (eightInch .entries) (l .loop .e) (l .loop .inv) (omega arith) t
-
-add-e : tie.Need-add-e Inv-loop μ-loop
-add-e c = omega arith
-
-loop-less : tie.Need-loop-less Inv-loop μ-loop
-loop-less c = omega arith
 
 loop-again : tie.Need-loop-again Inv-loop μ-loop
 loop-again c =
@@ -66,10 +54,10 @@ find-named-spec =
     Inv-loop
     μ-loop
     loop-holds
-    row-requires
-    is-named-requires
+    (λ c κs. search needs)
+    (λ c κs. search needs)
     returns
-    add-e
-    loop-less
+    (λ c. omega arith)
+    (λ c. omega arith)
     loop-again
     returns-2)

@@ -7,15 +7,9 @@ use borrow.Author.Needs.{needs}
 use Rattle.entries.proofs.is_file.Statement.{statement}
 use Rattle.entries.proofs.is_file.Tie as tie
 
-is-named-requires : tie.Need-is-named-requires
-is-named-requires c κs = search needs
-
 returns : tie.Need-returns
 unfolding isFile
 returns c = sym (and-fails-left _ _ (sym (c .before .is-named .ensures) ∙ not-true _ (c .if1 .taken)))
-
-covers-extent-requires : tie.Need-covers-extent-requires
-covers-extent-requires c κs = search needs
 
 returns-2 : tie.Need-returns-2
 unfolding isFile
@@ -23,4 +17,4 @@ returns-2 c =
     c .covers-extent .ensures ∙ sym (and-then _ _ (sym (c .before .before .is-named .ensures) ∙ not-false _ (c .before .if1 .left)))
 
 pub is-file-spec : {M : Type 1} → statement M
-is-file-spec = tie.close (tie.spec is-named-requires returns covers-extent-requires returns-2)
+is-file-spec = tie.close (tie.spec (λ c κs. search needs) returns (λ c κs. search needs) returns-2)

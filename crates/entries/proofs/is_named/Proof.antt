@@ -7,22 +7,13 @@ use borrow.Author.Needs.{needs}
 use Rattle.entries.proofs.is_named.Statement.{statement}
 use Rattle.entries.proofs.is_named.Tie as tie
 
-shared-slice-read-if1 : tie.Need-shared-slice-read-if1
-shared-slice-read-if1 c = search needs
-
 returns : tie.Need-returns
 unfolding named
 returns c = sym (and-fails-left _ _ (ne-eqb _ _ (c .if1 .taken)))
 
-name-like-requires : tie.Need-name-like-requires
-name-like-requires c κs = search needs
-
 returns-2 : tie.Need-returns-2
 unfolding named
 returns-2 c = rw (c .before .if2 .taken) (c .name-like .ensures ∙ sym (and-then _ _ (eq-eqb _ _ (c .before .before .if1 .left))))
-
-name-same-requires : tie.Need-name-same-requires
-name-same-requires c κs = search needs
 
 returns-3 : tie.Need-returns-3
 unfolding named
@@ -32,9 +23,9 @@ pub is-named-spec : {M : Type 1} → statement M
 is-named-spec =
     tie.close
     (tie.spec
-    shared-slice-read-if1
+    (λ c. search needs)
     returns
-    name-like-requires
+    (λ c κs. search needs)
     returns-2
-    name-same-requires
+    (λ c κs. search needs)
     returns-3)

@@ -11,30 +11,9 @@ use borrow.Author.Needs.{needs}
 use Rattle.families.proofs.delete_file.Statement.{statement}
 use Rattle.families.proofs.delete_file.Tie as tie
 
-name-right-requires : tie.Need-name-right-requires
-name-right-requires c κs = search needs
-
-refuse-requires : tie.Need-refuse-requires
-refuse-requires c κs = search needs
-
 returns : tie.Need-returns
 returns c = λ asked buffer.
     delete-wrong eightInch asked _ _ _ (sym (c .before .before .name-right .ensures) ∙ not-true _ (c .before .if1 .taken)) (c .refuse .ensures)
-
-find-named-requires : tie.Need-find-named-requires
-find-named-requires c κs = search needs
-
-enum-told : tie.Need-enum-told
-enum-told c = search needs
-
-enum-told-2 : tie.Need-enum-told-2
-enum-told-2 c = search needs
-
-refuse-requires-2 : tie.Need-refuse-requires-2
-refuse-requires-2 c κs = search needs
-
-same-length : tie.Need-same-length
-same-length c = search needs
 
 returns-2 : tie.Need-returns-2
 returns-2 c = λ asked buffer.
@@ -51,32 +30,11 @@ some : (c : tie.After-enum-told) (buffer : Bytes) →
     anyNamed eightInch (lend (a .image .now) (a .map .now) (a .fcb .now) buffer) true (a .session .user) 1 ≡ true
 some c buffer = some-named eightInch _ true _ 1 _ (sym (c .before .before .find-named .ensures) ∙ c .enum-told .given .1)
 
-any-read-only-requires : tie.Need-any-read-only-requires
-any-read-only-requires c κs = search needs
-
-refuse-requires-3 : tie.Need-refuse-requires-3
-refuse-requires-3 c κs = search needs
-
-same-length-2 : tie.Need-same-length-2
-same-length-2 c = search needs
-
 returns-3 : tie.Need-returns-3
 returns-3 c = λ asked buffer.
     let k = c .before .before .before .before in
     delete-guarded eightInch asked _ _ _ (right k) (some k buffer) (sym (c .before .before .any-read-only .ensures _ buffer) ∙ c .before .if2 .taken)
     (c .refuse3 .ensures)
-
-erase-entries-requires : tie.Need-erase-entries-requires
-erase-entries-requires c κs = search needs
-
-done-requires : tie.Need-done-requires
-done-requires c κs = search needs
-
-same-length-3 : tie.Need-same-length-3
-same-length-3 c = search needs
-
-same-length-4 : tie.Need-same-length-4
-same-length-4 c = search needs
 
 returns-4 : tie.Need-returns-4
 returns-4 c = λ asked buffer.
@@ -89,21 +47,21 @@ pub delete-file-spec : {M : Type 1} → statement M
 delete-file-spec =
     tie.close
     (tie.spec
-    name-right-requires
-    refuse-requires
+    (λ c κs. search needs)
+    (λ c κs. search needs)
     returns
-    find-named-requires
-    enum-told
-    enum-told-2
-    refuse-requires-2
-    same-length
+    (λ c κs. search needs)
+    (λ c. search needs)
+    (λ c. search needs)
+    (λ c κs. search needs)
+    (λ c. search needs)
     returns-2
-    any-read-only-requires
-    refuse-requires-3
-    same-length-2
+    (λ c κs. search needs)
+    (λ c κs. search needs)
+    (λ c. search needs)
     returns-3
-    erase-entries-requires
-    done-requires
-    same-length-3
-    same-length-4
+    (λ c κs. search needs)
+    (λ c κs. search needs)
+    (λ c. search needs)
+    (λ c. search needs)
     returns-4)

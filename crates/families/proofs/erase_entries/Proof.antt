@@ -26,18 +26,6 @@ loop-holds c =
     let s = c .before .before .before in
     (erasing-none eight-sound _ _ _ (s .pre .0) (s .pre .1) _, refl, refl, omega arith)
 
-erase-entry-requires : tie.Need-erase-entry-requires Inv-loop μ-loop
-erase-entry-requires c κs = search needs
-
-array-write-picked : tie.Need-array-write-picked Inv-loop μ-loop
-array-write-picked c = search needs
-
-add-e : tie.Need-add-e Inv-loop μ-loop
-add-e c = omega arith
-
-loop-less : tie.Need-loop-less Inv-loop μ-loop
-loop-less c = omega arith
-
 loop-again : tie.Need-loop-again Inv-loop μ-loop
 loop-again c =
     let l = c .before .before .before .before .before .before .before .before in
@@ -49,18 +37,6 @@ loop-again c =
       simp length-set (l .loop .inv .2),
       omega arith,
     )
-
-slice-aggregate-free-held : tie.Need-slice-aggregate-free-held Inv-loop μ-loop
-slice-aggregate-free-held c = search needs
-
-free-held-requires : tie.Need-free-held-requires Inv-loop μ-loop
-free-held-requires c κs = search needs
-
-same-length : tie.Need-same-length Inv-loop μ-loop
-same-length c = search needs
-
-same-length-2 : tie.Need-same-length-2 Inv-loop μ-loop
-same-length-2 c = search needs
 
 returns : tie.Need-returns Inv-loop μ-loop
 returns c =
@@ -81,13 +57,13 @@ erase-entries-spec =
     Inv-loop
     μ-loop
     loop-holds
-    erase-entry-requires
-    array-write-picked
-    add-e
-    loop-less
+    (λ c κs. search needs)
+    (λ c. search needs)
+    (λ c. omega arith)
+    (λ c. omega arith)
     loop-again
-    slice-aggregate-free-held
-    free-held-requires
-    same-length
-    same-length-2
+    (λ c. search needs)
+    (λ c κs. search needs)
+    (λ c. search needs)
+    (λ c. search needs)
     returns)

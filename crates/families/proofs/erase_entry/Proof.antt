@@ -13,15 +13,6 @@ use Rattle.fields.specs.Changing.{erased-in-place}
 use Rattle.families.proofs.erase_entry.Statement.{statement}
 use Rattle.families.proofs.erase_entry.Tie as tie
 
-row-requires : tie.Need-row-requires
-row-requires c κs = search needs
-
-is-named-requires : tie.Need-is-named-requires
-is-named-requires c κs = search needs
-
-same-length : tie.Need-same-length
-same-length c = search needs
-
 returns : tie.Need-returns
 unfolding changedRow
 returns c =
@@ -29,24 +20,6 @@ returns c =
     let z : c .before .is-named .result ≡ false = not-true _ (c .if1 .taken) in
     let f : named true (s .args .user) (s .args .fcb .now) 1 (entryAt eightInch (s .args .image .now) (s .args .e)) ≡ false = rw (c .before .is-named .ensures, c .before .before .row .ensures .0) at z in
     record { image = rw f; notes = rw f; marked = rw f }
-
-slots-requires : tie.Need-slots-requires
-slots-requires c κs = search needs
-
-free-slots-requires : tie.Need-free-slots-requires
-free-slots-requires c κs = search needs
-
-entry-place-requires : tie.Need-entry-place-requires
-entry-place-requires c κs = search needs
-
-slice-write-image : tie.Need-slice-write-image
-slice-write-image c = search needs
-
-same-length-2 : tie.Need-same-length-2
-same-length-2 c = search needs
-
-same-length-3 : tie.Need-same-length-3
-same-length-3 c = search needs
 
 returns-2 : tie.Need-returns-2
 unfolding changedRow
@@ -67,14 +40,14 @@ pub erase-entry-spec : {M : Type 1} → statement M
 erase-entry-spec =
     tie.close
     (tie.spec
-    row-requires
-    is-named-requires
-    same-length
+    (λ c κs. search needs)
+    (λ c κs. search needs)
+    (λ c. search needs)
     returns
-    slots-requires
-    free-slots-requires
-    entry-place-requires
-    slice-write-image
-    same-length-2
-    same-length-3
+    (λ c κs. search needs)
+    (λ c κs. search needs)
+    (λ c κs. search needs)
+    (λ c. search needs)
+    (λ c. search needs)
+    (λ c. search needs)
     returns-2)

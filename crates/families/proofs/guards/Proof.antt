@@ -6,18 +6,12 @@ use Rattle.lists.specs.Tests.{and-fails-right, and-first}
 use Rattle.families.proofs.guards.Statement.{statement}
 use Rattle.families.proofs.guards.Tie as tie
 
-is-read-only-requires : tie.Need-is-read-only-requires
-is-read-only-requires c κs = search needs
-
 returns : tie.Need-returns
 returns c = sym (and-fails-right _ _ (sym (c .before .is-read-only .ensures) ∙ not-true _ (c .if1 .taken)))
-
-is-named-requires : tie.Need-is-named-requires
-is-named-requires c κs = search needs
 
 returns-2 : tie.Need-returns-2
 returns-2 c =
     c .is-named .ensures ∙ sym (and-first _ _ (sym (c .before .before .is-read-only .ensures) ∙ not-false _ (c .before .if1 .left)))
 
 pub guards-spec : {M : Type 1} → statement M
-guards-spec = tie.close (tie.spec is-read-only-requires returns is-named-requires returns-2)
+guards-spec = tie.close (tie.spec (λ c κs. search needs) returns (λ c κs. search needs) returns-2)

@@ -24,23 +24,11 @@ abbrev μ-loop : tie.MeasureT-loop
 loop-holds : tie.Need-loop-holds Inv-loop μ-loop
 loop-holds c = (sym (fold-none _ _), refl, omega arith)
 
-rename-entry-requires : tie.Need-rename-entry-requires Inv-loop μ-loop
-rename-entry-requires c κs = search needs
-
-add-e : tie.Need-add-e Inv-loop μ-loop
-add-e c = omega arith
-
-loop-less : tie.Need-loop-less Inv-loop μ-loop
-loop-less c = omega arith
-
 loop-again : tie.Need-loop-again Inv-loop μ-loop
 loop-again c =
     let l = c .before .before .before .before .before in
     let t = c .before .before .rename-entry in
     (fold-more _ _ _ _ _ (l .loop .inv .0) (t .ensures), t .kept .0 ∙ l .loop .inv .1, omega arith)
-
-same-length : tie.Need-same-length Inv-loop μ-loop
-same-length c = search needs
 
 returns : tie.Need-returns Inv-loop μ-loop
 unfolding changedRows
@@ -53,9 +41,9 @@ rename-entries-spec =
     Inv-loop
     μ-loop
     loop-holds
-    rename-entry-requires
-    add-e
-    loop-less
+    (λ c κs. search needs)
+    (λ c. omega arith)
+    (λ c. omega arith)
     loop-again
-    same-length
+    (λ c. search needs)
     returns)

@@ -8,33 +8,12 @@ use borrow.Author.Needs.{needs}
 use Rattle.families.proofs.rename_entry.Statement.{statement}
 use Rattle.families.proofs.rename_entry.Tie as tie
 
-row-requires : tie.Need-row-requires
-row-requires c κs = search needs
-
-is-named-requires : tie.Need-is-named-requires
-is-named-requires c κs = search needs
-
-copy-row-requires : tie.Need-copy-row-requires
-copy-row-requires c κs = search needs
-
-renamed-row-requires : tie.Need-renamed-row-requires
-renamed-row-requires c κs = search needs
-
-store-row-requires : tie.Need-store-row-requires
-store-row-requires c κs = search needs
-
-same-length : tie.Need-same-length
-same-length c = search needs
-
 returns : tie.Need-returns
 unfolding changedRow
 returns c =
     let s = c .before .before .before .before .before .before .before .before .before .before .before .before .before in
     let t : named false (s .args .user) (s .args .fcb .now) 1 (entryAt eightInch (s .args .image .now) (s .args .e)) ≡ true = rw (c .before .before .before .before .before .before .before .before .is-named .ensures, c .before .before .before .before .before .before .before .before .before .row .ensures .0) at (c .before .before .before .before .before .before .before .if1 .taken) in
     rw (t, ← c .before .before .before .before .before .copy-row .ensures, ← c .before .before .before .renamed-row .ensures) (c .before .before .store-row .ensures)
-
-same-length-2 : tie.Need-same-length-2
-same-length-2 c = search needs
 
 returns-2 : tie.Need-returns-2
 unfolding changedRow
@@ -46,12 +25,12 @@ pub rename-entry-spec : {M : Type 1} → statement M
 rename-entry-spec =
     tie.close
     (tie.spec
-    row-requires
-    is-named-requires
-    copy-row-requires
-    renamed-row-requires
-    store-row-requires
-    same-length
+    (λ c κs. search needs)
+    (λ c κs. search needs)
+    (λ c κs. search needs)
+    (λ c κs. search needs)
+    (λ c κs. search needs)
+    (λ c. search needs)
     returns
-    same-length-2
+    (λ c. search needs)
     returns-2)

@@ -11,21 +11,9 @@ use borrow.Author.Needs.{needs}
 use Rattle.families.proofs.rename_file.Statement.{statement}
 use Rattle.families.proofs.rename_file.Tie as tie
 
-name-right-requires : tie.Need-name-right-requires
-name-right-requires c κs = search needs
-
-refuse-requires : tie.Need-refuse-requires
-refuse-requires c κs = search needs
-
 returns : tie.Need-returns
 returns c = λ asked map buffer.
     rename-wrong eightInch asked _ _ _ (sym (c .before .before .name-right .ensures) ∙ not-true _ (c .before .if1 .taken)) (c .refuse .ensures)
-
-name-right-requires-2 : tie.Need-name-right-requires-2
-name-right-requires-2 c κs = search needs
-
-refuse-requires-2 : tie.Need-refuse-requires-2
-refuse-requires-2 c κs = search needs
 
 returns-2 : tie.Need-returns-2
 returns-2 c = λ asked map buffer.
@@ -39,21 +27,6 @@ old c = sym (c .before .before .before .name-right .ensures) ∙ not-false _ (c 
 new : (c : tie.Else2) → nameRight false (c .before .before .before .before .before .before .args .fcb .now) 17 ≡ true
 new c = sym (c .before .name-right2 .ensures) ∙ not-false _ (c .if2 .left)
 
-find-named-requires : tie.Need-find-named-requires
-find-named-requires c κs = search needs
-
-enum-told : tie.Need-enum-told
-enum-told c = search needs
-
-enum-told-2 : tie.Need-enum-told-2
-enum-told-2 c = search needs
-
-refuse-requires-3 : tie.Need-refuse-requires-3
-refuse-requires-3 c κs = search needs
-
-same-length : tie.Need-same-length
-same-length c = search needs
-
 returns-3 : tie.Need-returns-3
 returns-3 c = λ asked map buffer.
     let u = c .before .before .before .before .before in
@@ -65,15 +38,6 @@ some : (c : tie.After-enum-told) (map buffer : Bytes) →
     let a = c .before .before .before .before .before .before .before .before .before .before .args in
     anyNamed eightInch (lend (a .image .now) map (a .fcb .now) buffer) false (a .session .user) 1 ≡ true
 some c map buffer = some-named eightInch _ false _ 1 _ (sym (c .before .before .find-named .ensures) ∙ c .enum-told .given .1)
-
-any-read-only-requires : tie.Need-any-read-only-requires
-any-read-only-requires c κs = search needs
-
-refuse-requires-4 : tie.Need-refuse-requires-4
-refuse-requires-4 c κs = search needs
-
-same-length-2 : tie.Need-same-length-2
-same-length-2 c = search needs
 
 returns-4 : tie.Need-returns-4
 returns-4 c = λ asked map buffer.
@@ -88,21 +52,6 @@ free : (c : tie.Else3) (map buffer : Bytes) →
     anyReadOnly eightInch (lend (a .image .now) map (a .fcb .now) buffer) false (a .session .user) ≡ false
 free c map buffer = sym (c .before .any-read-only .ensures map buffer) ∙ c .if3 .left
 
-find-named-requires-2 : tie.Need-find-named-requires-2
-find-named-requires-2 c κs = search needs
-
-enum-told-3 : tie.Need-enum-told-3
-enum-told-3 c = search needs
-
-enum-told-4 : tie.Need-enum-told-4
-enum-told-4 c = search needs
-
-refuse-requires-5 : tie.Need-refuse-requires-5
-refuse-requires-5 c κs = search needs
-
-same-length-3 : tie.Need-same-length-3
-same-length-3 c = search needs
-
 returns-5 : tie.Need-returns-5
 returns-5 c = λ asked map buffer.
     let f = c .before .before .before .before .before in
@@ -110,15 +59,6 @@ returns-5 c = λ asked map buffer.
     let u = k .before .before .before .before in
     rename-exists eightInch asked _ _ _ (old u) (new u) (some k map buffer) (free f map buffer)
     (some-named eightInch _ false _ 17 _ (sym (c .before .before .before .find-named2 .ensures) ∙ c .before .enum-told4 .given .1)) (c .refuse5 .ensures)
-
-rename-entries-requires : tie.Need-rename-entries-requires
-rename-entries-requires c κs = search needs
-
-done-requires : tie.Need-done-requires
-done-requires c κs = search needs
-
-same-length-4 : tie.Need-same-length-4
-same-length-4 c = search needs
 
 returns-6 : tie.Need-returns-6
 returns-6 c = λ asked map buffer.
@@ -134,29 +74,29 @@ pub rename-file-spec : {M : Type 1} → statement M
 rename-file-spec =
     tie.close
     (tie.spec
-    name-right-requires
-    refuse-requires
+    (λ c κs. search needs)
+    (λ c κs. search needs)
     returns
-    name-right-requires-2
-    refuse-requires-2
+    (λ c κs. search needs)
+    (λ c κs. search needs)
     returns-2
-    find-named-requires
-    enum-told
-    enum-told-2
-    refuse-requires-3
-    same-length
+    (λ c κs. search needs)
+    (λ c. search needs)
+    (λ c. search needs)
+    (λ c κs. search needs)
+    (λ c. search needs)
     returns-3
-    any-read-only-requires
-    refuse-requires-4
-    same-length-2
+    (λ c κs. search needs)
+    (λ c κs. search needs)
+    (λ c. search needs)
     returns-4
-    find-named-requires-2
-    enum-told-3
-    enum-told-4
-    refuse-requires-5
-    same-length-3
+    (λ c κs. search needs)
+    (λ c. search needs)
+    (λ c. search needs)
+    (λ c κs. search needs)
+    (λ c. search needs)
     returns-5
-    rename-entries-requires
-    done-requires
-    same-length-4
+    (λ c κs. search needs)
+    (λ c κs. search needs)
+    (λ c. search needs)
     returns-6)

@@ -7,19 +7,13 @@ use Rattle.files.specs.Asked.{asksRight}
 use Rattle.files.proofs.asks_right.Statement.{statement}
 use Rattle.files.proofs.asks_right.Tie as tie
 
-shared-slice-read-if1 : tie.Need-shared-slice-read-if1
-shared-slice-read-if1 c = search needs
-
 returns : tie.Need-returns
 unfolding asksRight
 returns c = sym (and-fails-right _ _ (lt-leb _ _ (c .if1 .taken)))
-
-name-right-requires : tie.Need-name-right-requires
-name-right-requires c κs = search needs
 
 returns-2 : tie.Need-returns-2
 unfolding asksRight
 returns-2 c = c .name-right .ensures ∙ sym (and-first _ _ (le-leb _ _ (c .before .if1 .left)))
 
 pub asks-right-spec : {M : Type 1} → statement M
-asks-right-spec = tie.close (tie.spec shared-slice-read-if1 returns name-right-requires returns-2)
+asks-right-spec = tie.close (tie.spec (λ c. search needs) returns (λ c κs. search needs) returns-2)

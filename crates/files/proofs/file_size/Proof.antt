@@ -10,51 +10,15 @@ use borrow.Author.Needs.{needs}
 use Rattle.files.proofs.file_size.Statement.{statement}
 use Rattle.files.proofs.file_size.Tie as tie
 
-name-right-requires : tie.Need-name-right-requires
-name-right-requires c κs = search needs
-
-refuse-requires : tie.Need-refuse-requires
-refuse-requires c κs = search needs
-
-same-length : tie.Need-same-length
-same-length c = search needs
-
 returns : tie.Need-returns
 returns c = λ asked map buffer.
     size-wrong eightInch asked _ _ _ (sym (c .before .before .name-right .ensures) ∙ not-true _ (c .before .if1 .taken)) (c .refuse .ensures)
-
-find-named-requires : tie.Need-find-named-requires
-find-named-requires c κs = search needs
-
-enum-told : tie.Need-enum-told
-enum-told c = search needs
-
-enum-told-2 : tie.Need-enum-told-2
-enum-told-2 c = search needs
-
-refuse-requires-2 : tie.Need-refuse-requires-2
-refuse-requires-2 c κs = search needs
-
-same-length-2 : tie.Need-same-length-2
-same-length-2 c = search needs
 
 returns-2 : tie.Need-returns-2
 returns-2 c = λ asked map buffer.
     let u = c .before .before .before .before .before in
     size-missed eightInch asked _ _ _ (sym (u .before .name-right .ensures) ∙ not-false _ (u .if1 .left))
     (sym (c .before .before .before .find-named .ensures) ∙ c .before .enum-told2 .given .1) (c .refuse2 .ensures)
-
-largest-size-requires : tie.Need-largest-size-requires
-largest-size-requires c κs = search needs
-
-put-three-requires : tie.Need-put-three-requires
-put-three-requires c κs = search needs
-
-done-requires : tie.Need-done-requires
-done-requires c κs = search needs
-
-same-length-3 : tie.Need-same-length-3
-same-length-3 c = search needs
 
 returns-3 : tie.Need-returns-3
 returns-3 c = λ asked map buffer.
@@ -68,18 +32,18 @@ pub file-size-spec : {M : Type 1} → statement M
 file-size-spec =
     tie.close
     (tie.spec
-    name-right-requires
-    refuse-requires
-    same-length
+    (λ c κs. search needs)
+    (λ c κs. search needs)
+    (λ c. search needs)
     returns
-    find-named-requires
-    enum-told
-    enum-told-2
-    refuse-requires-2
-    same-length-2
+    (λ c κs. search needs)
+    (λ c. search needs)
+    (λ c. search needs)
+    (λ c κs. search needs)
+    (λ c. search needs)
     returns-2
-    largest-size-requires
-    put-three-requires
-    done-requires
-    same-length-3
+    (λ c κs. search needs)
+    (λ c κs. search needs)
+    (λ c κs. search needs)
+    (λ c. search needs)
     returns-3)

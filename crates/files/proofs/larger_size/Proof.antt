@@ -10,18 +10,9 @@ use Rattle.fields.specs.Size.{larger-miss, larger-hit}
 use Rattle.files.proofs.larger_size.Statement.{statement}
 use Rattle.files.proofs.larger_size.Tie as tie
 
-row-requires : tie.Need-row-requires
-row-requires c κs = search needs
-
-is-named-requires : tie.Need-is-named-requires
-is-named-requires c κs = search needs
-
 returns : tie.Need-returns
 returns c = let z : c .before .is-named .result ≡ false = not-true _ (c .if1 .taken) in
     sym (larger-miss _ _ _ _ (rw (c .before .is-named .ensures, c .before .before .row .ensures .0) at z))
-
-end-of-requires : tie.Need-end-of-requires
-end-of-requires c κs = search needs
 
 returns-2 : tie.Need-returns-2
 returns-2 c = let s = c .before .before .before .before .before .before .before in
@@ -38,4 +29,4 @@ returns-3 c = let s = c .before .before .before .before .before .before .before 
 pub larger-size-spec : {M : Type 1} → statement M
 larger-size-spec =
     tie.close
-    (tie.spec row-requires is-named-requires returns end-of-requires returns-2 returns-3)
+    (tie.spec (λ c κs. search needs) (λ c κs. search needs) returns (λ c κs. search needs) returns-2 returns-3)

@@ -21,15 +21,6 @@ abbrev μ-loop : tie.MeasureT-loop
 loop-holds : tie.Need-loop-holds Inv-loop μ-loop
 loop-holds c = (sym (fold-none _ _), omega arith)
 
-larger-size-requires : tie.Need-larger-size-requires Inv-loop μ-loop
-larger-size-requires c κs = search needs
-
-add-e : tie.Need-add-e Inv-loop μ-loop
-add-e c = omega arith
-
-loop-less : tie.Need-loop-less Inv-loop μ-loop
-loop-less c = omega arith
-
 loop-again : tie.Need-loop-again Inv-loop μ-loop
 loop-again c = let l = c .before .before in
     (fold-more _ _ _ _ _ (l .loop .inv .0) (c .larger-size .ensures), omega arith)
@@ -41,4 +32,4 @@ returns c = let l = c .before in fold-done _ _ _ _ _ (l .loop .inv .1) (omega ar
 pub largest-size-spec : {M : Type 1} → statement M
 largest-size-spec =
     tie.close
-    (tie.spec Inv-loop μ-loop loop-holds larger-size-requires add-e loop-less loop-again returns)
+    (tie.spec Inv-loop μ-loop loop-holds (λ c κs. search needs) (λ c. omega arith) (λ c. omega arith) loop-again returns)

@@ -16,36 +16,9 @@ use borrow.Author.Needs.{needs}
 use Rattle.files.proofs.make_file.Statement.{statement}
 use Rattle.files.proofs.make_file.Tie as tie
 
-asks-right-requires : tie.Need-asks-right-requires
-asks-right-requires c κs = search needs
-
-refuse-requires : tie.Need-refuse-requires
-refuse-requires c κs = search needs
-
-same-length : tie.Need-same-length
-same-length c = search needs
-
 returns : tie.Need-returns
 returns c = λ asked map buffer.
     make-wrong eightInch asked _ _ _ (sym (c .before .before .asks-right .ensures) ∙ not-true _ (c .before .if1 .taken)) (c .refuse .ensures)
-
-find-asked-requires : tie.Need-find-asked-requires
-find-asked-requires c κs = search needs
-
-enum-told : tie.Need-enum-told
-enum-told c = search needs
-
-enum-told-2 : tie.Need-enum-told-2
-enum-told-2 c = search needs
-
-refuse-requires-2 : tie.Need-refuse-requires-2
-refuse-requires-2 c κs = search needs
-
-same-length-2 : tie.Need-same-length-2
-same-length-2 c = search needs
-
-same-length-3 : tie.Need-same-length-3
-same-length-3 c = search needs
 
 returns-2 : tie.Need-returns-2
 returns-2 c = λ asked map buffer.
@@ -62,24 +35,6 @@ new : (c : tie.After-enum-told) (map buffer : Bytes) →
     askedEntry eightInch (lend (a .image .now) map (a .fcb .now) buffer) (a .session .user) ≡ Nothing
 new c map buffer = sym (c .before .before .find-asked .ensures map buffer) ∙ c .enum-told .given .1
 
-find-empty-requires : tie.Need-find-empty-requires
-find-empty-requires c κs = search needs
-
-enum-known-e : tie.Need-enum-known-e
-enum-known-e c = search needs
-
-enum-told-3 : tie.Need-enum-told-3
-enum-told-3 c = search needs
-
-refuse-requires-3 : tie.Need-refuse-requires-3
-refuse-requires-3 c κs = search needs
-
-same-length-4 : tie.Need-same-length-4
-same-length-4 c = search needs
-
-same-length-5 : tie.Need-same-length-5
-same-length-5 c = search needs
-
 returns-3 : tie.Need-returns-3
 returns-3 c = λ asked map buffer.
     let k = c .before .before .before .before .before in
@@ -93,26 +48,8 @@ free c = sym (c .before .before .before .find-empty .ensures) ∙ c .before .e .
 low : (c : tie.After-known-told) → c .before .e .given .0 .0 < eightInch .entries
 low c = empty-says eightInch _ _ (free c) .below
 
-made-row-requires : tie.Need-made-row-requires
-made-row-requires c κs = search needs
-
 store-row-requires : tie.Need-store-row-requires
 store-row-requires c κs = let l = low (c .before .before .before) in search needs
-
-copy-fields-requires : tie.Need-copy-fields-requires
-copy-fields-requires c κs = search needs
-
-cast-done : tie.Need-cast-done
-cast-done c = search needs
-
-done-requires : tie.Need-done-requires
-done-requires c κs = search needs
-
-same-length-6 : tie.Need-same-length-6
-same-length-6 c = search needs
-
-same-length-7 : tie.Need-same-length-7
-same-length-7 c = search needs
 
 returns-4 : tie.Need-returns-4
 returns-4 c = λ asked map buffer.
@@ -126,29 +63,29 @@ pub make-file-spec : {M : Type 1} → statement M
 make-file-spec =
     tie.close
     (tie.spec
-    asks-right-requires
-    refuse-requires
-    same-length
+    (λ c κs. search needs)
+    (λ c κs. search needs)
+    (λ c. search needs)
     returns
-    find-asked-requires
-    enum-told
-    enum-told-2
-    refuse-requires-2
-    same-length-2
-    same-length-3
+    (λ c κs. search needs)
+    (λ c. search needs)
+    (λ c. search needs)
+    (λ c κs. search needs)
+    (λ c. search needs)
+    (λ c. search needs)
     returns-2
-    find-empty-requires
-    enum-known-e
-    enum-told-3
-    refuse-requires-3
-    same-length-4
-    same-length-5
+    (λ c κs. search needs)
+    (λ c. search needs)
+    (λ c. search needs)
+    (λ c κs. search needs)
+    (λ c. search needs)
+    (λ c. search needs)
     returns-3
-    made-row-requires
+    (λ c κs. search needs)
     store-row-requires
-    copy-fields-requires
-    cast-done
-    done-requires
-    same-length-6
-    same-length-7
+    (λ c κs. search needs)
+    (λ c. search needs)
+    (λ c κs. search needs)
+    (λ c. search needs)
+    (λ c. search needs)
     returns-4)

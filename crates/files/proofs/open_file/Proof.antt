@@ -14,33 +14,9 @@ use Rattle.files.specs.Steps.{open-wrong, open-missed, open-done}
 use Rattle.files.proofs.open_file.Statement.{statement}
 use Rattle.files.proofs.open_file.Tie as tie
 
-asks-right-requires : tie.Need-asks-right-requires
-asks-right-requires c κs = search needs
-
-refuse-requires : tie.Need-refuse-requires
-refuse-requires c κs = search needs
-
-same-length : tie.Need-same-length
-same-length c = search needs
-
 returns : tie.Need-returns
 returns c = λ asked map buffer.
     open-wrong eightInch asked _ _ _ (sym (c .before .before .asks-right .ensures) ∙ not-true _ (c .before .if1 .taken)) (c .refuse .ensures)
-
-find-asked-requires : tie.Need-find-asked-requires
-find-asked-requires c κs = search needs
-
-enum-known-e : tie.Need-enum-known-e
-enum-known-e c = search needs
-
-enum-told : tie.Need-enum-told
-enum-told c = search needs
-
-refuse-requires-2 : tie.Need-refuse-requires-2
-refuse-requires-2 c κs = search needs
-
-same-length-2 : tie.Need-same-length-2
-same-length-2 c = search needs
 
 returns-2 : tie.Need-returns-2
 returns-2 c = λ asked map buffer.
@@ -60,18 +36,6 @@ low c = asked-below eightInch _ _ _ (asked-for c [] [])
 copy-row-requires : tie.Need-copy-row-requires
 copy-row-requires c κs = let l = low (c .before) in search needs
 
-enter-requires : tie.Need-enter-requires
-enter-requires c κs = search needs
-
-cast-done : tie.Need-cast-done
-cast-done c = search needs
-
-done-requires : tie.Need-done-requires
-done-requires c κs = search needs
-
-same-length-3 : tie.Need-same-length-3
-same-length-3 c = search needs
-
 returns-3 : tie.Need-returns-3
 returns-3 c = λ asked map buffer.
     let k = c .before .before .before .before .before .before in
@@ -84,19 +48,19 @@ pub open-file-spec : {M : Type 1} → statement M
 open-file-spec =
     tie.close
     (tie.spec
-    asks-right-requires
-    refuse-requires
-    same-length
+    (λ c κs. search needs)
+    (λ c κs. search needs)
+    (λ c. search needs)
     returns
-    find-asked-requires
-    enum-known-e
-    enum-told
-    refuse-requires-2
-    same-length-2
+    (λ c κs. search needs)
+    (λ c. search needs)
+    (λ c. search needs)
+    (λ c κs. search needs)
+    (λ c. search needs)
     returns-2
     copy-row-requires
-    enter-requires
-    cast-done
-    done-requires
-    same-length-3
+    (λ c κs. search needs)
+    (λ c. search needs)
+    (λ c κs. search needs)
+    (λ c. search needs)
     returns-3)

@@ -19,24 +19,6 @@ abbrev μ-loop : tie.MeasureT-loop
 loop-holds : tie.Need-loop-holds Inv-loop μ-loop
 loop-holds c = (filled-none _ _, omega arith)
 
-mul-unheld-note : tie.Need-mul-unheld-note Inv-loop μ-loop
-mul-unheld-note c = omega arith
-
-slice-read-unheld-note : tie.Need-slice-read-unheld-note Inv-loop μ-loop
-slice-read-unheld-note c = omega arith
-
-unheld-note-requires : tie.Need-unheld-note-requires Inv-loop μ-loop
-unheld-note-requires c κs = search needs
-
-set-note-requires : tie.Need-set-note-requires Inv-loop μ-loop
-set-note-requires c κs = search needs
-
-add-b : tie.Need-add-b Inv-loop μ-loop
-add-b c = omega arith
-
-loop-less : tie.Need-loop-less Inv-loop μ-loop
-loop-less c = omega arith
-
 loop-again : tie.Need-loop-again Inv-loop μ-loop
 loop-again c = let l = c .before .before .before .before .before .before .before in (
   changed-note (λ (k n : ℕ). unheldNote (marksPick (l .before .before .before .args .picked .now)) n)
@@ -45,9 +27,6 @@ loop-again c = let l = c .before .before .before .before .before .before .before
       (c .before .before .before .before .unheld-note .ensures) (l .loop .inv .0),
   omega arith,
 )
-
-same-length : tie.Need-same-length Inv-loop μ-loop
-same-length c = search needs
 
 returns : tie.Need-returns Inv-loop μ-loop
 unfolding unheldMap
@@ -63,12 +42,12 @@ free-held-spec =
     Inv-loop
     μ-loop
     loop-holds
-    mul-unheld-note
-    slice-read-unheld-note
-    unheld-note-requires
-    set-note-requires
-    add-b
-    loop-less
+    (λ c. omega arith)
+    (λ c. omega arith)
+    (λ c κs. search needs)
+    (λ c κs. search needs)
+    (λ c. omega arith)
+    (λ c. omega arith)
     loop-again
-    same-length
+    (λ c. search needs)
     returns)

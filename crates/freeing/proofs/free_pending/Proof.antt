@@ -18,24 +18,6 @@ abbrev μ-loop : tie.MeasureT-loop
 loop-holds : tie.Need-loop-holds Inv-loop μ-loop
 loop-holds c = (filled-none _ _, omega arith)
 
-mul-settled-note : tie.Need-mul-settled-note Inv-loop μ-loop
-mul-settled-note c = omega arith
-
-slice-read-settled-note : tie.Need-slice-read-settled-note Inv-loop μ-loop
-slice-read-settled-note c = omega arith
-
-settled-note-requires : tie.Need-settled-note-requires Inv-loop μ-loop
-settled-note-requires c κs = search needs
-
-set-note-requires : tie.Need-set-note-requires Inv-loop μ-loop
-set-note-requires c κs = search needs
-
-add-b : tie.Need-add-b Inv-loop μ-loop
-add-b c = omega arith
-
-loop-less : tie.Need-loop-less Inv-loop μ-loop
-loop-less c = omega arith
-
 loop-again : tie.Need-loop-again Inv-loop μ-loop
 loop-again c = let l = c .before .before .before .before .before .before .before in (
   changed-note (λ (k n : ℕ). settledNote n) (l .before .before .args .map .now) (l .loop .b) (l .loop .map) _
@@ -43,9 +25,6 @@ loop-again c = let l = c .before .before .before .before .before .before .before
       (c .before .before .before .before .settled-note .ensures) (l .loop .inv .0),
   omega arith,
 )
-
-same-length : tie.Need-same-length Inv-loop μ-loop
-same-length c = search needs
 
 returns : tie.Need-returns Inv-loop μ-loop
 unfolding freedMap
@@ -61,12 +40,12 @@ free-pending-spec =
     Inv-loop
     μ-loop
     loop-holds
-    mul-settled-note
-    slice-read-settled-note
-    settled-note-requires
-    set-note-requires
-    add-b
-    loop-less
+    (λ c. omega arith)
+    (λ c. omega arith)
+    (λ c κs. search needs)
+    (λ c κs. search needs)
+    (λ c. omega arith)
+    (λ c. omega arith)
     loop-again
-    same-length
+    (λ c. search needs)
     returns)

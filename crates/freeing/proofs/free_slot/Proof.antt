@@ -14,15 +14,6 @@ returns : tie.Need-returns
 unfolding unlistedSlot
 returns c = rw (eq-eqb _ _ (c .if1 .taken))
 
-wide-requires : tie.Need-wide-requires
-wide-requires c κs = search needs
-
-set-note-requires : tie.Need-set-note-requires
-set-note-requires c κs = search needs
-
-same-length : tie.Need-same-length
-same-length c = search needs
-
 returns-2 : tie.Need-returns-2
 unfolding unlistedSlot
 returns-2 c =
@@ -39,4 +30,4 @@ returns-3 c =
 
 pub free-slot-spec : {M : Type 1} → statement M
 free-slot-spec =
-    tie.close (tie.spec returns wide-requires set-note-requires same-length returns-2 returns-3)
+    tie.close (tie.spec returns (λ c κs. search needs) (λ c κs. search needs) (λ c. search needs) returns-2 returns-3)

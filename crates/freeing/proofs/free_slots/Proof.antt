@@ -19,26 +19,11 @@ abbrev μ-loop : tie.MeasureT-loop
 loop-holds : tie.Need-loop-holds Inv-loop μ-loop
 loop-holds c = (slots-none eightInch _ _, omega arith)
 
-array-read-free-slot : tie.Need-array-read-free-slot Inv-loop μ-loop
-array-read-free-slot c = omega arith
-
-free-slot-requires : tie.Need-free-slot-requires Inv-loop μ-loop
-free-slot-requires c κs = search needs
-
-add-j : tie.Need-add-j Inv-loop μ-loop
-add-j c = omega arith
-
-loop-less : tie.Need-loop-less Inv-loop μ-loop
-loop-less c = omega arith
-
 loop-again : tie.Need-loop-again Inv-loop μ-loop
 unfolding slotIn
 loop-again c =
     let l = c .before .before .before .before .before in
     (rw (c .before .before .free-slot .ensures) (slots-more eightInch _ _ (l .loop .map) (l .loop .j) (l .loop .inv .0)), omega arith)
-
-same-length : tie.Need-same-length Inv-loop μ-loop
-same-length c = search needs
 
 returns : tie.Need-returns Inv-loop μ-loop
 returns c =
@@ -54,10 +39,10 @@ free-slots-spec =
     Inv-loop
     μ-loop
     loop-holds
-    array-read-free-slot
-    free-slot-requires
-    add-j
-    loop-less
+    (λ c. omega arith)
+    (λ c κs. search needs)
+    (λ c. omega arith)
+    (λ c. omega arith)
     loop-again
-    same-length
+    (λ c. search needs)
     returns)

@@ -12,15 +12,6 @@ use Rattle.freeing.specs.Freeing.{marksPick}
 use Rattle.freeing.proofs.held_for.Statement.{statement}
 use Rattle.freeing.proofs.held_for.Tie as tie
 
-holder-requires : tie.Need-holder-requires
-holder-requires c κs = search needs
-
-enum-known-e : tie.Need-enum-known-e
-enum-known-e c = search needs
-
-enum-told : tie.Need-enum-told
-enum-told c = search needs
-
 none-past : (marks : Bytes) → length marks ≡ eightInch .entries → (e : ℕ) → eightInch .entries ≤ e → marksPick marks e ≡ false
 unfolding marksPick
 none-past marks l e h = ap (λ (x : ℕ). not (eqb x 0)) (List·getD-eq-default marks 0 (omega arith))
@@ -44,4 +35,4 @@ returns-2 c =
 
 pub held-for-spec : {M : Type 1} → statement M
 held-for-spec =
-    tie.close (tie.spec holder-requires enum-known-e enum-told returns shared-slice-read-result returns-2)
+    tie.close (tie.spec (λ c κs. search needs) (λ c. search needs) (λ c. search needs) returns shared-slice-read-result returns-2)

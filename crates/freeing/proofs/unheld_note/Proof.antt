@@ -4,9 +4,6 @@ use Rattle.freeing.specs.Freeing.{unheldNote}
 use Rattle.freeing.proofs.unheld_note.Statement.{statement}
 use Rattle.freeing.proofs.unheld_note.Tie as tie
 
-held-for-requires : tie.Need-held-for-requires
-held-for-requires c κs = search needs
-
 returns : tie.Need-returns
 unfolding unheldNote
 returns c = rw (← c .before .held-for .ensures, c .if1 .taken)
@@ -16,4 +13,4 @@ unfolding unheldNote
 returns-2 c = rw (← c .before .held-for .ensures, c .if1 .left)
 
 pub unheld-note-spec : {M : Type 1} → statement M
-unheld-note-spec = tie.close (tie.spec held-for-requires returns returns-2)
+unheld-note-spec = tie.close (tie.spec (λ c κs. search needs) returns returns-2)

@@ -9,16 +9,10 @@ use Rattle.fresh.proofs.fresh_note.Tie as tie
 returns : tie.Need-returns
 returns c = λ d m. sym (fresh-area eightInch d _ (c .if1 .taken))
 
-shared-slice-read-told-note : tie.Need-shared-slice-read-told-note
-shared-slice-read-told-note c = search needs
-
-told-note-requires : tie.Need-told-note-requires
-told-note-requires c κs = search needs
-
 returns-2 : tie.Need-returns-2
 returns-2 c =
     let l = c .before .before in
     λ d m. c .told-note .ensures ∙ sym (fresh-told eightInch d _ _ (l .if1 .left) (l .before .before .pre .1) m)
 
 pub fresh-note-spec : {M : Type 1} → statement M
-fresh-note-spec = tie.close (tie.spec returns shared-slice-read-told-note told-note-requires returns-2)
+fresh-note-spec = tie.close (tie.spec returns (λ c. search needs) (λ c κs. search needs) returns-2)

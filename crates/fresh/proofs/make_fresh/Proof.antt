@@ -24,18 +24,6 @@ abbrev μ-loop : tie.MeasureT-loop
 loop-holds : tie.Need-loop-holds Inv-loop μ-loop
 loop-holds c = (λ d m. filled-none _ _, refl, omega arith)
 
-fresh-note-requires : tie.Need-fresh-note-requires Inv-loop μ-loop
-fresh-note-requires c κs = search needs
-
-set-note-requires : tie.Need-set-note-requires Inv-loop μ-loop
-set-note-requires c κs = search needs
-
-add-b : tie.Need-add-b Inv-loop μ-loop
-add-b c = omega arith
-
-loop-less : tie.Need-loop-less Inv-loop μ-loop
-loop-less c = omega arith
-
 loop-again : tie.Need-loop-again Inv-loop μ-loop
 loop-again c = let l = c .before .before .before .before .before .before in (
   λ d m. filled-note (freshNote eightInch d) (l .before .before .before .args .map .now) (l .loop .b) (l .loop .map) _
@@ -45,9 +33,6 @@ loop-again c = let l = c .before .before .before .before .before .before in (
       (arith, c .before .before .set-note .kept .0),
   omega arith,
 )
-
-same-length : tie.Need-same-length Inv-loop μ-loop
-same-length c = search needs
 
 returns : tie.Need-returns Inv-loop μ-loop
 unfolding freshMap
@@ -63,10 +48,10 @@ make-fresh-spec =
     Inv-loop
     μ-loop
     loop-holds
-    fresh-note-requires
-    set-note-requires
-    add-b
-    loop-less
+    (λ c κs. search needs)
+    (λ c κs. search needs)
+    (λ c. omega arith)
+    (λ c. omega arith)
     loop-again
-    same-length
+    (λ c. search needs)
     returns)

@@ -7,23 +7,11 @@ use borrow.Author.Needs.{needs}
 use Rattle.keys.proofs.file_key.Statement.{statement}
 use Rattle.keys.proofs.file_key.Tie as tie
 
-word-requires : tie.Need-word-requires
-word-requires c κs = search needs
-
 mul-low : tie.Need-mul-low
 mul-low c = omega (arith, and-le-r (c .word .result) 35887507618889599)
 
 add-low : tie.Need-add-low
 add-low c = omega (arith, and-le-r (c .word .result) 35887507618889599)
-
-add-half : tie.Need-add-half
-add-half c = search needs
-
-half-requires : tie.Need-half-requires
-half-requires c κs = search needs
-
-mul-high : tie.Need-mul-high
-mul-high c = search needs
 
 add-high : tie.Need-add-high
 add-high c = omega (arith, and-le-r (c .half .result) 2139062143)
@@ -44,12 +32,12 @@ pub file-key-spec : {M : Type 1} → statement M
 file-key-spec =
     tie.close
     (tie.spec
-    word-requires
+    (λ c κs. search needs)
     mul-low
     add-low
-    add-half
-    half-requires
-    mul-high
+    (λ c. search needs)
+    (λ c κs. search needs)
+    (λ c. search needs)
     add-high
     fold-requires
     returns)

@@ -6,15 +6,9 @@ use Rattle.keys.specs.Key.{keyFrom}
 use Rattle.keys.proofs.fold.Statement.{statement}
 use Rattle.keys.proofs.fold.Tie as tie
 
-mul-mix : tie.Need-mul-mix
-mul-mix c = search needs
-
-mix-requires : tie.Need-mix-requires
-mix-requires c κs = search needs
-
 returns : tie.Need-returns
 unfolding keyFrom
 returns c = (rw (c .mix .ensures) refl, omega arith)
 
 pub fold-spec : {M : Type 1} → statement M
-fold-spec = tie.close (tie.spec mul-mix mix-requires returns)
+fold-spec = tie.close (tie.spec (λ c. search needs) (λ c κs. search needs) returns)

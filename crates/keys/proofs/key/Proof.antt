@@ -8,12 +8,6 @@ use borrow.Author.Needs.{needs}
 use Rattle.keys.proofs.key.Statement.{statement}
 use Rattle.keys.proofs.key.Tie as tie
 
-word-requires : tie.Need-word-requires
-word-requires c κs = search needs
-
-word-requires-2 : tie.Need-word-requires-2
-word-requires-2 c κs = search needs
-
 fold-requires : tie.Need-fold-requires
 fold-requires c κs = omega (arith, and-le-r (c .word2 .result) 135283048319)
 
@@ -27,4 +21,4 @@ returns c =
     (rw (c .fold .ensures .0, w .0, v .0, p, q) refl, c .fold .ensures .1)
 
 pub key-spec : {M : Type 1} → statement M
-key-spec = tie.close (tie.spec word-requires word-requires-2 fold-requires returns)
+key-spec = tie.close (tie.spec (λ c κs. search needs) (λ c κs. search needs) fold-requires returns)

@@ -4,9 +4,6 @@ use borrow.Author.Tests.{eq-eqb, ne-eqb}
 use Rattle.maps.proofs.difference.Statement.{statement}
 use Rattle.maps.proofs.difference.Tie as tie
 
-told-note-requires : tie.Need-told-note-requires
-told-note-requires c κs = search needs
-
 returns : tie.Need-returns
 returns c = rw (← c .before .told-note .ensures, ne-eqb _ _ (c .if1 .taken))
 
@@ -14,4 +11,4 @@ returns-2 : tie.Need-returns-2
 returns-2 c = rw (← c .before .told-note .ensures, eq-eqb _ _ (c .if1 .left))
 
 pub difference-spec : {M : Type 1} → statement M
-difference-spec = tie.close (tie.spec told-note-requires returns returns-2)
+difference-spec = tie.close (tie.spec (λ c κs. search needs) returns returns-2)

@@ -19,18 +19,6 @@ abbrev μ-loop : tie.MeasureT-loop
 loop-holds : tie.Need-loop-holds Inv-loop μ-loop
 loop-holds c = (sym (no-area-differs eightInch _ _), omega arith, omega arith)
 
-mul-difference : tie.Need-mul-difference Inv-loop μ-loop
-mul-difference c = omega arith
-
-shared-slice-read-difference : tie.Need-shared-slice-read-difference Inv-loop μ-loop
-shared-slice-read-difference c = omega arith
-
-shared-slice-read-difference-2 : tie.Need-shared-slice-read-difference-2 Inv-loop μ-loop
-shared-slice-read-difference-2 c = omega arith
-
-difference-requires : tie.Need-difference-requires Inv-loop μ-loop
-difference-requires c κs = search needs
-
 add-n : tie.Need-add-n Inv-loop μ-loop
 add-n c =
     let l = c .before .before .before .before in
@@ -40,12 +28,6 @@ add-n c =
       difference-adds eightInch (a .map .now) (a .marks .now) (l .loop .b) (l .loop .n) _ (l .loop .inv .1) (l .loop .inv .0) (c .difference .ensures),
       count-high (differs eightInch (a .map .now) (a .marks .now)) (l .loop .b + 1),
     )
-
-add-b : tie.Need-add-b Inv-loop μ-loop
-add-b c = omega arith
-
-loop-less : tie.Need-loop-less Inv-loop μ-loop
-loop-less c = omega arith
 
 loop-again : tie.Need-loop-again Inv-loop μ-loop
 loop-again c =
@@ -71,12 +53,12 @@ differences-spec =
     Inv-loop
     μ-loop
     loop-holds
-    mul-difference
-    shared-slice-read-difference
-    shared-slice-read-difference-2
-    difference-requires
+    (λ c. omega arith)
+    (λ c. omega arith)
+    (λ c. omega arith)
+    (λ c κs. search needs)
     add-n
-    add-b
-    loop-less
+    (λ c. omega arith)
+    (λ c. omega arith)
     loop-again
     returns)

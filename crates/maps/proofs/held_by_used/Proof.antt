@@ -23,15 +23,6 @@ slot-low : (n : ℕ) → ltb (pendingSlot n) (slotsOn eightInch) ≡ true
 unfolding pendingSlot slotsOn
 slot-low n = lt-ltb (n % 16) 16 (omega arith)
 
-holder-requires : tie.Need-holder-requires
-holder-requires c κs = search needs
-
-enum-known-e : tie.Need-enum-known-e
-enum-known-e c = search needs
-
-enum-told : tie.Need-enum-told
-enum-told c = search needs
-
 returns : tie.Need-returns
 unfolding heldByUsed heldFor
 returns c =
@@ -49,9 +40,6 @@ low c = holder-low eightInch (c .before .before .before .before .before .args .n
 row-requires : tie.Need-row-requires
 row-requires c κs = let l = low c in search needs
 
-shared-slice-read-result : tie.Need-shared-slice-read-result
-shared-slice-read-result c = search needs
-
 returns-2 : tie.Need-returns-2
 unfolding heldByUsed heldFor used
 returns-2 c =
@@ -61,4 +49,4 @@ returns-2 c =
 
 pub held-by-used-spec : {M : Type 1} → statement M
 held-by-used-spec =
-    tie.close (tie.spec holder-requires enum-known-e enum-told returns row-requires shared-slice-read-result returns-2)
+    tie.close (tie.spec (λ c κs. search needs) (λ c. search needs) (λ c. search needs) returns row-requires (λ c. search needs) returns-2)

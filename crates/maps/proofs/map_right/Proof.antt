@@ -8,33 +8,21 @@ use Rattle.maps.specs.Told.{area-wrong, same-right}
 use Rattle.maps.proofs.map_right.Statement.{statement}
 use Rattle.maps.proofs.map_right.Tie as tie
 
-area-right-requires : tie.Need-area-right-requires
-area-right-requires c κs = search needs
-
 returns : tie.Need-returns
 returns c = λ m. sym (area-wrong eightInch _ _ (omega arith) (sym (c .before .area-right .ensures) ∙ not-true _ (c .if1 .taken)))
-
-differences-requires : tie.Need-differences-requires
-differences-requires c κs = search needs
 
 returns-2 : tie.Need-returns-2
 returns-2 c =
     λ m. sym (same-right eightInch _ _ _ m (sym (c .before .before .before .area-right .ensures) ∙ not-false _ (c .before .before .if1 .left))
     (sym (c .before .differences .ensures) ∙ c .if2 .taken))
 
-notes-right-requires : tie.Need-notes-right-requires
-notes-right-requires c κs = search needs
-
-returns-3 : tie.Need-returns-3
-returns-3 c = search needs
-
 pub map-right-spec : {M : Type 1} → statement M
 map-right-spec =
     tie.close
     (tie.spec
-    area-right-requires
+    (λ c κs. search needs)
     returns
-    differences-requires
+    (λ c κs. search needs)
     returns-2
-    notes-right-requires
-    returns-3)
+    (λ c κs. search needs)
+    (λ c. search needs))

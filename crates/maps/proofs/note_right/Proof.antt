@@ -11,9 +11,6 @@ use Rattle.maps.proofs.note_right.Tie as tie
 returns : tie.Need-returns
 returns c = λ m. sym (right-area eightInch _ _ _ (c .if1 .taken))
 
-shared-slice-read-if2 : tie.Need-shared-slice-read-if2
-shared-slice-read-if2 c = search needs
-
 returns-2 : tie.Need-returns-2
 returns-2 c =
     λ m. sym (right-recorded eightInch _ _ _ (c .before .before .if1 .left)
@@ -25,9 +22,6 @@ returns-3 c =
     (c .before .before .before .before .before .before .pre .2) m _ (c .before .if2 .left)
     ∙ or-left _ _ (eq-eqb _ _ (c .if3 .taken)))
 
-held-by-used-requires : tie.Need-held-by-used-requires
-held-by-used-requires c κs = search needs
-
 returns-4 : tie.Need-returns-4
 returns-4 c =
     λ m. c .held-by-used .ensures
@@ -38,4 +32,4 @@ returns-4 c =
 pub note-right-spec : {M : Type 1} → statement M
 note-right-spec =
     tie.close
-    (tie.spec returns shared-slice-read-if2 returns-2 returns-3 held-by-used-requires returns-4)
+    (tie.spec returns (λ c. search needs) returns-2 returns-3 (λ c κs. search needs) returns-4)

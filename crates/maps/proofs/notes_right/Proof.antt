@@ -24,27 +24,12 @@ abbrev μ-loop : tie.MeasureT-loop
 loop-holds : tie.Need-loop-holds Inv-loop μ-loop
 loop-holds c = (λ m. all-none _, omega arith)
 
-mul-note-right : tie.Need-mul-note-right Inv-loop μ-loop
-mul-note-right c = omega arith
-
-shared-slice-read-note-right : tie.Need-shared-slice-read-note-right Inv-loop μ-loop
-shared-slice-read-note-right c = omega arith
-
-note-right-requires : tie.Need-note-right-requires Inv-loop μ-loop
-note-right-requires c κs = search needs
-
 returns : tie.Need-returns Inv-loop μ-loop
 unfolding mapRight
 returns c =
     let l = c .before .before .before .before in
     λ m. sym (all-fails _ (eightInch .blocks) (l .loop .b) (omega arith) (sym (c .before .note-right .ensures m)
     ∙ not-true _ (c .if1 .taken)))
-
-add-b : tie.Need-add-b Inv-loop μ-loop
-add-b c = omega arith
-
-loop-less : tie.Need-loop-less Inv-loop μ-loop
-loop-less c = omega arith
 
 loop-again : tie.Need-loop-again Inv-loop μ-loop
 loop-again c =
@@ -65,11 +50,11 @@ notes-right-spec =
     Inv-loop
     μ-loop
     loop-holds
-    mul-note-right
-    shared-slice-read-note-right
-    note-right-requires
+    (λ c. omega arith)
+    (λ c. omega arith)
+    (λ c κs. search needs)
     returns
-    add-b
-    loop-less
+    (λ c. omega arith)
+    (λ c. omega arith)
     loop-again
     returns-2)

@@ -9,24 +9,6 @@ use borrow.Author.Needs.{needs}
 use Rattle.marks.proofs.start_marks.Statement.{statement}
 use Rattle.marks.proofs.start_marks.Tie as tie
 
-fill-requires : tie.Need-fill-requires
-fill-requires c κs = search needs
-
-sub-fill : tie.Need-sub-fill
-sub-fill c = search needs
-
-fill-requires-2 : tie.Need-fill-requires-2
-fill-requires-2 c κs = search needs
-
-sub-fill-2 : tie.Need-sub-fill-2
-sub-fill-2 c = search needs
-
-fill-requires-3 : tie.Need-fill-requires-3
-fill-requires-3 c κs = search needs
-
-same-length : tie.Need-same-length
-same-length c = search needs
-
 returns : tie.Need-returns
 unfolding startMarks
 returns c =
@@ -36,4 +18,4 @@ returns c =
 
 pub start-marks-spec : {M : Type 1} → statement M
 start-marks-spec =
-    tie.close (tie.spec fill-requires sub-fill fill-requires-2 sub-fill-2 fill-requires-3 same-length returns)
+    tie.close (tie.spec (λ c κs. search needs) (λ c. search needs) (λ c κs. search needs) (λ c. search needs) (λ c κs. search needs) (λ c. search needs) returns)

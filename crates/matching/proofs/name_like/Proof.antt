@@ -20,30 +20,9 @@ abbrev μ-loop : tie.MeasureT-loop
 loop-holds : tie.Need-loop-holds Inv-loop μ-loop
 loop-holds c = (all-none _, omega arith)
 
-add-byte-like : tie.Need-add-byte-like Inv-loop μ-loop
-add-byte-like c = omega arith
-
-shared-slice-read-byte-like : tie.Need-shared-slice-read-byte-like Inv-loop μ-loop
-shared-slice-read-byte-like c = omega arith
-
-add-byte-like-2 : tie.Need-add-byte-like-2 Inv-loop μ-loop
-add-byte-like-2 c = omega arith
-
-shared-slice-read-byte-like-2 : tie.Need-shared-slice-read-byte-like-2 Inv-loop μ-loop
-shared-slice-read-byte-like-2 c = omega arith
-
-byte-like-requires : tie.Need-byte-like-requires Inv-loop μ-loop
-byte-like-requires c κs = search needs
-
 returns : tie.Need-returns Inv-loop μ-loop
 unfolding nameLike
 returns c = let b = c .before .before .before .before .before in sym (all-fails _ nameBytes (b .loop .i) (omega arith) (sym (c .before .byte-like .ensures) ∙ not-true _ (c .if1 .taken)))
-
-add-i : tie.Need-add-i Inv-loop μ-loop
-add-i c = omega arith
-
-loop-less : tie.Need-loop-less Inv-loop μ-loop
-loop-less c = omega arith
 
 loop-again : tie.Need-loop-again Inv-loop μ-loop
 loop-again c = let b = c .before .before .before .before .before in (all-more _ (b .loop .i) (b .loop .inv .0) (sym (c .before .byte-like .ensures) ∙ not-false _ (c .if1 .left)), omega arith)
@@ -59,13 +38,13 @@ name-like-spec =
     Inv-loop
     μ-loop
     loop-holds
-    add-byte-like
-    shared-slice-read-byte-like
-    add-byte-like-2
-    shared-slice-read-byte-like-2
-    byte-like-requires
+    (λ c. omega arith)
+    (λ c. omega arith)
+    (λ c. omega arith)
+    (λ c. omega arith)
+    (λ c κs. search needs)
     returns
-    add-i
-    loop-less
+    (λ c. omega arith)
+    (λ c. omega arith)
     loop-again
     returns-2)

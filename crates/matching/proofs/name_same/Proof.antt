@@ -18,12 +18,6 @@ Inv-loop s q r p i₀ i = (allBelow (λ (k : ℕ). byteLike false (getD s (q + k
 abbrev μ-loop : tie.MeasureT-loop
 μ-loop s q r p i₀ i = nameBytes - i
 
-word-requires : tie.Need-word-requires Inv-loop μ-loop
-word-requires c κs = search needs
-
-word-requires-2 : tie.Need-word-requires-2 Inv-loop μ-loop
-word-requires-2 c κs = search needs
-
 returns : tie.Need-returns Inv-loop μ-loop
 returns c =
     let a = c .before .before .before .before .before in
@@ -38,30 +32,9 @@ loop-holds c =
       omega arith,
     )
 
-add-byte-like : tie.Need-add-byte-like Inv-loop μ-loop
-add-byte-like c = omega arith
-
-shared-slice-read-byte-like : tie.Need-shared-slice-read-byte-like Inv-loop μ-loop
-shared-slice-read-byte-like c = omega arith
-
-add-byte-like-2 : tie.Need-add-byte-like-2 Inv-loop μ-loop
-add-byte-like-2 c = omega arith
-
-shared-slice-read-byte-like-2 : tie.Need-shared-slice-read-byte-like-2 Inv-loop μ-loop
-shared-slice-read-byte-like-2 c = omega arith
-
-byte-like-requires : tie.Need-byte-like-requires Inv-loop μ-loop
-byte-like-requires c κs = search needs
-
 returns-2 : tie.Need-returns-2 Inv-loop μ-loop
 unfolding nameLike
 returns-2 c = let b = c .before .before .before .before .before in sym (all-fails _ nameBytes (b .loop .i) (omega arith) (sym (c .before .byte-like .ensures) ∙ not-true _ (c .if2 .taken)))
-
-add-i : tie.Need-add-i Inv-loop μ-loop
-add-i c = omega arith
-
-loop-less : tie.Need-loop-less Inv-loop μ-loop
-loop-less c = omega arith
 
 loop-again : tie.Need-loop-again Inv-loop μ-loop
 loop-again c = let b = c .before .before .before .before .before in (all-more _ (b .loop .i) (b .loop .inv .0) (sym (c .before .byte-like .ensures) ∙ not-false _ (c .if2 .left)), omega arith)
@@ -76,17 +49,17 @@ name-same-spec =
     (tie.spec
     Inv-loop
     μ-loop
-    word-requires
-    word-requires-2
+    (λ c κs. search needs)
+    (λ c κs. search needs)
     returns
     loop-holds
-    add-byte-like
-    shared-slice-read-byte-like
-    add-byte-like-2
-    shared-slice-read-byte-like-2
-    byte-like-requires
+    (λ c. omega arith)
+    (λ c. omega arith)
+    (λ c. omega arith)
+    (λ c. omega arith)
+    (λ c κs. search needs)
     returns-2
-    add-i
-    loop-less
+    (λ c. omega arith)
+    (λ c. omega arith)
     loop-again
     returns-3)

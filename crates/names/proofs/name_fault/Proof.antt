@@ -4,9 +4,6 @@ use borrow.Author.Needs.{needs}
 use Rattle.names.proofs.name_fault.Statement.{statement}
 use Rattle.names.proofs.name_fault.Tie as tie
 
-name-byte-requires : tie.Need-name-byte-requires
-name-byte-requires c κs = search needs
-
 returns : tie.Need-returns
 returns c = (rw (← c .before .name-byte .ensures, c .if1 .taken), omega arith)
 
@@ -14,4 +11,4 @@ returns-2 : tie.Need-returns-2
 returns-2 c = (rw (← c .before .name-byte .ensures, c .if1 .left), omega arith)
 
 pub name-fault-spec : {M : Type 1} → statement M
-name-fault-spec = tie.close (tie.spec name-byte-requires returns returns-2)
+name-fault-spec = tie.close (tie.spec (λ c κs. search needs) returns returns-2)

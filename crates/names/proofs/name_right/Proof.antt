@@ -20,33 +20,12 @@ abbrev μ-loop : tie.MeasureT-loop
 loop-holds : tie.Need-loop-holds Inv-loop μ-loop
 loop-holds c = (sym (count-none _), omega arith, omega arith)
 
-add-name-fault : tie.Need-add-name-fault Inv-loop μ-loop
-add-name-fault c = omega arith
-
-shared-slice-read-name-fault : tie.Need-shared-slice-read-name-fault Inv-loop μ-loop
-shared-slice-read-name-fault c = omega arith
-
-name-fault-requires : tie.Need-name-fault-requires Inv-loop μ-loop
-name-fault-requires c κs = search needs
-
-add-faults : tie.Need-add-faults Inv-loop μ-loop
-add-faults c = omega arith
-
-add-i : tie.Need-add-i Inv-loop μ-loop
-add-i c = omega arith
-
-loop-less : tie.Need-loop-less Inv-loop μ-loop
-loop-less c = omega arith
-
 loop-again : tie.Need-loop-again Inv-loop μ-loop
 loop-again c = let b = c .before .before .before in (rw (b .loop .inv .0, c .name-fault .ensures .0) (sym (count-next _ (b .loop .i))), omega arith, omega arith)
 
 returns : tie.Need-returns Inv-loop μ-loop
 unfolding nameRight
 returns c = let b = c .before .before in let q : b .loop .i ≡ nameBytes = omega arith in sym (and-fails-left _ _ (count-fails _ nameBytes (λ z. c .if1 .taken (rw q at (b .loop .inv .0) ∙ z))))
-
-shared-slice-read-result : tie.Need-shared-slice-read-result Inv-loop μ-loop
-shared-slice-read-result c = omega arith
 
 returns-2 : tie.Need-returns-2 Inv-loop μ-loop
 unfolding nameRight
@@ -59,13 +38,13 @@ name-right-spec =
     Inv-loop
     μ-loop
     loop-holds
-    add-name-fault
-    shared-slice-read-name-fault
-    name-fault-requires
-    add-faults
-    add-i
-    loop-less
+    (λ c. omega arith)
+    (λ c. omega arith)
+    (λ c κs. search needs)
+    (λ c. omega arith)
+    (λ c. omega arith)
+    (λ c. omega arith)
     loop-again
     returns
-    shared-slice-read-result
+    (λ c. omega arith)
     returns-2)

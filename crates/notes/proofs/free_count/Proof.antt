@@ -18,27 +18,12 @@ abbrev μ-loop : tie.MeasureT-loop
 loop-holds : tie.Need-loop-holds Inv-loop μ-loop
 loop-holds c = (sym (count-none _), omega arith)
 
-mul-free-one : tie.Need-mul-free-one Inv-loop μ-loop
-mul-free-one c = omega arith
-
-shared-slice-read-free-one : tie.Need-shared-slice-read-free-one Inv-loop μ-loop
-shared-slice-read-free-one c = omega arith
-
-free-one-requires : tie.Need-free-one-requires Inv-loop μ-loop
-free-one-requires c κs = search needs
-
 add-n : tie.Need-add-n Inv-loop μ-loop
 unfolding isFree
 add-n c =
     let l = c .before .before .before in
     let p = isFree (l .before .before .args .map .now) in
     omega (arith, count-next p (l .loop .b), count-high p (l .loop .b + 1), c .free-one .ensures)
-
-add-b : tie.Need-add-b Inv-loop μ-loop
-add-b c = omega arith
-
-loop-less : tie.Need-loop-less Inv-loop μ-loop
-loop-less c = omega arith
 
 loop-again : tie.Need-loop-again Inv-loop μ-loop
 unfolding isFree
@@ -66,12 +51,12 @@ free-count-spec =
     Inv-loop
     μ-loop
     loop-holds
-    mul-free-one
-    shared-slice-read-free-one
-    free-one-requires
+    (λ c. omega arith)
+    (λ c. omega arith)
+    (λ c κs. search needs)
     add-n
-    add-b
-    loop-less
+    (λ c. omega arith)
+    (λ c. omega arith)
     loop-again
     cast-result
     returns)

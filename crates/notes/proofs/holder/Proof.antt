@@ -12,9 +12,6 @@ returns : tie.Need-returns
 unfolding isPending
 returns c = sym (holder-settled eightInch (c .before .args .n) (lt-leb _ _ (c .if1 .taken)))
 
-sub-e : tie.Need-sub-e
-sub-e c = search needs
-
 returns-2 : tie.Need-returns-2
 unfolding isPending pendingEntry
 returns-2 c = sym (holder-past eightInch (c .before .before .args .n) (le-leb _ _ (c .before .if1 .left)) (c .if2 .taken))
@@ -24,4 +21,4 @@ unfolding isPending pendingEntry
 returns-3 c = sym (holder-is eightInch (c .before .before .args .n) (le-leb _ _ (c .before .if1 .left)) (c .if2 .left))
 
 pub holder-spec : {M : Type 1} → statement M
-holder-spec = tie.close (tie.spec returns sub-e returns-2 returns-3)
+holder-spec = tie.close (tie.spec returns (λ c. search needs) returns-2 returns-3)

@@ -5,21 +5,9 @@ use Rattle.format.specs.Notes.{pendingFor}
 use Rattle.notes.proofs.pending_note.Statement.{statement}
 use Rattle.notes.proofs.pending_note.Tie as tie
 
-mul-result : tie.Need-mul-result
-mul-result c = search needs
-
-add-result : tie.Need-add-result
-add-result c = search needs
-
-add-result-2 : tie.Need-add-result-2
-add-result-2 c = search needs
-
-cast-result : tie.Need-cast-result
-cast-result c = search needs
-
 returns : tie.Need-returns
 unfolding pendingFor
 returns c = refl
 
 pub pending-note-spec : {M : Type 1} → statement M
-pending-note-spec = tie.close (tie.spec mul-result add-result add-result-2 cast-result returns)
+pending-note-spec = tie.close (tie.spec (λ c. search needs) (λ c. search needs) (λ c. search needs) (λ c. search needs) returns)

@@ -6,15 +6,6 @@ use borrow.Author.Needs.{needs}
 use Rattle.plain.proofs.free_blocks.Statement.{statement}
 use Rattle.plain.proofs.free_blocks.Tie as tie
 
-free-pending-requires : tie.Need-free-pending-requires
-free-pending-requires c κs = search needs
-
-done-requires : tie.Need-done-requires
-done-requires c κs = search needs
-
-same-length : tie.Need-same-length
-same-length c = search needs
-
 returns : tie.Need-returns
 returns c =
     let a = c .before .before .before .before .before .before .args in
@@ -22,4 +13,4 @@ returns c =
     (c .done .result) (c .before .before .before .free-pending .last .0) (c .done .ensures) (c .before .before .before .free-pending .ensures)
 
 pub free-blocks-spec : {M : Type 1} → statement M
-free-blocks-spec = tie.close (tie.spec free-pending-requires done-requires same-length returns)
+free-blocks-spec = tie.close (tie.spec (λ c κs. search needs) (λ c κs. search needs) (λ c. search needs) returns)

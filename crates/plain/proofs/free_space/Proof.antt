@@ -10,21 +10,6 @@ use borrow.Author.Needs.{needs}
 use Rattle.plain.proofs.free_space.Statement.{statement}
 use Rattle.plain.proofs.free_space.Tie as tie
 
-free-count-requires : tie.Need-free-count-requires
-free-count-requires c κs = search needs
-
-mul-n : tie.Need-mul-n
-mul-n c = search needs
-
-put-three-requires : tie.Need-put-three-requires
-put-three-requires c κs = search needs
-
-done-requires : tie.Need-done-requires
-done-requires c κs = search needs
-
-same-length : tie.Need-same-length
-same-length c = search needs
-
 returns : tie.Need-returns
 returns c =
     let a = c .before .before .before .before .before .before .before .before .args in
@@ -36,4 +21,4 @@ returns c =
 pub free-space-spec : {M : Type 1} → statement M
 free-space-spec =
     tie.close
-    (tie.spec free-count-requires mul-n put-three-requires done-requires same-length returns)
+    (tie.spec (λ c κs. search needs) (λ c. search needs) (λ c κs. search needs) (λ c κs. search needs) (λ c. search needs) returns)

@@ -7,15 +7,6 @@ use borrow.Author.Needs.{needs}
 use Rattle.plain.proofs.log_in.Statement.{statement}
 use Rattle.plain.proofs.log_in.Tie as tie
 
-make-fresh-requires : tie.Need-make-fresh-requires
-make-fresh-requires c κs = search needs
-
-done-requires : tie.Need-done-requires
-done-requires c κs = search needs
-
-same-length : tie.Need-same-length
-same-length c = search needs
-
 returns : tie.Need-returns
 returns c =
     let a = c .before .before .before .before .before .before .before .args in
@@ -24,4 +15,4 @@ returns c =
     (c .before .before .before .make-fresh .ensures (entryAt eightInch image) marked)
 
 pub log-in-spec : {M : Type 1} → statement M
-log-in-spec = tie.close (tie.spec make-fresh-requires done-requires same-length returns)
+log-in-spec = tie.close (tie.spec (λ c κs. search needs) (λ c κs. search needs) (λ c. search needs) returns)

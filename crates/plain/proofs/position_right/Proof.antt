@@ -7,19 +7,13 @@ use Rattle.model.specs.Table.{positionRight}
 use Rattle.plain.proofs.position_right.Statement.{statement}
 use Rattle.plain.proofs.position_right.Tie as tie
 
-extent-right-requires : tie.Need-extent-right-requires
-extent-right-requires c κs = search needs
-
 returns : tie.Need-returns
 unfolding positionRight
 returns c = sym (and-fails-left _ _ (sym (c .before .extent-right .ensures) ∙ not-true _ (c .if1 .taken)))
-
-shared-slice-read-result : tie.Need-shared-slice-read-result
-shared-slice-read-result c = search needs
 
 returns-2 : tie.Need-returns-2
 unfolding positionRight
 returns-2 c = sym (and-then _ _ (sym (c .before .before .extent-right .ensures) ∙ not-false _ (c .before .if1 .left)))
 
 pub position-right-spec : {M : Type 1} → statement M
-position-right-spec = tie.close (tie.spec extent-right-requires returns shared-slice-read-result returns-2)
+position-right-spec = tie.close (tie.spec (λ c κs. search needs) returns (λ c. search needs) returns-2)

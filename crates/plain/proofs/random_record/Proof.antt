@@ -15,15 +15,6 @@ use borrow.Author.Needs.{needs}
 use Rattle.plain.proofs.random_record.Statement.{statement}
 use Rattle.plain.proofs.random_record.Tie as tie
 
-position-right-requires : tie.Need-position-right-requires
-position-right-requires c κs = search needs
-
-refuse-requires : tie.Need-refuse-requires
-refuse-requires c κs = search needs
-
-same-length : tie.Need-same-length
-same-length c = search needs
-
 returns : tie.Need-returns
 returns c =
     let a = c .before .before .before .before .before .args in
@@ -31,30 +22,6 @@ returns c =
     (position-refused eightInch asked (lend image map (a .fcb .now) buffer) (a .session)
     (sym (c .before .before .position-right .ensures) ∙ not-true _ (c .before .if1 .taken)))
     (c .refuse .ensures)
-
-extent-requires : tie.Need-extent-requires
-extent-requires c κs = search needs
-
-mul-n : tie.Need-mul-n
-mul-n c = search needs
-
-slice-read-wide : tie.Need-slice-read-wide
-slice-read-wide c = search needs
-
-wide-requires : tie.Need-wide-requires
-wide-requires c κs = search needs
-
-add-n : tie.Need-add-n
-add-n c = search needs
-
-put-three-requires : tie.Need-put-three-requires
-put-three-requires c κs = search needs
-
-done-requires : tie.Need-done-requires
-done-requires c κs = search needs
-
-same-length-2 : tie.Need-same-length-2
-same-length-2 c = search needs
 
 returns-2 : tie.Need-returns-2
 returns-2 c =
@@ -69,16 +36,16 @@ pub random-record-spec : {M : Type 1} → statement M
 random-record-spec =
     tie.close
     (tie.spec
-    position-right-requires
-    refuse-requires
-    same-length
+    (λ c κs. search needs)
+    (λ c κs. search needs)
+    (λ c. search needs)
     returns
-    extent-requires
-    mul-n
-    slice-read-wide
-    wide-requires
-    add-n
-    put-three-requires
-    done-requires
-    same-length-2
+    (λ c κs. search needs)
+    (λ c. search needs)
+    (λ c. search needs)
+    (λ c κs. search needs)
+    (λ c. search needs)
+    (λ c κs. search needs)
+    (λ c κs. search needs)
+    (λ c. search needs)
     returns-2)

@@ -10,17 +10,11 @@ use borrow.Author.Needs.{needs}
 use Rattle.plain.proofs.user_number.Statement.{statement}
 use Rattle.plain.proofs.user_number.Tie as tie
 
-done-requires : tie.Need-done-requires
-done-requires c κs = search needs
-
 returns : tie.Need-returns
 returns c =
     let a = c .before .before .args in
     λ image map fcb buffer. user-told eightInch (a .asked) (lend image map fcb buffer) (a .session) (c .done .result)
     (c .before .if1 .taken) (c .done .ensures)
-
-refuse-requires : tie.Need-refuse-requires
-refuse-requires c κs = search needs
 
 returns-2 : tie.Need-returns-2
 returns-2 c =
@@ -28,12 +22,6 @@ returns-2 c =
     λ image map fcb buffer. refuses-own eightInch (calling 32 (a .asked)) (lend image map fcb buffer) (a .session) Failed (c .refuse .result)
     (user-refused eightInch (a .asked) (lend image map fcb buffer) (a .session) (c .before .before .if1 .left) (omega arith))
     (c .refuse .ensures)
-
-set-user-requires : tie.Need-set-user-requires
-set-user-requires c κs = search needs
-
-done-requires-2 : tie.Need-done-requires-2
-done-requires-2 c κs = search needs
 
 returns-3 : tie.Need-returns-3
 returns-3 c =
@@ -45,10 +33,10 @@ pub user-number-spec : {M : Type 1} → statement M
 user-number-spec =
     tie.close
     (tie.spec
-    done-requires
+    (λ c κs. search needs)
     returns
-    refuse-requires
+    (λ c κs. search needs)
     returns-2
-    set-user-requires
-    done-requires-2
+    (λ c κs. search needs)
+    (λ c κs. search needs)
     returns-3)

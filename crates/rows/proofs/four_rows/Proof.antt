@@ -11,21 +11,6 @@ use borrow.Author.Needs.{needs}
 use Rattle.rows.proofs.four_rows.Statement.{statement}
 use Rattle.rows.proofs.four_rows.Tie as tie
 
-offset-requires : tie.Need-offset-requires
-offset-requires c κs = search needs
-
-add-end : tie.Need-add-end
-add-end c = search needs
-
-sub-result : tie.Need-sub-result
-sub-result c = search needs
-
-part-result-start : tie.Need-part-result-start
-part-result-start c = search needs
-
-part-result-end : tie.Need-part-result-end
-part-result-end c = search needs
-
 returns : tie.Need-returns
 unfolding recordAt
 returns c =
@@ -38,4 +23,4 @@ returns c =
 pub four-rows-spec : {M : Type 1} → statement M
 four-rows-spec =
     tie.close
-    (tie.spec offset-requires add-end sub-result part-result-start part-result-end returns)
+    (tie.spec (λ c κs. search needs) (λ c. search needs) (λ c. search needs) (λ c. search needs) (λ c. search needs) returns)

@@ -10,15 +10,9 @@ use Rattle.searching.proofs.extent_hit.Tie as tie
 returns : tie.Need-returns
 returns c = sym (extent-by-bytes _ _ ∙ or-left _ _ (eq-eqb _ _ (c .if1 .taken)))
 
-shared-slice-read-if2 : tie.Need-shared-slice-read-if2
-shared-slice-read-if2 c = search needs
-
 returns-2 : tie.Need-returns-2
 returns-2 c =
     sym (extent-by-bytes _ _ ∙ or-then _ _ (ne-eqb _ _ (c .before .before .if1 .left)) ∙ and-fails-left _ _ (ne-eqb _ _ (c .if2 .taken)))
-
-shared-slice-read-result : tie.Need-shared-slice-read-result
-shared-slice-read-result c = search needs
 
 returns-3 : tie.Need-returns-3
 returns-3 c =
@@ -26,4 +20,4 @@ returns-3 c =
 
 pub extent-hit-spec : {M : Type 1} → statement M
 extent-hit-spec =
-    tie.close (tie.spec returns shared-slice-read-if2 returns-2 shared-slice-read-result returns-3)
+    tie.close (tie.spec returns (λ c. search needs) returns-2 (λ c. search needs) returns-3)

@@ -12,21 +12,6 @@ use borrow.Author.Needs.{needs}
 use Rattle.searching.proofs.first_match.Statement.{statement}
 use Rattle.searching.proofs.first_match.Tie as tie
 
-slice-aggregate-find-hit : tie.Need-slice-aggregate-find-hit
-slice-aggregate-find-hit c = search needs
-
-find-hit-requires : tie.Need-find-hit-requires
-find-hit-requires c κs = search needs
-
-enum-known-e : tie.Need-enum-known-e
-enum-known-e c = search needs
-
-enum-told : tie.Need-enum-told
-enum-told c = search needs
-
-refuse-requires : tie.Need-refuse-requires
-refuse-requires c κs = search needs
-
 returns : tie.Need-returns
 returns c =
     let a = c .before .before .before .before .before .before .before .args in
@@ -54,18 +39,6 @@ add-search-from c = let h = low (c .before .before .before .before) in omega ari
 cast-search-from : tie.Need-cast-search-from
 cast-search-from c = let h = low (c .before .before .before .before) in omega arith
 
-search-from-requires : tie.Need-search-from-requires
-search-from-requires c κs = search needs
-
-cast-accept : tie.Need-cast-accept
-cast-accept c = search needs
-
-accept-requires : tie.Need-accept-requires
-accept-requires c κs = search needs
-
-same-length : tie.Need-same-length
-same-length c = search needs
-
 returns-2 : tie.Need-returns-2
 returns-2 c =
     let k = c .before .before .before .before .before .before in
@@ -78,17 +51,17 @@ pub first-match-spec : {M : Type 1} → statement M
 first-match-spec =
     tie.close
     (tie.spec
-    slice-aggregate-find-hit
-    find-hit-requires
-    enum-known-e
-    enum-told
-    refuse-requires
+    (λ c. search needs)
+    (λ c κs. search needs)
+    (λ c. search needs)
+    (λ c. search needs)
+    (λ c κs. search needs)
     returns
     read-record-requires
     add-search-from
     cast-search-from
-    search-from-requires
-    cast-accept
-    accept-requires
-    same-length
+    (λ c κs. search needs)
+    (λ c. search needs)
+    (λ c κs. search needs)
+    (λ c. search needs)
     returns-2)

@@ -11,27 +11,15 @@ use Rattle.searching.specs.Searches.{hit-by-name}
 use Rattle.searching.proofs.hit.Statement.{statement}
 use Rattle.searching.proofs.hit.Tie as tie
 
-shared-slice-read-if1 : tie.Need-shared-slice-read-if1
-shared-slice-read-if1 c = search needs
-
 returns : tie.Need-returns
 unfolding hit named
 returns c = sym (and-fails-left _ _ (and-fails-left _ _ (ne-eqb _ _ (c .if1 .taken))))
-
-shared-slice-read-extent-hit : tie.Need-shared-slice-read-extent-hit
-shared-slice-read-extent-hit c = search needs
-
-extent-hit-requires : tie.Need-extent-hit-requires
-extent-hit-requires c κs = search needs
 
 returns-2 : tie.Need-returns-2
 unfolding hit
 returns-2 c =
     let t : c .before .extent-hit .result ≡ false = not-true _ (c .if2 .taken) in
     sym (and-fails-right _ _ (sym (c .before .extent-hit .ensures) ∙ t))
-
-name-like-requires : tie.Need-name-like-requires
-name-like-requires c κs = search needs
 
 returns-3 : tie.Need-returns-3
 returns-3 c =
@@ -44,10 +32,10 @@ pub hit-spec : {M : Type 1} → statement M
 hit-spec =
     tie.close
     (tie.spec
-    shared-slice-read-if1
+    (λ c. search needs)
     returns
-    shared-slice-read-extent-hit
-    extent-hit-requires
+    (λ c. search needs)
+    (λ c κs. search needs)
     returns-2
-    name-like-requires
+    (λ c κs. search needs)
     returns-3)

@@ -7,24 +7,15 @@ use Rattle.searching.specs.Searches.{patternRight}
 use Rattle.searching.proofs.pattern_right.Statement.{statement}
 use Rattle.searching.proofs.pattern_right.Tie as tie
 
-name-right-requires : tie.Need-name-right-requires
-name-right-requires c κs = search needs
-
 returns : tie.Need-returns
 unfolding patternRight
 returns c = sym (and-fails-left _ _ (sym (c .before .name-right .ensures) ∙ not-true _ (c .if1 .taken)))
-
-shared-slice-read-if2 : tie.Need-shared-slice-read-if2
-shared-slice-read-if2 c = search needs
 
 returns-2 : tie.Need-returns-2
 unfolding patternRight
 returns-2 c =
     let b = c .before .before in
     sym (and-then _ _ (sym (b .before .name-right .ensures) ∙ not-false _ (b .if1 .left)) ∙ or-left _ _ (le-leb _ _ (c .if2 .taken)))
-
-shared-slice-read-result : tie.Need-shared-slice-read-result
-shared-slice-read-result c = search needs
 
 returns-3 : tie.Need-returns-3
 unfolding patternRight
@@ -36,9 +27,9 @@ pub pattern-right-spec : {M : Type 1} → statement M
 pattern-right-spec =
     tie.close
     (tie.spec
-    name-right-requires
+    (λ c κs. search needs)
     returns
-    shared-slice-read-if2
+    (λ c. search needs)
     returns-2
-    shared-slice-read-result
+    (λ c. search needs)
     returns-3)

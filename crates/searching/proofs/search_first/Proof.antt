@@ -12,12 +12,6 @@ use borrow.Author.Needs.{needs}
 use Rattle.searching.proofs.search_first.Statement.{statement}
 use Rattle.searching.proofs.search_first.Tie as tie
 
-pattern-right-requires : tie.Need-pattern-right-requires
-pattern-right-requires c κs = search needs
-
-refuse-requires : tie.Need-refuse-requires
-refuse-requires c κs = search needs
-
 returns : tie.Need-returns
 returns c =
     let a = c .before .before .before .before .before .before .args in
@@ -25,18 +19,6 @@ returns c =
     λ asked map. refuses-own eightInch (calling 17 asked) (l map) (a .session) BadName (c .refuse .result)
     (first-refused eightInch (a .session) (l map) asked (sym (c .before .before .pattern-right .ensures) ∙ not-true _ (c .before .if1 .taken)))
     (c .refuse .ensures)
-
-slice-aggregate-get : tie.Need-slice-aggregate-get
-slice-aggregate-get c = search needs
-
-get-requires : tie.Need-get-requires
-get-requires c κs = search needs
-
-first-match-requires : tie.Need-first-match-requires
-first-match-requires c κs = search needs
-
-same-length : tie.Need-same-length
-same-length c = search needs
 
 returns-2 : tie.Need-returns-2
 unfolding patternOf
@@ -51,11 +33,11 @@ pub search-first-spec : {M : Type 1} → statement M
 search-first-spec =
     tie.close
     (tie.spec
-    pattern-right-requires
-    refuse-requires
+    (λ c κs. search needs)
+    (λ c κs. search needs)
     returns
-    slice-aggregate-get
-    get-requires
-    first-match-requires
-    same-length
+    (λ c. search needs)
+    (λ c κs. search needs)
+    (λ c κs. search needs)
+    (λ c. search needs)
     returns-2)

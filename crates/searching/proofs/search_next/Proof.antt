@@ -10,24 +10,12 @@ use borrow.Author.Needs.{needs}
 use Rattle.searching.proofs.search_next.Statement.{statement}
 use Rattle.searching.proofs.search_next.Tie as tie
 
-refuse-requires : tie.Need-refuse-requires
-refuse-requires c κs = search needs
-
 returns : tie.Need-returns
 returns c =
     let a = c .before .before .before .before .before .args in
     let l : Bytes → Bytes → Lent = λ map fcb. lend (a .image .now) map fcb (a .buffer .now) in
     λ asked map fcb. refuses-own eightInch (calling 18 asked) (l map fcb) (a .session) Failed (c .refuse .result)
     (next-refused eightInch (a .session) (l map fcb) asked (c .before .if1 .taken)) (c .refuse .ensures)
-
-cast-place : tie.Need-cast-place
-cast-place c = search needs
-
-first-match-requires : tie.Need-first-match-requires
-first-match-requires c κs = search needs
-
-same-length : tie.Need-same-length
-same-length c = search needs
 
 returns-2 : tie.Need-returns-2
 returns-2 c =
@@ -39,4 +27,4 @@ returns-2 c =
 pub search-next-spec : {M : Type 1} → statement M
 search-next-spec =
     tie.close
-    (tie.spec refuse-requires returns cast-place first-match-requires same-length returns-2)
+    (tie.spec (λ c κs. search needs) returns (λ c. search needs) (λ c κs. search needs) (λ c. search needs) returns-2)

@@ -9,34 +9,13 @@ use Rattle.slots.specs.Slots.{slot-by-note}
 use Rattle.slots.proofs.slot_fits.Statement.{statement}
 use Rattle.slots.proofs.slot_fits.Tie as tie
 
-array-read-if1 : tie.Need-array-read-if1
-array-read-if1 c = search needs
-
-array-read-if1-2 : tie.Need-array-read-if1-2
-array-read-if1-2 c = search needs
-
 returns : tie.Need-returns
 unfolding slotFits slotIn
 returns c = sym (or-left _ _ (eq-eqb _ _ (c .if1 .taken)))
 
-array-read-if2 : tie.Need-array-read-if2
-array-read-if2 c = search needs
-
 returns-2 : tie.Need-returns-2
 unfolding slotFits slotIn
 returns-2 c = sym (or-then _ _ (ne-eqb _ _ (c .before .if1 .left)) ∙ and-fails-left _ _ (ne-eqb _ _ (c .if2 .taken)))
-
-array-read-wide : tie.Need-array-read-wide
-array-read-wide c = search needs
-
-wide-requires : tie.Need-wide-requires
-wide-requires c κs = search needs
-
-note-at-requires : tie.Need-note-at-requires
-note-at-requires c κs = search needs
-
-pending-note-requires : tie.Need-pending-note-requires
-pending-note-requires c κs = search needs
 
 returns-3 : tie.Need-returns-3
 returns-3 c = let a = c .before .before .before .before .before .before .args in
@@ -49,13 +28,13 @@ pub slot-fits-spec : {M : Type 1} → statement M
 slot-fits-spec =
     tie.close
     (tie.spec
-    array-read-if1
-    array-read-if1-2
+    (λ c. search needs)
+    (λ c. search needs)
     returns
-    array-read-if2
+    (λ c. search needs)
     returns-2
-    array-read-wide
-    wide-requires
-    note-at-requires
-    pending-note-requires
+    (λ c. search needs)
+    (λ c κs. search needs)
+    (λ c κs. search needs)
+    (λ c κs. search needs)
     returns-3)

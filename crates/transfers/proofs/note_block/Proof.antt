@@ -6,26 +6,11 @@ use borrow.Author.Needs.{needs}
 use Rattle.transfers.proofs.note_block.Statement.{statement}
 use Rattle.transfers.proofs.note_block.Tie as tie
 
-add-if1 : tie.Need-add-if1
-add-if1 c = search needs
-
-shared-slice-read-if1 : tie.Need-shared-slice-read-if1
-shared-slice-read-if1 c = search needs
-
 returns : tie.Need-returns
 unfolding writtenMap
 returns c =
     let s = c .before .before .before .before in
     rw (slot-byte (s .args .fcb .now) (s .args .j) (s .pre .3), ne-eqb _ _ (c .if1 .taken))
-
-pending-note-requires : tie.Need-pending-note-requires
-pending-note-requires c κs = search needs
-
-set-note-requires : tie.Need-set-note-requires
-set-note-requires c κs = search needs
-
-same-length : tie.Need-same-length
-same-length c = search needs
 
 returns-2 : tie.Need-returns-2
 unfolding writtenMap
@@ -37,10 +22,10 @@ pub note-block-spec : {M : Type 1} → statement M
 note-block-spec =
     tie.close
     (tie.spec
-    add-if1
-    shared-slice-read-if1
+    (λ c. search needs)
+    (λ c. search needs)
     returns
-    pending-note-requires
-    set-note-requires
-    same-length
+    (λ c κs. search needs)
+    (λ c κs. search needs)
+    (λ c. search needs)
     returns-2)

@@ -6,15 +6,9 @@ use borrow.Author.Needs.{needs}
 use Rattle.transfers.proofs.place_in.Statement.{statement}
 use Rattle.transfers.proofs.place_in.Tie as tie
 
-mul-result : tie.Need-mul-result
-mul-result c = search needs
-
-add-result : tie.Need-add-result
-add-result c = search needs
-
 returns : tie.Need-returns
 unfolding placeIn
 returns c = (refl, omega arith)
 
 pub place-in-spec : {M : Type 1} → statement M
-place-in-spec = tie.close (tie.spec mul-result add-result returns)
+place-in-spec = tie.close (tie.spec (λ c. search needs) (λ c. search needs) returns)
