@@ -3,7 +3,7 @@
 ghost use mathlib.Core.Path.{_≡_};
 ghost use mathlib.Core.Bool.{true};
 ghost use lib.ListN.{length};
-ghost use Rattle.format.specs.Diskette.{Bytes, eightInch, imageBytes};
+ghost use Rattle.format.specs.Diskette.{Bytes, eightInch, Long};
 ghost use Rattle.format.specs.Entries.{entryAt};
 ghost use Rattle.format.specs.Consistent.{consistent};
 ghost use Rattle.facts.specs.Marks.{markCount, Marked};
@@ -19,7 +19,7 @@ use model::Session;
 // Whether the image is consistent and, except for 13, the map right. Where they are, the marks tell which blocks are listed, and the
 // chain has the entries by their keys.
 fn disk_right(asked: Asked, image: &[u8], map: &[u16], marks: &mut [u8], chain: &mut [u8]) -> bool
-    requires { ⌜ (length (now image) ≡ imageBytes eightInch) × (length (now map) ≡ eightInch .blocks) × (length (now marks) ≡ markCount)
+    requires { ⌜ Long eightInch (now image) × (length (now map) ≡ eightInch .blocks) × (length (now marks) ≡ markCount)
         × (length (now chain) ≡ chainBytes eightInch) ⌝ }
     ensures { λ r. ⌜ ((fcb buffer : Bytes) → r ≡ diskRight eightInch (lend (now (image .entry)) (now (map .entry)) fcb buffer) asked)
         × (r ≡ true → Marked eightInch (entryAt eightInch (now (image .entry))) (now (marks .exit))

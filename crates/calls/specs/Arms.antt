@@ -5,7 +5,7 @@ use mathlib.Core.List.{List, [], _∷_}
 use Prim.Native.Nat.{ℕ}
 use lib.Dec.{eqb}
 use borrow.Author.Tests.{ne-eqb, eqb-true}
-use Rattle.lists.specs.Cases.{split, bool-cases, clash}
+use Rattle.lists.specs.Cases.{split, bool-cases, cond-both}
 use Rattle.model.specs.declared.Kind.the-variants.{Unlisted}
 use Rattle.model.specs.Kinds.{Listed, noFcb, calls, lineIn, oneOf}
 
@@ -31,15 +31,11 @@ abbrev pub passes : (Listed → Bool) → List ℕ → List Listed → Bool
 passes t ns [] = true
 passes t ns (c ∷ cs) = cond (cond (oneOf (c .number) ns) true (t c)) (passes t ns cs) false
 
-both : (a b : Bool) → cond a b false ≡ true → (a ≡ true) × (b ≡ true)
-both true b h = (refl, h)
-both false b h = clash (sym h)
-
 rest-in : (t : Listed → Bool) (n : ℕ) (ns : List ℕ) (cs : List Listed) → passes t ns cs ≡ true → oneOf n ns ≡ false → t (noFcb n Unlisted) ≡ true
     → t (lineIn n cs) ≡ true
 rest-in t n ns [] p o d = d
 rest-in t n ns (c ∷ cs) p o d =
-    let here = both (cond (oneOf (c .number) ns) true (t c)) (passes t ns cs) p in
+    let here = cond-both (cond (oneOf (c .number) ns) true (t c)) (passes t ns cs) p in
     split (bool-cases (eqb n (c .number)))
     (λ e. let out : oneOf (c .number) ns ≡ false = sym (ap (λ (m : ℕ). oneOf m ns) (eqb-true n (c .number) e)) ∙ o in
     rw e (rw out at (here .0)))

@@ -4,7 +4,7 @@ ghost use mathlib.Core.Path.{_≡_};
 ghost use mathlib.Core.Bool.{true};
 ghost use Prim.Native.Nat.{_+_, _≤_, _<_};
 ghost use lib.ListN.{length};
-ghost use Rattle.format.specs.Diskette.{eightInch, imageBytes, entryBytes};
+ghost use Rattle.format.specs.Diskette.{eightInch, Long, entryBytes};
 ghost use Rattle.format.specs.Names.{nameBytes};
 ghost use Rattle.format.specs.Entries.{Rows, entryAt, used, findFile};
 ghost use Rattle.format.specs.Consistent.{sameFile, alone};
@@ -33,7 +33,7 @@ fn same_file(r: &[u8], t: &[u8]) -> bool
 
 // Whether no entry before e, whose row is r, is of the same file: only those of its key are looked at.
 fn is_alone(image: &[u8], e: usize, r: &[u8], chain: &[u8]) -> bool
-    requires { ⌜ (length (now image) ≡ imageBytes eightInch) × (e < eightInch .entries)
+    requires { ⌜ Long eightInch (now image) × (e < eightInch .entries)
         × (entryBytes ≤ length (now r)) × (now r ≡ entryAt eightInch (now image) e) × (used (now r) ≡ true)
         × Chained eightInch (entryAt eightInch (now image)) (e + 1) (now chain) ⌝ }
     ensures { λ b. ⌜ b ≡ alone eightInch (entryAt eightInch (now (image .entry))) e ⌝ }
@@ -50,7 +50,7 @@ fn is_alone(image: &[u8], e: usize, r: &[u8], chain: &[u8]) -> bool
 
 // Whether e is alone; it becomes the last entry of its key.
 pub fn take_key(image: &[u8], e: usize, r: &[u8], chain: &mut [u8]) -> bool
-    requires { ⌜ (length (now image) ≡ imageBytes eightInch) × (e < eightInch .entries)
+    requires { ⌜ Long eightInch (now image) × (e < eightInch .entries)
         × (entryBytes ≤ length (now r)) × (now r ≡ entryAt eightInch (now image) e) × (used (now r) ≡ true)
         × Chained eightInch (entryAt eightInch (now image)) e (now chain) ⌝ }
     ensures { λ b. ⌜ (b ≡ alone eightInch (entryAt eightInch (now (image .entry))) e)
@@ -64,7 +64,7 @@ pub fn take_key(image: &[u8], e: usize, r: &[u8], chain: &mut [u8]) -> bool
 
 // The entry of this user, name and extent: only those of its key are looked at.
 pub fn find_file(image: &[u8], chain: &[u8], user: u8, s: &[u8], q: usize, ext: usize) -> Found
-    requires { ⌜ (length (now image) ≡ imageBytes eightInch) × (q + nameBytes ≤ length (now s)) × (user ≤ 15)
+    requires { ⌜ Long eightInch (now image) × (q + nameBytes ≤ length (now s)) × (user ≤ 15)
         × Indexed eightInch (entryAt eightInch (now image)) (now chain) ⌝ }
     ensures { λ r. ⌜ r ≡ findFile eightInch (entryAt eightInch (now (image .entry))) user (now (s .entry)) q ext ⌝ }
 {

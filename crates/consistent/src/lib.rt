@@ -4,7 +4,7 @@ ghost use mathlib.Core.Bool.{true};
 ghost use Prim.Native.Nat.{ℕ, _+_, _*_, _≤_, _<_};
 ghost use lib.ListN.{length};
 ghost use Rattle.lists.specs.Below.{allBelow};
-ghost use Rattle.format.specs.Diskette.{eightInch, imageBytes, entryBytes, entriesPerRecord};
+ghost use Rattle.format.specs.Diskette.{eightInch, Long, entryBytes, entriesPerRecord};
 ghost use Rattle.format.specs.Entries.{entryAt};
 ghost use Rattle.format.specs.Consistent.{consistent};
 ghost use Rattle.facts.specs.Marks.{markCount, Marked};
@@ -17,7 +17,7 @@ use format::RECORD_BYTES;
 
 // Whether entry e passes, after all before it have; r is its row.
 fn take_entry(image: &[u8], e: usize, r: &[u8], marks: &mut [u8], chain: &mut [u8]) -> bool
-    requires { ⌜ (length (now image) ≡ imageBytes eightInch) × (e < eightInch .entries)
+    requires { ⌜ Long eightInch (now image) × (e < eightInch .entries)
         × (entryBytes ≤ length (now r)) × (now r ≡ entryAt eightInch (now image) e)
         × Passed eightInch (entryAt eightInch (now image)) e (now marks) (now chain) ⌝ }
     ensures { λ b. ⌜ (b ≡ entryFits eightInch (entryAt eightInch (now (image .entry))) e)
@@ -38,7 +38,7 @@ fn take_entry(image: &[u8], e: usize, r: &[u8], marks: &mut [u8], chain: &mut [u
 // Whether the four entries of the directory's record d pass, after all before them have. A record's place is computed once for its four
 // rows, and rows that are all empty are passed over at once.
 fn take_record(image: &[u8], d: usize, marks: &mut [u8], chain: &mut [u8]) -> bool
-    requires { ⌜ (length (now image) ≡ imageBytes eightInch) × (entriesPerRecord * d < eightInch .entries)
+    requires { ⌜ Long eightInch (now image) × (entriesPerRecord * d < eightInch .entries)
         × Passed eightInch (entryAt eightInch (now image)) (entriesPerRecord * d) (now marks) (now chain) ⌝ }
     ensures { λ b. ⌜ (b ≡ allBelow (λ (i : ℕ). entryFits eightInch (entryAt eightInch (now (image .entry))) (entriesPerRecord * d + i)) entriesPerRecord)
         × (b ≡ true → Passed eightInch (entryAt eightInch (now (image .entry))) (entriesPerRecord * d + entriesPerRecord) (now (marks .exit)) (now (chain .exit))) ⌝ }
@@ -60,7 +60,7 @@ fn take_record(image: &[u8], d: usize, marks: &mut [u8], chain: &mut [u8]) -> bo
 
 // Whether the image is consistent. Where it is, the marks tell which blocks are listed, and look-ups can go by the chains.
 pub fn is_consistent(image: &[u8], marks: &mut [u8], chain: &mut [u8]) -> bool
-    requires { ⌜ (length (now image) ≡ imageBytes eightInch) × (length (now marks) ≡ markCount) × (length (now chain) ≡ chainBytes eightInch) ⌝ }
+    requires { ⌜ Long eightInch (now image) × (length (now marks) ≡ markCount) × (length (now chain) ≡ chainBytes eightInch) ⌝ }
     ensures { λ b. ⌜ (b ≡ consistent eightInch (now (image .entry)))
         × (b ≡ true → Marked eightInch (entryAt eightInch (now (image .entry))) (now (marks .exit))
         × Indexed eightInch (entryAt eightInch (now (image .entry))) (now (chain .exit))) ⌝ }

@@ -2,7 +2,7 @@
 ghost use mathlib.Core.Path.{_≡_};
 ghost use Prim.Native.Nat.{_+_, _*_, _≤_, _<_};
 ghost use lib.ListN.{length};
-ghost use Rattle.format.specs.Diskette.{eightInch, skewed, offsetOf, recordBytes, imageBytes, recordAt, withRecord};
+ghost use Rattle.format.specs.Diskette.{eightInch, skewed, offsetOf, recordBytes, Long, imageBytes, recordAt, withRecord};
 
 // The physical sector, counted from 1, of each logical sector.
 const SKEW: [u8; format::SECTORS] = [
@@ -54,7 +54,7 @@ pub fn offset(d: usize) -> usize
 
 // Copies a disk record into the buffer.
 pub fn read_record(image: &[u8], d: usize, buf: &mut [u8])
-    requires { ⌜ (length (now image) ≡ imageBytes eightInch) × (d < eightInch .perBlock * eightInch .blocks) × (length (now buf) ≡ recordBytes) ⌝ }
+    requires { ⌜ Long eightInch (now image) × (d < eightInch .perBlock * eightInch .blocks) × (length (now buf) ≡ recordBytes) ⌝ }
     ensures { λ _. ⌜ now (buf .exit) ≡ recordAt eightInch (now (image .entry)) d ⌝ }
 {
     let at = offset(d);
@@ -63,7 +63,7 @@ pub fn read_record(image: &[u8], d: usize, buf: &mut [u8])
 
 // Copies the buffer into a disk record.
 pub fn write_record(image: &mut [u8], d: usize, buf: &[u8])
-    requires { ⌜ (length (now image) ≡ imageBytes eightInch) × (d < eightInch .perBlock * eightInch .blocks) × (length (now buf) ≡ recordBytes) ⌝ }
+    requires { ⌜ Long eightInch (now image) × (d < eightInch .perBlock * eightInch .blocks) × (length (now buf) ≡ recordBytes) ⌝ }
     ensures { λ _. ⌜ now (image .exit) ≡ withRecord eightInch (now (image .entry)) d (now (buf .entry)) ⌝ }
 {
     let at = offset(d);

@@ -3,7 +3,7 @@
 ghost use mathlib.Core.Path.{_≡_};
 ghost use Prim.Native.Nat.{_+_, _≤_, _<_};
 ghost use lib.ListN.{length};
-ghost use Rattle.format.specs.Diskette.{eightInch, imageBytes, entryBytes, extentRecords, slotCount};
+ghost use Rattle.format.specs.Diskette.{eightInch, Long, entryBytes, extentRecords, slotCount};
 ghost use Rattle.format.specs.Names.{nameBytes};
 ghost use Rattle.format.specs.Consistent.{extentRight};
 ghost use Rattle.format.specs.Entries.{entryAt, slotsOf, extentOf, runOf, covers, countOf, endOf, slotFor, readOnly, named, isFile, findNamed, findEmpty};
@@ -121,7 +121,7 @@ pub fn is_file(user: u8, s: &[u8], q: usize, ext: usize, r: &[u8]) -> bool
 
 // The first entry of this user whose name is asked for.
 pub fn find_named(image: &[u8], wild: bool, user: u8, s: &[u8], q: usize) -> Found
-    requires { ⌜ (length (now image) ≡ imageBytes eightInch) × (q + nameBytes ≤ length (now s)) ⌝ }
+    requires { ⌜ Long eightInch (now image) × (q + nameBytes ≤ length (now s)) ⌝ }
     ensures { λ r. ⌜ r ≡ findNamed eightInch (entryAt eightInch (now (image .entry))) wild user (now (s .entry)) q ⌝ }
 {
     let mut e = 0;
@@ -136,7 +136,7 @@ pub fn find_named(image: &[u8], wild: bool, user: u8, s: &[u8], q: usize) -> Fou
 
 // The first empty entry.
 pub fn find_empty(image: &[u8]) -> Found
-    requires { ⌜ length (now image) ≡ imageBytes eightInch ⌝ }
+    requires { ⌜ Long eightInch (now image) ⌝ }
     ensures { λ r. ⌜ r ≡ findEmpty eightInch (entryAt eightInch (now (image .entry))) ⌝ }
 {
     let mut e = 0;

@@ -40,6 +40,11 @@ bool-ext true b f g = sym (f refl)
 bool-ext false true f g = g refl
 bool-ext false false f g = refl
 
+-- a test and then another, as a choice that computes: both hold
+pub cond-both : (a b : Bool) → cond a b false ≡ true → (a ≡ true) × (b ≡ true)
+cond-both true b h = (refl, h)
+cond-both false b h = clash (sym h)
+
 -- what holds of both arms of a choice holds of the choice, with the test's value in hand
 pub cond-either : {A : Type 0} (P : A → Type 0) (b : Bool) {x y : A} → (b ≡ true → P x) → (b ≡ false → P y) → P (cond b x y)
 cond-either P true f g = f refl

@@ -4,7 +4,7 @@ ghost use mathlib.Core.Bool.{not, cond};
 ghost use Prim.Native.Nat.{_<_};
 ghost use lib.Dec.{eqb};
 ghost use lib.ListN.{length};
-ghost use Rattle.format.specs.Diskette.{eightInch, imageBytes};
+ghost use Rattle.format.specs.Diskette.{eightInch, Long};
 ghost use Rattle.format.specs.Entries.{entryAt};
 ghost use Rattle.facts.specs.Marks.{Marked, markCount};
 ghost use Rattle.format.specs.Notes.{heldByUsed, noteRight, mapRight};
@@ -14,7 +14,7 @@ use format::Found;
 
 // Whether a note is pending for a used entry.
 fn held_by_used(n: u16, image: &[u8]) -> bool
-    requires { ⌜ length (now image) ≡ imageBytes eightInch ⌝ }
+    requires { ⌜ Long eightInch (now image) ⌝ }
     ensures { λ r. ⌜ r ≡ heldByUsed eightInch (entryAt eightInch (now (image .entry))) n ⌝ }
 {
     let Found::At(e) = notes::holder(n) else {
@@ -25,7 +25,7 @@ fn held_by_used(n: u16, image: &[u8]) -> bool
 
 // Whether block b has a note that is right.
 fn note_right(b: usize, n: u16, marks: &[u8], image: &[u8]) -> bool
-    requires { ⌜ (length (now marks) ≡ markCount) × (length (now image) ≡ imageBytes eightInch) × (b < eightInch .blocks) ⌝ }
+    requires { ⌜ (length (now marks) ≡ markCount) × Long eightInch (now image) × (b < eightInch .blocks) ⌝ }
     ensures { λ r. ⌜ (Marked eightInch (entryAt eightInch (now (image .entry))) (now (marks .entry))
         → r ≡ noteRight eightInch (entryAt eightInch (now (image .entry))) b n) ⌝ }
 {
@@ -43,7 +43,7 @@ fn note_right(b: usize, n: u16, marks: &[u8], image: &[u8]) -> bool
 
 // Whether every note is right, asked note by note.
 fn notes_right(map: &[u16], marks: &[u8], image: &[u8]) -> bool
-    requires { ⌜ (length (now map) ≡ eightInch .blocks) × (length (now marks) ≡ markCount) × (length (now image) ≡ imageBytes eightInch) ⌝ }
+    requires { ⌜ (length (now map) ≡ eightInch .blocks) × (length (now marks) ≡ markCount) × Long eightInch (now image) ⌝ }
     ensures { λ r. ⌜ (Marked eightInch (entryAt eightInch (now (image .entry))) (now (marks .entry))
         → r ≡ mapRight eightInch (entryAt eightInch (now (image .entry))) (now (map .entry))) ⌝ }
 {
@@ -100,7 +100,7 @@ fn differences(map: &[u16], marks: &[u8]) -> u16
 // Whether the map is right for the image whose listed blocks are marked. Most maps are the fresh one: only where notes differ from it,
 // as pending ones do, is each asked for by itself.
 pub fn map_right(map: &[u16], marks: &[u8], image: &[u8]) -> bool
-    requires { ⌜ (length (now map) ≡ eightInch .blocks) × (length (now marks) ≡ markCount) × (length (now image) ≡ imageBytes eightInch) ⌝ }
+    requires { ⌜ (length (now map) ≡ eightInch .blocks) × (length (now marks) ≡ markCount) × Long eightInch (now image) ⌝ }
     ensures { λ r. ⌜ (Marked eightInch (entryAt eightInch (now (image .entry))) (now (marks .entry))
         → r ≡ mapRight eightInch (entryAt eightInch (now (image .entry))) (now (map .entry))) ⌝ }
 {

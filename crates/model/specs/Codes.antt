@@ -2,7 +2,7 @@
 use mathlib.Core.Bool.{Bool, true, false}
 use Prim.Native.Nat.{ℕ}
 use Rattle.model.specs.declared.Code.{Code}
-use Rattle.model.specs.declared.Code.the-variants.{Accepted, NotListed, BadParameter, BadDisk, BadRecord, NotCurrent, Failed, BadName, SearchOver, ReadOnly, Exists, NotClosed, NoExtent, NoRecord, NoEntry, DiskFull}
+use Rattle.model.specs.declared.Code.the-variants as Code
 
 pub record Says : Type 0 where
   pub a : ℕ
@@ -13,22 +13,22 @@ abbrev pub says : ℕ → ℕ → Says
 says a h = record { a = a; h = h; over = false }
 
 abbrev pub saysOf : Code → Says
-saysOf (Accepted n) = says n 0
-saysOf NotListed = says 255 255
-saysOf BadParameter = says 255 4
-saysOf BadDisk = says 255 1
-saysOf BadRecord = says 6 0
-saysOf NotCurrent = says 9 0
-saysOf Failed = says 255 0
-saysOf BadName = says 255 9
-saysOf SearchOver = record { a = 255; h = 0; over = true }
-saysOf ReadOnly = says 255 3
-saysOf Exists = says 255 8
-saysOf NotClosed = says 3 0
-saysOf NoExtent = says 4 0
-saysOf NoRecord = says 1 0
-saysOf NoEntry = says 5 0
-saysOf DiskFull = says 2 0
+saysOf (Code.Accepted n) = says n 0
+saysOf Code.NotListed = says 255 255
+saysOf Code.BadParameter = says 255 4
+saysOf Code.BadDisk = says 255 1
+saysOf Code.BadRecord = says 6 0
+saysOf Code.NotCurrent = says 9 0
+saysOf Code.Failed = says 255 0
+saysOf Code.BadName = says 255 9
+saysOf Code.SearchOver = record { a = 255; h = 0; over = true }
+saysOf Code.ReadOnly = says 255 3
+saysOf Code.Exists = says 255 8
+saysOf Code.NotClosed = says 3 0
+saysOf Code.NoExtent = says 4 0
+saysOf Code.NoRecord = says 1 0
+saysOf Code.NoEntry = says 5 0
+saysOf Code.DiskFull = says 2 0
 
 abbrev pub aOf : Code → ℕ
 aOf c = saysOf c .a

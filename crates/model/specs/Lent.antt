@@ -1,9 +1,12 @@
 -- Document 01: "Every call lends four buffers .. it answers with A, H and the session."
+use mathlib.Core.Path.{_≡_}
 use mathlib.Core.Bool.{Bool, true, false, cond}
 use Prim.Native.Nat.{ℕ}
 use lib.Dec.{eqb}
-use Rattle.format.specs.Diskette.{Bytes, Geometry}
+use lib.ListN.{length}
+use Rattle.format.specs.Diskette.{Bytes, Geometry, Long, recordBytes}
 use Rattle.format.specs.Entries.{Rows, entryAt}
+use Rattle.format.specs.Fcb.{fcbBytes}
 use Rattle.model.specs.declared.Session.{Session}
 use Rattle.model.specs.declared.Answer.{Answer}
 use Rattle.model.specs.declared.Code.{Code}
@@ -22,6 +25,11 @@ pub record Lent : Type 0 where
 
 abbrev pub lend : Bytes → Bytes → Bytes → Bytes → Lent
 lend i m f b = record { drive = record { image = i; map = m }; fcb = f; buffer = b }
+
+-- each of the four has its length
+abbrev pub AllLong : Geometry → Lent → Type 0
+AllLong G l =
+    Long G (l .drive .image) × (length (l .drive .map) ≡ G .blocks) × (length (l .fcb) ≡ fcbBytes) × (length (l .buffer) ≡ recordBytes)
 
 -- the rows of the directory, as they were lent
 abbrev pub rowsOf : Geometry → Lent → Rows

@@ -17,7 +17,7 @@ use Rattle.format.specs.Found.{isFound}
 use Rattle.format.specs.declared.Found.{Found}
 use Rattle.model.specs.declared.Session.{Session}
 use Rattle.model.specs.declared.Code.{Code}
-use Rattle.model.specs.declared.Code.the-variants.{NotListed, BadParameter, BadDisk, BadRecord, NotCurrent, Failed, BadName, SearchOver, ReadOnly, Exists, NotClosed, NoExtent, NoRecord, NoEntry, DiskFull}
+use Rattle.model.specs.declared.Code.the-variants as Code
 use Rattle.model.specs.declared.Verdict.{Verdict}
 use Rattle.model.specs.declared.Verdict.the-variants.{Passed, Refused}
 use Rattle.model.specs.declared.Asked.{Asked}
@@ -91,47 +91,47 @@ module _ (G : Geometry) (asked : Asked) (l : Lent) (s : Session) where
   abbrev pub callRows : List RowFor
   callRows =
       -- 6, 0
-      row (33 ∷ 34 ∷ []) (ltb lastRecord (randomOf (l .fcb))) BadRecord
+      row (33 ∷ 34 ∷ []) (ltb lastRecord (randomOf (l .fcb))) Code.BadRecord
       -- 9, 0
-      ∷ row (20 ∷ 21 ∷ 33 ∷ 34 ∷ []) (not (isFound (presentEntry G (s .user) l))) NotCurrent
+      ∷ row (20 ∷ 21 ∷ 33 ∷ 34 ∷ []) (not (isFound (presentEntry G (s .user) l))) Code.NotCurrent
       -- 255, 0
-      ∷ row (16 ∷ []) (not (isFound (presentEntry G (s .user) l))) Failed
-      ∷ row (36 ∷ []) (not (positionRight (l .fcb))) Failed
-      ∷ row (32 ∷ []) (not (eqb (asked .argument) 255 or leb (asked .argument) 15)) Failed
+      ∷ row (16 ∷ []) (not (isFound (presentEntry G (s .user) l))) Code.Failed
+      ∷ row (36 ∷ []) (not (positionRight (l .fcb))) Code.Failed
+      ∷ row (32 ∷ []) (not (eqb (asked .argument) 255 or leb (asked .argument) 15)) Code.Failed
       -- 255, 9
-      ∷ row (15 ∷ 22 ∷ 23 ∷ 35 ∷ []) (not (nameRight false (l .fcb) 1)) BadName
-      ∷ row (17 ∷ 19 ∷ []) (not (nameRight true (l .fcb) 1)) BadName
-      ∷ row (23 ∷ []) (not (nameRight false (l .fcb) 17)) BadName
-      ∷ row (15 ∷ 22 ∷ []) (ltb 31 (exOf (l .fcb))) BadName
-      ∷ row (17 ∷ []) (ltb 31 (exOf (l .fcb)) and not (eqb (exOf (l .fcb)) 63)) BadName
+      ∷ row (15 ∷ 22 ∷ 23 ∷ 35 ∷ []) (not (nameRight false (l .fcb) 1)) Code.BadName
+      ∷ row (17 ∷ 19 ∷ []) (not (nameRight true (l .fcb) 1)) Code.BadName
+      ∷ row (23 ∷ []) (not (nameRight false (l .fcb) 17)) Code.BadName
+      ∷ row (15 ∷ 22 ∷ []) (ltb 31 (exOf (l .fcb))) Code.BadName
+      ∷ row (17 ∷ []) (ltb 31 (exOf (l .fcb)) and not (eqb (exOf (l .fcb)) 63)) Code.BadName
       -- 255, 0: nothing matches; no search on
-      ∷ row (15 ∷ []) (not (isFound (askedEntry G l (s .user)))) Failed
-      ∷ row (17 ∷ []) (not (isFound (findHit G (rowsOf G l) (s .user) (patternOf (l .fcb)) 0))) SearchOver
-      ∷ row (18 ∷ []) (not (searchOn s)) Failed
-      ∷ row (18 ∷ []) (not (isFound (findHit G (rowsOf G l) (s .user) (s .pattern) (s .place)))) SearchOver
-      ∷ row (19 ∷ []) (not (anyNamed G l true (s .user) 1)) Failed
-      ∷ row (23 ∷ 35 ∷ []) (not (anyNamed G l false (s .user) 1)) Failed
+      ∷ row (15 ∷ []) (not (isFound (askedEntry G l (s .user)))) Code.Failed
+      ∷ row (17 ∷ []) (not (isFound (findHit G (rowsOf G l) (s .user) (patternOf (l .fcb)) 0))) Code.SearchOver
+      ∷ row (18 ∷ []) (not (searchOn s)) Code.Failed
+      ∷ row (18 ∷ []) (not (isFound (findHit G (rowsOf G l) (s .user) (s .pattern) (s .place)))) Code.SearchOver
+      ∷ row (19 ∷ []) (not (anyNamed G l true (s .user) 1)) Code.Failed
+      ∷ row (23 ∷ 35 ∷ []) (not (anyNamed G l false (s .user) 1)) Code.Failed
       -- 255, 3
-      ∷ row (19 ∷ []) (anyReadOnly G l true (s .user)) ReadOnly
-      ∷ row (23 ∷ []) (anyReadOnly G l false (s .user)) ReadOnly
-      ∷ row (21 ∷ 34 ∷ []) (readOnlyThere G (asked .number) (s .user) l) ReadOnly
+      ∷ row (19 ∷ []) (anyReadOnly G l true (s .user)) Code.ReadOnly
+      ∷ row (23 ∷ []) (anyReadOnly G l false (s .user)) Code.ReadOnly
+      ∷ row (21 ∷ 34 ∷ []) (readOnlyThere G (asked .number) (s .user) l) Code.ReadOnly
       -- 255, 8
-      ∷ row (22 ∷ []) (isFound (askedEntry G l (s .user))) Exists
-      ∷ row (23 ∷ []) (anyNamed G l false (s .user) 17) Exists
+      ∷ row (22 ∷ []) (isFound (askedEntry G l (s .user))) Code.Exists
+      ∷ row (23 ∷ []) (anyNamed G l false (s .user) 17) Code.Exists
       -- 255, 0
-      ∷ row (22 ∷ []) (not (isFound (findEmpty G (rowsOf G l)))) Failed
+      ∷ row (22 ∷ []) (not (isFound (findEmpty G (rowsOf G l)))) Code.Failed
       -- 3, 0: stands behind 9, 0, so that it never decides (crate table, `never-not-closed`)
-      ∷ row (20 ∷ 21 ∷ 33 ∷ 34 ∷ []) (not (stays (asked .number) (l .fcb)) and not (isFound (presentEntry G (s .user) l))) NotClosed
+      ∷ row (20 ∷ 21 ∷ 33 ∷ 34 ∷ []) (not (stays (asked .number) (l .fcb)) and not (isFound (presentEntry G (s .user) l))) Code.NotClosed
       -- 4, 0
-      ∷ row (33 ∷ []) (not (isFound (targetEntry G (asked .number) (s .user) l))) NoExtent
+      ∷ row (33 ∷ []) (not (isFound (targetEntry G (asked .number) (s .user) l))) Code.NoExtent
       -- 1, 0
-      ∷ row (20 ∷ 33 ∷ []) (not (recordThere G (asked .number) (s .user) l)) NoRecord
+      ∷ row (20 ∷ 33 ∷ []) (not (recordThere G (asked .number) (s .user) l)) Code.NoRecord
       -- 1, 0 (21) or 5, 0 (34)
-      ∷ row (21 ∷ []) (leb extents (targetExtent (asked .number) (l .fcb))) NoRecord
-      ∷ row (21 ∷ []) (not (isFound (targetEntry G (asked .number) (s .user) l)) and not (isFound (findEmpty G (rowsOf G l)))) NoRecord
-      ∷ row (34 ∷ []) (not (isFound (targetEntry G (asked .number) (s .user) l)) and not (isFound (findEmpty G (rowsOf G l)))) NoEntry
+      ∷ row (21 ∷ []) (leb extents (targetExtent (asked .number) (l .fcb))) Code.NoRecord
+      ∷ row (21 ∷ []) (not (isFound (targetEntry G (asked .number) (s .user) l)) and not (isFound (findEmpty G (rowsOf G l)))) Code.NoRecord
+      ∷ row (34 ∷ []) (not (isFound (targetEntry G (asked .number) (s .user) l)) and not (isFound (findEmpty G (rowsOf G l)))) Code.NoEntry
       -- 2, 0
-      ∷ row (21 ∷ 34 ∷ []) (eqb (blockThere G (asked .number) (s .user) l) 0 and not (isFound (findFree G (l .drive .map)))) DiskFull
+      ∷ row (21 ∷ 34 ∷ []) (eqb (blockThere G (asked .number) (s .user) l) 0 and not (isFound (findFree G (l .drive .map)))) Code.DiskFull
       ∷ []
 
   -- those of this call
@@ -141,11 +141,11 @@ module _ (G : Geometry) (asked : Asked) (l : Lent) (s : Session) where
   unfoldable pub table : List Row
   table =
       -- 255, 255
-      when (not (isCall (asked .number))) NotListed
+      when (not (isCall (asked .number))) Code.NotListed
       -- 255, 4
-      ∷ when (not (parametersRight G l asked s)) BadParameter
+      ∷ when (not (parametersRight G l asked s)) Code.BadParameter
       -- 255, 1
-      ∷ when (not (diskRight G l asked)) BadDisk
+      ∷ when (not (diskRight G l asked)) Code.BadDisk
       ∷ ownRows
 
   unfoldable pub verdict : Verdict

@@ -7,7 +7,7 @@ ghost use Rattle.format.specs.Diskette.{Bytes, eightInch, Long, recordBytes, ex
 ghost use Rattle.format.specs.Entries.{entryAt, extentOf};
 ghost use Rattle.format.specs.Consistent.{consistent};
 ghost use Rattle.format.specs.Fcb.{fcbBytes};
-ghost use Rattle.model.specs.Lent.{lend, outcome};
+ghost use Rattle.model.specs.Lent.{lend, AllLong, outcome};
 ghost use Rattle.model.specs.Closing.{closedImage};
 ghost use Rattle.model.specs.Target.{moved, made};
 ghost use Rattle.model.specs.Kinds.{kindOf, same, ofRecord};
@@ -92,9 +92,9 @@ fn transfer(
     plan: Plan,
     target: Target,
 )
-    requires { ⌜ Long eightInch (now image) × (length (now map) ≡ eightInch .blocks) × (length (now fcb) ≡ fcbBytes) × (length (now buffer) ≡ recordBytes)
-        × (target .at < extentRecords) × (target .after ≤ extentRecords) × OnDisk eightInch plan
-        × (extentOf (now fcb) ≡ extentOf (entryAt eightInch (now image) (entryOf plan))) ⌝ }
+    requires { ⌜ (target .at < extentRecords) × (target .after ≤ extentRecords) × OnDisk eightInch plan
+        × (extentOf (now fcb) ≡ extentOf (entryAt eightInch (now image) (entryOf plan)))
+        × AllLong eightInch (lend (now image) (now map) (now fcb) (now buffer)) ⌝ }
     ensures { λ _. ⌜ lend (now (image .exit)) (now (map .exit)) (now (fcb .exit)) (now (buffer .exit))
         ≡ transferred eightInch (same (kindOf number) Write) plan target (lend (now (image .entry)) (now (map .entry)) (now (fcb .entry)) (now (buffer .entry))) ⌝ }
 {
@@ -127,9 +127,8 @@ fn follow(
     plan: Plan,
     target: Target,
 )
-    requires { ⌜ Long eightInch (now image) × (length (now map) ≡ eightInch .blocks) × (length (now fcb) ≡ fcbBytes) × (length (now buffer) ≡ recordBytes)
-        × (target .extent < extents) × (target .at < extentRecords) × (target .after ≤ extentRecords) × OnDisk eightInch plan
-        × OwnExtent eightInch (now image) (now fcb) (target .extent) plan ⌝ }
+    requires { ⌜ (target .extent < extents) × (target .at < extentRecords) × (target .after ≤ extentRecords) × OnDisk eightInch plan
+        × OwnExtent eightInch (now image) (now fcb) (target .extent) plan × AllLong eightInch (lend (now image) (now map) (now fcb) (now buffer)) ⌝ }
     ensures { λ _. ⌜ lend (now (image .exit)) (now (map .exit)) (now (fcb .exit)) (now (buffer .exit))
         ≡ transferred eightInch (same (kindOf number) Write) plan target
         (arrived eightInch (target .extent) (lend (now (image .entry)) (now (map .entry)) (now (fcb .entry)) (now (buffer .entry))) plan) ⌝ }

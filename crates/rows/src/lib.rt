@@ -4,7 +4,7 @@ ghost use Prim.Native.Nat.{ℕ, _+_, _*_, _≤_, _<_};
 ghost use lib.ListN.{length};
 ghost use Rattle.lists.specs.Below.{allBelow};
 ghost use Rattle.lists.specs.Splice.{part};
-ghost use Rattle.format.specs.Diskette.{eightInch, imageBytes, recordBytes, recordAt, entryBytes, entriesPerRecord};
+ghost use Rattle.format.specs.Diskette.{eightInch, Long, imageBytes, recordBytes, recordAt, entryBytes, entriesPerRecord};
 ghost use Rattle.format.specs.Entries.{entryPlace, entryAt, withEntry, empty};
 ghost use Rattle.rows.specs.Entries.{rowOf};
 use format::ENTRIES_PER_RECORD;
@@ -20,7 +20,7 @@ pub fn entry_place(e: usize) -> usize
 
 // The row of an entry, as a part of the image.
 pub fn row(image: &[u8], e: usize) -> &[u8]
-    requires { ⌜ (length (now image) ≡ imageBytes eightInch) × (e < eightInch .entries) ⌝ }
+    requires { ⌜ Long eightInch (now image) × (e < eightInch .entries) ⌝ }
     ensures { λ r. ⌜ (now r ≡ entryAt eightInch (now (image .entry)) e) × (length (now r) ≡ entryBytes) ⌝ }
 {
     let at = entry_place(e);
@@ -30,7 +30,7 @@ pub fn row(image: &[u8], e: usize) -> &[u8]
 
 // The rows of four entries: record d of the directory, as a part of the image. A loop over all entries takes the place of each record once.
 pub fn four_rows(image: &[u8], d: usize) -> &[u8]
-    requires { ⌜ (length (now image) ≡ imageBytes eightInch) × (entriesPerRecord * d < eightInch .entries) ⌝ }
+    requires { ⌜ Long eightInch (now image) × (entriesPerRecord * d < eightInch .entries) ⌝ }
     ensures { λ r. ⌜ (now r ≡ recordAt eightInch (now (image .entry)) d) × (length (now r) ≡ recordBytes) ⌝ }
 {
     let at = disk::offset(d);
@@ -64,7 +64,7 @@ pub fn all_empty(four: &[u8]) -> bool
 
 // The row of an entry by value, for a caller that goes on to change the image.
 pub fn copy_row(image: &[u8], e: usize) -> [u8; 32]
-    requires { ⌜ (length (now image) ≡ imageBytes eightInch) × (e < eightInch .entries) ⌝ }
+    requires { ⌜ Long eightInch (now image) × (e < eightInch .entries) ⌝ }
     ensures { λ r. ⌜ r ≡ entryAt eightInch (now (image .entry)) e ⌝ }
 {
     let mut r = [0u8; 32];
@@ -75,7 +75,7 @@ pub fn copy_row(image: &[u8], e: usize) -> [u8; 32]
 
 // Replaces an entry's row.
 pub fn store_row(image: &mut [u8], e: usize, r: [u8; 32])
-    requires { ⌜ (length (now image) ≡ imageBytes eightInch) × (e < eightInch .entries) ⌝ }
+    requires { ⌜ Long eightInch (now image) × (e < eightInch .entries) ⌝ }
     ensures { λ _. ⌜ now (image .exit) ≡ withEntry eightInch (now (image .entry)) e r ⌝ }
 {
     let at = entry_place(e);

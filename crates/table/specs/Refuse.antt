@@ -7,7 +7,7 @@ use Prim.Native.Nat.{ℕ, _≤_, _<_}
 use lib.Dec.{eqb, ltb}
 use denote.Enum.Declared.{tagOf}
 use borrow.Author.Tests.{ltb-true, eq-eqb, eqb-true, not-true, not-false}
-use Rattle.lists.specs.Cases.{split, bool-cases, clash, not-both}
+use Rattle.lists.specs.Cases.{split, bool-cases, clash, not-both, cond-both}
 use Rattle.lists.specs.Tests.{_and_, and-right}
 use Rattle.format.specs.Diskette.{Geometry, lastRecord}
 use Rattle.format.specs.Names.{nameRight}
@@ -22,7 +22,7 @@ use Rattle.format.specs.declared.Found.the-variants.{Nothing}
 use Rattle.model.specs.declared.Asked.{Asked}
 use Rattle.model.specs.declared.Session.{Session}
 use Rattle.model.specs.declared.Code.{Code}
-use Rattle.model.specs.declared.Code.the-variants.{Accepted, NotListed, BadParameter, BadDisk, BadRecord, NotCurrent, Failed, BadName, SearchOver, ReadOnly, Exists, NotClosed, NoExtent, NoRecord, NoEntry, DiskFull}
+use Rattle.model.specs.declared.Code.the-variants as Code
 use Rattle.model.specs.declared.Verdict.the-variants.{Refused}
 use Rattle.model.proofs.Code.{the-type}
 use Rattle.model.specs.Codes.{saysOf, hOf}
@@ -34,11 +34,6 @@ use Rattle.table.specs.First.{_&_, NoneHolds, Decides, here, later, pass
 use Rattle.table.specs.Own.{calling, at-one, rowsFor, verdict-rows, verdict-unlisted}
 use Rattle.table.specs.Facts.{Ready}
 use Rattle.table.specs.Reflect.{pattern-of, pattern-right, parameters-right, disk-right, ready-of}
-
--- two tests as one that computes
-both : (a b : Bool) → cond a b false ≡ true → (a ≡ true) × (b ≡ true)
-both true b h = (refl, h)
-both false b h = clash (sym h)
 
 -- ---- a test of calls and code that passes at every row passes at the row that decides
 abbrev pub allRows : (List ℕ → Code → Bool) → List RowFor → Bool
@@ -60,7 +55,7 @@ kept t n c r rows false q p rest d = rest d
 pub row-of : (t : List ℕ → Code → Bool) (n : ℕ) (c : Code) (rs : List RowFor) → allRows t rs ≡ true → Decides c (rowsAt n rs) → RowOf t n c
 unfolding firstRow
 row-of t n c [] h d = passed-refused c (decides-refused c [] d)
-row-of t n c (r ∷ rs) h d = kept t n c r (rowsAt n rs) (oneOf n (r .calls)) refl (both (t (r .calls) (r .row .code)) (allRows t rs) h .0) (row-of t n c rs (both (t (r .calls) (r .row .code)) (allRows t rs) h .1)) d
+row-of t n c (r ∷ rs) h d = kept t n c r (rowsAt n rs) (oneOf n (r .calls)) refl (cond-both (t (r .calls) (r .row .code)) (allRows t rs) h .0) (row-of t n c rs (cond-both (t (r .calls) (r .row .code)) (allRows t rs) h .1)) d
 
 -- ---- codes told apart. Not by A and H: acceptance may have the A of a refusal
 abbrev codeNumber : Code → ℕ
@@ -124,7 +119,7 @@ within (c ∷ cs) ds = cond (oneOf c ds) (within cs ds) false
 within-one : (n : ℕ) (cs ds : List ℕ) → within cs ds ≡ true → oneOf n cs ≡ true → oneOf n ds ≡ true
 within-one n [] ds w h = clash (sym h)
 within-one n (c ∷ cs) ds w h =
-    split (bool-cases (eqb n c)) (λ e. rw (eqb-true n c e) (both (oneOf c ds) (within cs ds) w .0)) (λ e. within-one n cs ds (both (oneOf c ds) (within cs ds) w .1) (rw e at h))
+    split (bool-cases (eqb n c)) (λ e. rw (eqb-true n c e) (cond-both (oneOf c ds) (within cs ds) w .0)) (λ e. within-one n cs ds (cond-both (oneOf c ds) (within cs ds) w .1) (rw e at h))
 
 -- a row of this code is among them
 abbrev hasCode : Code → List Row → Bool
@@ -138,22 +133,22 @@ module _ (G : Geometry) (asked : Asked) (l : Lent) (s : Session) where
 
   abbrev pub ByCode : Type 0
   ByCode =
-      (callsWith BadRecord ≡ 33 ∷ 34 ∷ [])
-      × (callsWith NotCurrent ≡ 20 ∷ 21 ∷ 33 ∷ 34 ∷ [])
-      × (callsWith Failed ≡ 15 ∷ 16 ∷ 18 ∷ 19 ∷ 22 ∷ 23 ∷ 32 ∷ 35 ∷ 36 ∷ [])
-      × (callsWith BadName ≡ 15 ∷ 17 ∷ 19 ∷ 22 ∷ 23 ∷ 35 ∷ [])
-      × (callsWith SearchOver ≡ 17 ∷ 18 ∷ [])
-      × (callsWith ReadOnly ≡ 19 ∷ 21 ∷ 23 ∷ 34 ∷ [])
-      × (callsWith Exists ≡ 22 ∷ 23 ∷ [])
-      × (callsWith NotClosed ≡ 20 ∷ 21 ∷ 33 ∷ 34 ∷ [])
-      × (callsWith NoExtent ≡ 33 ∷ [])
-      × (callsWith NoRecord ≡ 20 ∷ 21 ∷ 33 ∷ [])
-      × (callsWith NoEntry ≡ 34 ∷ [])
-      × (callsWith DiskFull ≡ 21 ∷ 34 ∷ [])
-      × (callsWith NotListed ≡ [])
-      × (callsWith BadParameter ≡ [])
-      × (callsWith BadDisk ≡ [])
-      × ((k : ℕ) → callsWith (Accepted k) ≡ [])
+      (callsWith Code.BadRecord ≡ 33 ∷ 34 ∷ [])
+      × (callsWith Code.NotCurrent ≡ 20 ∷ 21 ∷ 33 ∷ 34 ∷ [])
+      × (callsWith Code.Failed ≡ 15 ∷ 16 ∷ 18 ∷ 19 ∷ 22 ∷ 23 ∷ 32 ∷ 35 ∷ 36 ∷ [])
+      × (callsWith Code.BadName ≡ 15 ∷ 17 ∷ 19 ∷ 22 ∷ 23 ∷ 35 ∷ [])
+      × (callsWith Code.SearchOver ≡ 17 ∷ 18 ∷ [])
+      × (callsWith Code.ReadOnly ≡ 19 ∷ 21 ∷ 23 ∷ 34 ∷ [])
+      × (callsWith Code.Exists ≡ 22 ∷ 23 ∷ [])
+      × (callsWith Code.NotClosed ≡ 20 ∷ 21 ∷ 33 ∷ 34 ∷ [])
+      × (callsWith Code.NoExtent ≡ 33 ∷ [])
+      × (callsWith Code.NoRecord ≡ 20 ∷ 21 ∷ 33 ∷ [])
+      × (callsWith Code.NoEntry ≡ 34 ∷ [])
+      × (callsWith Code.DiskFull ≡ 21 ∷ 34 ∷ [])
+      × (callsWith Code.NotListed ≡ [])
+      × (callsWith Code.BadParameter ≡ [])
+      × (callsWith Code.BadDisk ≡ [])
+      × ((k : ℕ) → callsWith (Code.Accepted k) ≡ [])
 
   pub by-code : ByCode
   unfolding callsWith
@@ -168,9 +163,9 @@ module _ (G : Geometry) (asked : Asked) (l : Lent) (s : Session) where
 
   -- where a refusal comes from: one of the first three rows, or a row of the call's own, with a code that the table has for the call
   pub data Refuses (code : Code) : Type 0 where
-    unlisted : code ≡ NotListed → isCall (asked .number) ≡ false → Refuses code
-    parameter : code ≡ BadParameter → isCall (asked .number) ≡ true → parametersRight G l asked s ≡ false → Refuses code
-    disk : code ≡ BadDisk → isCall (asked .number) ≡ true → diskRight G l asked ≡ false → Refuses code
+    unlisted : code ≡ Code.NotListed → isCall (asked .number) ≡ false → Refuses code
+    parameter : code ≡ Code.BadParameter → isCall (asked .number) ≡ true → parametersRight G l asked s ≡ false → Refuses code
+    disk : code ≡ Code.BadDisk → isCall (asked .number) ≡ true → diskRight G l asked ≡ false → Refuses code
     own : oneOf (asked .number) (callsWith code) ≡ true → Ready G asked l s → Decides code (ownRows G asked l s) → Refuses code
 
   refuses-call : (code : Code) → isCall (asked .number) ≡ true → Decides code (rowsFor G asked l s) → Refuses code
@@ -182,20 +177,20 @@ module _ (G : Geometry) (asked : Asked) (l : Lent) (s : Session) where
   refuses code q =
       split (bool-cases (isCall (asked .number)))
       (λ t. refuses-call code t (refused-decides code (rowsFor G asked l s) (sym (verdict-rows G asked l s t) ∙ q)))
-      (λ f. unlisted (refused-same code NotListed (sym q ∙ verdict-unlisted G asked l s f)) f)
+      (λ f. unlisted (refused-same code Code.NotListed (sym q ∙ verdict-unlisted G asked l s f)) f)
 
   -- a code that none of the first three rows has comes from the call's own
-  pub own-decides : (t : Code → Bool) (code : Code) → t code ≡ true → t NotListed ≡ false → t BadParameter ≡ false → t BadDisk ≡ false
+  pub own-decides : (t : Code → Bool) (code : Code) → t code ≡ true → t Code.NotListed ≡ false → t Code.BadParameter ≡ false → t Code.BadDisk ≡ false
       → Refuses code → Ready G asked l s × Decides code (ownRows G asked l s)
-  own-decides t code h u p d (unlisted e f) = other t code h NotListed u (sym e)
-  own-decides t code h u p d (parameter e c f) = other t code h BadParameter p (sym e)
-  own-decides t code h u p d (disk e c f) = other t code h BadDisk d (sym e)
+  own-decides t code h u p d (unlisted e f) = other t code h Code.NotListed u (sym e)
+  own-decides t code h u p d (parameter e c f) = other t code h Code.BadParameter p (sym e)
+  own-decides t code h u p d (disk e c f) = other t code h Code.BadDisk d (sym e)
   own-decides t code h u p d (own g r w) = (r, w)
 
   -- ---- no call is refused with an acceptance
-  pub never-accepted : (k : ℕ) → verdict G asked l s ≡ Refused (Accepted k) → ⊥
+  pub never-accepted : (k : ℕ) → verdict G asked l s ≡ Refused (Code.Accepted k) → ⊥
   unfolding callsWith
-  never-accepted k q = clash (sym (own-given (Accepted k) (own-decides (isCode (Accepted k)) (Accepted k) refl refl refl refl (refuses (Accepted k) q) .1)))
+  never-accepted k q = clash (sym (own-given (Code.Accepted k) (own-decides (isCode (Code.Accepted k)) (Code.Accepted k) refl refl refl refl (refuses (Code.Accepted k) q) .1)))
 
   -- a row of the call's own decides, once the first three have failed
   pub refused-own : (code : Code) → isCall (asked .number) ≡ true → Ready G asked l s → Decides code (ownRows G asked l s) → verdict G asked l s ≡ Refused code
@@ -206,8 +201,8 @@ module _ (G : Geometry) (asked : Asked) (l : Lent) (s : Session) where
 
   -- ---- a consistent image with a right map is never refused for the disk
   bad-disk : (code : Code) → eqb (hOf code) 1 ≡ true → Refuses code → diskRight G l asked ≡ false
-  bad-disk code h (unlisted e f) = other (λ (c : Code). eqb (hOf c) 1) code h NotListed refl (sym e)
-  bad-disk code h (parameter e c f) = other (λ (c : Code). eqb (hOf c) 1) code h BadParameter refl (sym e)
+  bad-disk code h (unlisted e f) = other (λ (c : Code). eqb (hOf c) 1) code h Code.NotListed refl (sym e)
+  bad-disk code h (parameter e c f) = other (λ (c : Code). eqb (hOf c) 1) code h Code.BadParameter refl (sym e)
   bad-disk code h (disk e c f) = f
   bad-disk code h (own g r d) =
       not-both (eqb (hOf code) 1) h
@@ -219,33 +214,33 @@ module _ (G : Geometry) (asked : Asked) (l : Lent) (s : Session) where
       not-both (diskRight G l asked) (disk-right G asked l s right (λ z. map)) (bad-disk code (eq-eqb _ _ h) (refuses code q))
 
 -- ---- code 3 never comes out: its row asks for an FCB that is not current, and stands behind the row for that
-no-three : (X Y : Bool) (front rs : List Row) → Absent (isCode NotClosed) front → Absent (isCode NotClosed) rs → (NoneHolds front → X ≡ false)
-    → Decides NotClosed (front ++ (when (Y and X) NotClosed ∷ rs)) → ⊥
+no-three : (X Y : Bool) (front rs : List Row) → Absent (isCode Code.NotClosed) front → Absent (isCode Code.NotClosed) rs → (NoneHolds front → X ≡ false)
+    → Decides Code.NotClosed (front ++ (when (Y and X) Code.NotClosed ∷ rs)) → ⊥
 no-three X Y front rs a b current d =
-    let p = behind (isCode NotClosed) NotClosed (is-self NotClosed) front (when (Y and X) NotClosed ∷ rs) a d in
-    not-both X (and-right Y X (only-row (isCode NotClosed) NotClosed (is-self NotClosed) (Y and X) NotClosed rs (p .rest) b)) (current (p .failed))
+    let p = behind (isCode Code.NotClosed) Code.NotClosed (is-self Code.NotClosed) front (when (Y and X) Code.NotClosed ∷ rs) a d in
+    not-both X (and-right Y X (only-row (isCode Code.NotClosed) Code.NotClosed (is-self Code.NotClosed) (Y and X) Code.NotClosed rs (p .rest) b)) (current (p .failed))
 
 module _ (G : Geometry) (asked : Asked) (l : Lent) (s : Session) where
-  pub never-not-closed : verdict G asked l s ≡ Refused NotClosed → ⊥
+  pub never-not-closed : verdict G asked l s ≡ Refused Code.NotClosed → ⊥
   unfolding callsWith
   never-not-closed q =
-      let d = own-decides G asked l s (isCode NotClosed) NotClosed refl refl refl refl (refuses G asked l s NotClosed q) .1 in
-      at-one (λ (n : ℕ). Decides NotClosed (ownRows G (calling n asked) l s) → ⊥) (asked .number) (20 ∷ 21 ∷ 33 ∷ 34 ∷ [])
-      (own-given G asked l s NotClosed d)
+      let d = own-decides G asked l s (isCode Code.NotClosed) Code.NotClosed refl refl refl refl (refuses G asked l s Code.NotClosed q) .1 in
+      at-one (λ (n : ℕ). Decides Code.NotClosed (ownRows G (calling n asked) l s) → ⊥) (asked .number) (20 ∷ 21 ∷ 33 ∷ 34 ∷ [])
+      (own-given G asked l s Code.NotClosed d)
       ((λ v. no-three _ _ (_ ∷ []) _ refl refl (λ h. h .0) v)
       & (λ v. no-three _ _ (_ ∷ _ ∷ []) _ refl refl (λ h. h .0) v)
       & (λ v. no-three _ _ (_ ∷ _ ∷ []) _ refl refl (λ h. h .1 .0) v)
       & (λ v. no-three _ _ (_ ∷ _ ∷ _ ∷ []) _ refl refl (λ h. h .1 .0) v) & tt) d
 
   -- ---- code 6 comes out only where the random record is over 262,143
-  pub random-over : verdict G asked l s ≡ Refused BadRecord → lastRecord < randomOf (l .fcb)
+  pub random-over : verdict G asked l s ≡ Refused Code.BadRecord → lastRecord < randomOf (l .fcb)
   unfolding callsWith
   random-over q =
-      let d = own-decides G asked l s (isCode BadRecord) BadRecord refl refl refl refl (refuses G asked l s BadRecord q) .1 in
-      ltb-true _ _ (at-one (λ (n : ℕ). Decides BadRecord (ownRows G (calling n asked) l s) → ltb lastRecord (randomOf (l .fcb)) ≡ true) (asked .number) (33 ∷ 34 ∷ [])
-      (own-given G asked l s BadRecord d)
-      ((λ v. only-row (isCode BadRecord) BadRecord refl _ BadRecord _ v refl)
-      & (λ v. only-row (isCode BadRecord) BadRecord refl _ BadRecord _ v refl) & tt) d)
+      let d = own-decides G asked l s (isCode Code.BadRecord) Code.BadRecord refl refl refl refl (refuses G asked l s Code.BadRecord q) .1 in
+      ltb-true _ _ (at-one (λ (n : ℕ). Decides Code.BadRecord (ownRows G (calling n asked) l s) → ltb lastRecord (randomOf (l .fcb)) ≡ true) (asked .number) (33 ∷ 34 ∷ [])
+      (own-given G asked l s Code.BadRecord d)
+      ((λ v. only-row (isCode Code.BadRecord) Code.BadRecord refl _ Code.BadRecord _ v refl)
+      & (λ v. only-row (isCode Code.BadRecord) Code.BadRecord refl _ Code.BadRecord _ v refl) & tt) d)
 
   -- ---- a search is over exactly where its row decides
   pub search-over : (code : Code) → saysOf code .over ≡ true → Refuses G asked l s code → SearchEnds G asked l s (asked .number)
@@ -262,8 +257,8 @@ module _ (G : Geometry) (asked : Asked) (l : Lent) (s : Session) where
       last-row : (r : Found) (c : Code) → Decides code (when (not (isFound r)) c ∷ []) → r ≡ Nothing
       last-row r c v = not-found r (not-true _ (only-row (λ (x : Code). saysOf x .over) code h _ c [] v refl))
 
-  pub over-search : (n : ℕ) → SearchEnds G asked l s n → verdict G (calling n asked) l s ≡ Refused SearchOver
+  pub over-search : (n : ℕ) → SearchEnds G asked l s n → verdict G (calling n asked) l s ≡ Refused Code.SearchOver
   unfolding isCall kindOf
   over-search n (ends17 r name ex none) =
-      refused-own G (calling 17 asked) l s SearchOver refl r (later (ap not name) (later (pattern-right _ ex) (here (missed-row _ none) refl)))
-  over-search n (ends18 r is-on none) = refused-own G (calling 18 asked) l s SearchOver refl r (later (ap not is-on) (here (missed-row _ none) refl))
+      refused-own G (calling 17 asked) l s Code.SearchOver refl r (later (ap not name) (later (pattern-right _ ex) (here (missed-row _ none) refl)))
+  over-search n (ends18 r is-on none) = refused-own G (calling 18 asked) l s Code.SearchOver refl r (later (ap not is-on) (here (missed-row _ none) refl))

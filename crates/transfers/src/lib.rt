@@ -5,7 +5,7 @@ ghost use lib.ListN.{length};
 ghost use Rattle.format.specs.Diskette.{Bytes, eightInch, Long, recordBytes, slotCount, extentRecords};
 ghost use Rattle.format.specs.Entries.{entryAt, extentOf};
 ghost use Rattle.format.specs.Fcb.{fcbBytes};
-ghost use Rattle.model.specs.Lent.{lend};
+ghost use Rattle.model.specs.Lent.{lend, AllLong};
 ghost use Rattle.model.specs.Target.{placeIn, haveRead, writtenFcb, writtenMap, haveWritten};
 
 // The disk record that holds record r of an extent, in block b.
@@ -64,9 +64,8 @@ pub fn write_at(
     r: usize,
     cr: usize,
 )
-    requires { ⌜ Long eightInch (now image) × (length (now map) ≡ eightInch .blocks) × (length (now fcb) ≡ fcbBytes) × (length (now buffer) ≡ recordBytes)
-        × (t < eightInch .entries) × (j < slotCount) × (b < eightInch .blocks) × (r < extentRecords) × (cr ≤ extentRecords)
-        × (extentOf (now fcb) ≡ extentOf (entryAt eightInch (now image) t)) ⌝ }
+    requires { ⌜ (t < eightInch .entries) × (j < slotCount) × (b < eightInch .blocks) × (r < extentRecords) × (cr ≤ extentRecords)
+        × (extentOf (now fcb) ≡ extentOf (entryAt eightInch (now image) t)) × AllLong eightInch (lend (now image) (now map) (now fcb) (now buffer)) ⌝ }
     ensures { λ _. ⌜ lend (now (image .exit)) (now (map .exit)) (now (fcb .exit)) (now (buffer .entry))
         ≡ haveWritten eightInch t j b r cr (lend (now (image .entry)) (now (map .entry)) (now (fcb .entry)) (now (buffer .entry))) ⌝ }
 {

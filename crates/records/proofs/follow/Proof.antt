@@ -17,9 +17,9 @@ transfer-requires c κs =
     let d = c .before .before .before .before .before .before .before .before .before .before in let s = d .before .before .before .before .before .before .before .before in let a = s .args in let came = d .arrive in let q = came .ensures [] in
     let o : extentOf (came .last .1 .1 .0) ≡ extentOf (entryAt eightInch (came .last .0) (entryOf (a .plan))) =
     ap (λ (l : Lent). extentOf (l .fcb)) q
-    ∙ arrived-own eight-sound (a .target .extent) (lend (a .image .now) (a .map .now) (a .fcb .now) []) (a .plan) (s .pre .0) (s .pre .2) (s .pre .7) (s .pre .8)
+    ∙ arrived-own eight-sound (a .target .extent) (lend (a .image .now) (a .map .now) (a .fcb .now) []) (a .plan) (s .pre .5 .0) (s .pre .5 .2) (s .pre .3) (s .pre .4)
     ∙ sym (ap (λ (l : Lent). extentOf (entryAt eightInch (l .drive .image) (entryOf (a .plan)))) q) in
-    (search needs, search needs, search needs, s .pre .3, s .pre .5, s .pre .6, s .pre .7, o)
+    (s .pre .1, s .pre .2, s .pre .3, o, (search needs, search needs, search needs, s .pre .5 .3))
 
 returns : tie.Need-returns
 returns c =

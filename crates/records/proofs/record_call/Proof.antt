@@ -28,7 +28,7 @@ follow-requires : tie.Need-follow-requires
 follow-requires c κs =
     let d = c .before .before .before .before in let s = d .before .before .before .before .before .before .before .before .before .before .before .before .before .before in let t = d .before .before .before .before .before .before .before .target-of in let w = sure d in
     let out = rw (← t .ensures .extent) at (w .own) in let p = s .pre in
-    (p .4 .image-long, p .0, p .4 .fcb-long, p .1, rw (t .ensures .extent) (w .extent), rw (t .ensures .at) (w .at), rw (t .ensures .after) (w .after), w .on-disk, out)
+    (rw (t .ensures .extent) (w .extent), rw (t .ensures .at) (w .at), rw (t .ensures .after) (w .after), w .on-disk, out, (p .4 .image-long, p .0, p .4 .fcb-long, p .1))
 
 returns : tie.Need-returns
 returns c =

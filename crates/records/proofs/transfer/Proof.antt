@@ -11,9 +11,9 @@ use Rattle.records.proofs.transfer.Tie as tie
 write-at-requires : tie.Need-write-at-requires
 write-at-requires c κs =
     let d = c .before .before .before .before .before .before .before .before in let b = d .block-of in let s = d .before .before .before .before .before in let a = s .args in
-    let h : b .result < eightInch .blocks = rw (b .ensures) (block-on-disk eightInch (a .plan) (s .pre .6)) in
-    let k : c .entry-of .result < eightInch .entries = rw (c .entry-of .ensures) (entry-on-disk eightInch (a .plan) (s .pre .6)) in
-    let o : extentOf (a .fcb .now) ≡ extentOf (entryAt eightInch (a .image .now) (c .entry-of .result)) = rw (c .entry-of .ensures) (s .pre .7) in search needs
+    let h : b .result < eightInch .blocks = rw (b .ensures) (block-on-disk eightInch (a .plan) (s .pre .2)) in
+    let k : c .entry-of .result < eightInch .entries = rw (c .entry-of .ensures) (entry-on-disk eightInch (a .plan) (s .pre .2)) in
+    let o : extentOf (a .fcb .now) ≡ extentOf (entryAt eightInch (a .image .now) (c .entry-of .result)) = rw (c .entry-of .ensures) (s .pre .3) in search needs
 
 returns : tie.Need-returns
 returns c =
@@ -23,7 +23,7 @@ returns c =
 read-at-requires : tie.Need-read-at-requires
 read-at-requires c κs =
     let s = c .before .before .before .before .before .before .before .before .before .before in let b = c .before .before .before .before .before .block-of in
-    let h : b .result < eightInch .blocks = rw (b .ensures) (block-on-disk eightInch (s .args .plan) (s .pre .6)) in search needs
+    let h : b .result < eightInch .blocks = rw (b .ensures) (block-on-disk eightInch (s .args .plan) (s .pre .2)) in search needs
 
 returns-2 : tie.Need-returns-2
 returns-2 c =

@@ -19,7 +19,7 @@ returns c =
       c .before .before .set-written .ensures,
       told .count-of .ensures,
       told .before .row .ensures .0,
-      count-there _ _ (s .pre .9),
+      count-there _ _ (s .pre .5),
     )
 
 pub write-at-spec : {M : Type 1} → statement M
