@@ -5,7 +5,8 @@ use mathlib.Core.Bool.{true}
 use Rattle.format.specs.Diskette.{eightInch}
 use Rattle.format.specs.Entries.{entryAt}
 use Rattle.disk.specs.Eight.{eight-sound}
-use Rattle.closing.specs.Laws.{closeKeeps, keeps-row, kept-image, closed-image, closed-map}
+use Rattle.merging.specs.Merging.{closeKeeps, keeps-row}
+use Rattle.closing.specs.Laws.{kept-image, closed-image, closed-map}
 use Rattle.fields.specs.Closing.{map-kept}
 use borrow.Author.Needs.{needs}
 use Rattle.closing.proofs.close_entry.Statement.{statement}

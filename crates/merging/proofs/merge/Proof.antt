@@ -1,4 +1,4 @@
--- `closing::merge` meets its contract. The invariant: the slots below j are the merged ones.
+-- `merging::merge` meets its contract. The invariant: the slots below j are the merged ones.
 use mathlib.Core.Path.{_≡_, refl, sym, _∙_}
 use Prim.Native.Nat.{_-_, _≤_}
 use native.Mathlib.Omega.{arith}
@@ -7,10 +7,10 @@ use borrow.Author.Needs.{needs}
 use Rattle.lists.specs.Tab.{Filled, filled-none, filled-more, filled-all}
 use Rattle.format.specs.Diskette.{eightInch, slotCount}
 use Rattle.model.specs.Closing.{mergedByte, mergedSlots}
-use Rattle.closing.specs.Laws.{same-none}
+use Rattle.merging.specs.Merging.{same-none}
 use Rattle.fields.specs.Closing.{merged-none}
-use Rattle.closing.proofs.merge.Statement.{statement}
-use Rattle.closing.proofs.merge.Tie as tie
+use Rattle.merging.proofs.merge.Statement.{statement}
+use Rattle.merging.proofs.merge.Tie as tie
 
 abbrev Inv-loop : tie.InvT-loop
 Inv-loop es fs r₀ j₀ r j = Filled (mergedByte eightInch es fs) r₀ j r × (j ≤ slotCount) × (length r ≡ slotCount)

@@ -1,10 +1,10 @@
--- `closing::merged_byte` meets its contract.
+-- `merging::merged_byte` meets its contract.
 use mathlib.Core.Path.{sym, _∙_}
 use borrow.Author.Needs.{needs}
 use Rattle.format.specs.Entries.{slotAt}
 use Rattle.model.specs.Closing.{mergedByte}
-use Rattle.closing.proofs.merged_byte.Statement.{statement}
-use Rattle.closing.proofs.merged_byte.Tie as tie
+use Rattle.merging.proofs.merged_byte.Statement.{statement}
+use Rattle.merging.proofs.merged_byte.Tie as tie
 
 returns : tie.Need-returns
 unfolding mergedByte slotAt

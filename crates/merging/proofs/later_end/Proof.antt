@@ -4,10 +4,10 @@ use native.Mathlib.Omega.{arith}
 use lib.ListN.{length-set}
 use borrow.Author.Tests.{not-true, not-false}
 use Rattle.fields.specs.Closing.{later-stays}
-use Rattle.closing.specs.Laws.{later-takes}
+use Rattle.merging.specs.Merging.{later-takes}
 use borrow.Author.Needs.{needs}
-use Rattle.closing.proofs.later_end.Statement.{statement}
-use Rattle.closing.proofs.later_end.Tie as tie
+use Rattle.merging.proofs.later_end.Statement.{statement}
+use Rattle.merging.proofs.later_end.Tie as tie
 
 returns : tie.Need-returns
 returns c = sym (later-stays _ _ (sym (c .before .ends-later .ensures) ∙ not-true _ (c .if1 .taken)))

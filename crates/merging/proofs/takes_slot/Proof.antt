@@ -1,12 +1,12 @@
--- `closing::takes_slot` meets its contract.
+-- `merging::takes_slot` meets its contract.
 use Rattle.format.specs.Entries.{slotIn}
 use mathlib.Core.Path.{sym}
 use borrow.Author.Tests.{eq-eqb, ne-eqb}
 use borrow.Author.Needs.{needs}
 use Rattle.lists.specs.Tests.{and-fails-left, and-then}
 use Rattle.model.specs.Closing.{takesSlot}
-use Rattle.closing.proofs.takes_slot.Statement.{statement}
-use Rattle.closing.proofs.takes_slot.Tie as tie
+use Rattle.merging.proofs.takes_slot.Statement.{statement}
+use Rattle.merging.proofs.takes_slot.Tie as tie
 
 returns : tie.Need-returns
 unfolding takesSlot slotIn

@@ -1,9 +1,9 @@
--- `closing::closed_row` meets its contract: the merged slots are put into the row with the later end.
+-- `merging::closed_row` meets its contract: the merged slots are put into the row with the later end.
 use Rattle.format.specs.Diskette.{eightInch}
-use Rattle.closing.specs.Laws.{closed-row}
+use Rattle.merging.specs.Merging.{closed-row}
 use borrow.Author.Needs.{needs}
-use Rattle.closing.proofs.closed_row.Statement.{statement}
-use Rattle.closing.proofs.closed_row.Tie as tie
+use Rattle.merging.proofs.closed_row.Statement.{statement}
+use Rattle.merging.proofs.closed_row.Tie as tie
 
 returns : tie.Need-returns
 returns c =

@@ -1,9 +1,9 @@
 -- The FCB's count decides first, then the two ends.
 use mathlib.Core.Path.{sym, _∙_}
-use Rattle.closing.specs.Laws.{never-later, later-by}
+use Rattle.merging.specs.Merging.{never-later, later-by}
 use borrow.Author.Needs.{needs}
-use Rattle.closing.proofs.ends_later.Statement.{statement}
-use Rattle.closing.proofs.ends_later.Tie as tie
+use Rattle.merging.proofs.ends_later.Statement.{statement}
+use Rattle.merging.proofs.ends_later.Tie as tie
 
 returns : tie.Need-returns
 returns c = sym (never-later _ _ (sym (c .before .count-of .ensures) ∙ c .if1 .taken))

@@ -3,10 +3,10 @@ use mathlib.Core.Path.{sym, ap, _∙_}
 use mathlib.Core.Bool.{not}
 use borrow.Author.Tests.{not-true, not-false}
 use Rattle.lists.specs.Tests.{and-then, and-fails-left}
-use Rattle.closing.specs.Laws.{closeKeeps}
+use Rattle.merging.specs.Merging.{closeKeeps}
 use borrow.Author.Needs.{needs}
-use Rattle.closing.proofs.close_keeps.Statement.{statement}
-use Rattle.closing.proofs.close_keeps.Tie as tie
+use Rattle.merging.proofs.close_keeps.Statement.{statement}
+use Rattle.merging.proofs.close_keeps.Tie as tie
 
 returns : tie.Need-returns
 unfolding closeKeeps

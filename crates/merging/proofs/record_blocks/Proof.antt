@@ -1,4 +1,4 @@
--- `closing::record_blocks` meets its contract. The invariant: the map is what the slots below j have made of it.
+-- `merging::record_blocks` meets its contract. The invariant: the map is what the slots below j have made of it.
 use mathlib.Core.Path.{_≡_, refl, sym, ap, _∙_}
 use Prim.Native.Nat.{_-_, _≤_}
 use native.Mathlib.Omega.{arith}
@@ -7,10 +7,10 @@ use borrow.Author.Needs.{needs}
 use Rattle.lists.specs.Fold.{foldBelow, fold-none, fold-next, fold-done}
 use Rattle.format.specs.Diskette.{Bytes, slotCount, eightInch}
 use Rattle.model.specs.Closing.{closedNote}
-use Rattle.closing.specs.Laws.{same-none}
+use Rattle.merging.specs.Merging.{same-none}
 use Rattle.fields.specs.Closing.{recorded-none}
-use Rattle.closing.proofs.record_blocks.Statement.{statement}
-use Rattle.closing.proofs.record_blocks.Tie as tie
+use Rattle.merging.proofs.record_blocks.Statement.{statement}
+use Rattle.merging.proofs.record_blocks.Tie as tie
 
 abbrev Inv-loop : tie.InvT-loop
 Inv-loop map₀ es fs j₀ map j = (map ≡ foldBelow (closedNote eightInch es fs) map₀ j) × (j ≤ slotCount) × (length map ≡ length map₀)

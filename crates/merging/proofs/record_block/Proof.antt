@@ -1,4 +1,4 @@
--- `closing::record_block` meets its contract: a number past the last block changes no note.
+-- `merging::record_block` meets its contract: a number past the last block changes no note.
 use Rattle.format.specs.Entries.{slotIn}
 use mathlib.Core.Path.{sym, ap, _∙_}
 use Prim.Native.Nat.{ℕ}
@@ -9,8 +9,8 @@ use borrow.Author.Needs.{needs}
 use Rattle.format.specs.Notes.{recordedNote, withNote}
 use Rattle.model.specs.Closing.{closedNote}
 use Rattle.notes.specs.Changes.{note-out}
-use Rattle.closing.proofs.record_block.Statement.{statement}
-use Rattle.closing.proofs.record_block.Tie as tie
+use Rattle.merging.proofs.record_block.Statement.{statement}
+use Rattle.merging.proofs.record_block.Tie as tie
 
 returns : tie.Need-returns
 unfolding closedNote slotIn
