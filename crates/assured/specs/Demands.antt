@@ -34,8 +34,8 @@ use Rattle.demands.specs.Accepted.{accepted-carried}
 use Rattle.demands.specs.Eight.{eight-nothing-lost, eight-read-back}
 use Rattle.targets.specs.declared.Target.{Target}
 use Rattle.targets.specs.Target.{TargetOf}
+use Rattle.script.specs.Script.{request}
 use Rattle.assured.specs.declared.ReadBack.{ReadBack}
-use Rattle.assured.specs.Script.{request}
 
 -- a log-in, with whatever argument, FCB and buffer
 abbrev pub logIn : ℕ → Bytes → Bytes → Request

@@ -1,7 +1,6 @@
 // The demands once more, of `call` itself: functions above it that go by its contract alone, and ask nothing of what they are handed.
 ghost use mathlib.Core.Path.{_≡_};
-ghost use mathlib.Core.Bool.{true};
-ghost use Prim.Native.Nat.{_+_, _≤_, _<_};
+ghost use Prim.Native.Nat.{_<_};
 ghost use lib.ListN.{length};
 ghost use Rattle.format.specs.Diskette.{eightInch, extents, extentRecords};
 ghost use Rattle.format.specs.Fcb.{fcbBytes};
@@ -9,24 +8,13 @@ ghost use Rattle.model.specs.Lent.{lend, outcome};
 ghost use Rattle.model.specs.Step.{step};
 ghost use Rattle.table.specs.Own.{ask};
 ghost use Rattle.effects.specs.Book.{acceptedAnswer};
-ghost use Rattle.demands.specs.Runs.{run};
 ghost use Rattle.targets.specs.Target.{TargetOf};
-ghost use Rattle.assured.specs.Script.{request, askedAt, requests, callsLeft, Ends, diskOf};
+ghost use Rattle.script.specs.Script.{request, requests, diskOf};
 ghost use Rattle.assured.specs.Demands.{logIn, writesAnswer, targetSet, Told, Framed, LoggedIn, ReadsBack};
 use model::Answer;
 use model::Asked;
 use model::Session;
 use targets::Target;
-
-// The numbers of a call in a script: its own, its argument, and the lengths of its FCB and of its buffer.
-const CALL_NUMBERS: usize = 4;
-
-// Where a run stands: past the FCBs and the buffers of the calls that were made, and the session that these left.
-pub struct Point {
-    pub fcbs: usize,
-    pub buffers: usize,
-    pub session: Session,
-}
 
 // What a run comes to: whether its first call was accepted, and the session that it left.
 pub struct Ran {
@@ -82,92 +70,6 @@ fn wrote(number: u8, answer: Answer) -> bool
     false
 }
 
-// What a call of a script asks for: its first two numbers, as bytes. The call is there whole: the loop's test.
-fn asked_at(script: &[usize], at: usize) -> Asked
-    requires { ⌜ at + 4 ≤ length (now script) ⌝ }
-    ensures { λ r. ⌜ r ≡ askedAt (now (script .entry)) at ⌝ }
-{
-    Asked {
-        number: (script[at] % 256) as u8,
-        argument: (script[at + 1] % 256) as u8,
-    }
-}
-
-// Where the next n bytes end, or all of them if fewer are left. A part starts within its slice: the loop's invariant.
-fn ends_at(bytes: &[u8], from: usize, n: usize) -> usize
-    requires { ⌜ from ≤ length (now bytes) ⌝ }
-    ensures { λ r. ⌜ Ends (now (bytes .entry)) from n r ⌝ }
-{
-    if n < bytes.len() - from {
-        return from + n;
-    }
-    bytes.len()
-}
-
-// The next call of a script: those that are left, made on what it leaves, come to what they and it came to before. What it requires is the
-// loop's test and invariant.
-fn make_call(
-    script: &[usize],
-    at: usize,
-    fcbs: &mut [u8],
-    buffers: &mut [u8],
-    image: &mut [u8],
-    map: &mut [u16],
-    p: Point,
-) -> Point
-    requires { ⌜ (at + 4 ≤ length (now script)) × (p .fcbs ≤ length (now fcbs)) × (p .buffers ≤ length (now buffers)) ⌝ }
-    ensures { λ r. ⌜ (callsLeft (now (script .entry)) (at + 4) (now (fcbs .exit)) (now (buffers .exit)) (now (image .exit)) (now (map .exit)) r
-        ≡ callsLeft (now (script .entry)) at (now (fcbs .entry)) (now (buffers .entry)) (now (image .entry)) (now (map .entry)) p)
-        × (r .fcbs ≤ length (now (fcbs .entry))) × (r .buffers ≤ length (now (buffers .entry))) ⌝ }
-{
-    let s = p.session;
-    let fcb_from = p.fcbs;
-    let fcb_to = ends_at(fcbs, fcb_from, script[at + 2]);
-    let from = p.buffers;
-    let to = ends_at(buffers, from, script[at + 3]);
-    let asked = asked_at(script, at);
-    let r = bdos::call(
-        asked,
-        image,
-        map,
-        &mut fcbs[fcb_from..fcb_to],
-        &mut buffers[from..to],
-        s,
-    );
-    let t = r.session;
-    Point {
-        fcbs: fcb_to,
-        buffers: to,
-        session: t,
-    }
-}
-
-// The calls of a script, one after the other, with FCBs and buffers of any length.
-pub fn run_calls(
-    script: &[usize],
-    fcbs: &mut [u8],
-    buffers: &mut [u8],
-    image: &mut [u8],
-    map: &mut [u16],
-    session: Session,
-) -> Session
-    ensures { λ r. ⌜ diskOf (now (image .exit)) (now (map .exit)) r
-        ≡ run eightInch (diskOf (now (image .entry)) (now (map .entry)) session)
-        (requests (now (script .entry)) (now (fcbs .entry)) (now (buffers .entry))) ⌝ }
-{
-    let mut p = Point {
-        fcbs: 0,
-        buffers: 0,
-        session: session,
-    };
-    let mut at = 0;
-    while CALL_NUMBERS <= script.len() - at {
-        p = make_call(script, at, fcbs, buffers, image, map, p);
-        at += CALL_NUMBERS;
-    }
-    p.session
-}
-
 // Demand 3, of `call` itself: a log-in and, where it is accepted, the calls of any script, and nothing is lost.
 pub fn log_in_and_run(
     argument: u8,
@@ -198,7 +100,7 @@ pub fn log_in_and_run(
     }
     Ran {
         accepted: true,
-        session: run_calls(script, fcbs, buffers, image, map, s),
+        session: script::run_calls(script, fcbs, buffers, image, map, s),
     }
 }
 
@@ -265,7 +167,7 @@ pub fn write_and_read(
             answer: write,
         };
     }
-    let s = run_calls(script, fcbs, buffers, image, map, write.session);
+    let s = script::run_calls(script, fcbs, buffers, image, map, write.session);
     ReadBack {
         accepted: true,
         answer: read_again(target, image, map, fcb, back, s),

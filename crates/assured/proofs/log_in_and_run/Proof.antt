@@ -6,7 +6,7 @@ use borrow.Author.Tests.{not-true, not-false}
 use Rattle.model.specs.Lent.{Outcome}
 use Rattle.effects.specs.Book.{acceptedAnswer}
 use Rattle.demands.specs.Runs.{Request, Disk}
-use Rattle.assured.specs.Script.{diskOf}
+use Rattle.script.specs.Script.{diskOf}
 use Rattle.assured.specs.Demands.{logIn, met, met-after, met-says, met-run, login-refused, logged-in}
 use Rattle.assured.proofs.log_in_and_run.Statement.{statement}
 use Rattle.assured.proofs.log_in_and_run.Tie as tie

@@ -1,8 +1,8 @@
--- `assured::ends_at` meets its contract: n bytes are there, or the slice ends first.
+-- `script::ends_at` meets its contract: n bytes are there, or the slice ends first.
 use borrow.Author.Needs.{needs}
-use Rattle.assured.specs.Script.{ends-within, ends-short}
-use Rattle.assured.proofs.ends_at.Statement.{statement}
-use Rattle.assured.proofs.ends_at.Tie as tie
+use Rattle.script.specs.Script.{ends-within, ends-short}
+use Rattle.script.proofs.ends_at.Statement.{statement}
+use Rattle.script.proofs.ends_at.Tie as tie
 
 returns : tie.Need-returns
 returns c = ends-within _ _ _ (search needs) (search needs)

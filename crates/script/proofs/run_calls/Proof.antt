@@ -1,11 +1,11 @@
--- `assured::run_calls` meets its contract. The invariant: the calls that are left, made on the disk as it is, come to what all of them do.
+-- `script::run_calls` meets its contract. The invariant: the calls that are left, made on the disk as it is, come to what all of them do.
 use mathlib.Core.Path.{_≡_, refl, sym, _∙_}
 use Prim.Native.Nat.{_-_, _≤_}
 use native.Mathlib.Omega.{arith}
 use lib.ListN.{length}
-use Rattle.assured.specs.Script.{callsLeft, calls-none}
-use Rattle.assured.proofs.run_calls.Statement.{statement}
-use Rattle.assured.proofs.run_calls.Tie as tie
+use Rattle.script.specs.Script.{callsLeft, calls-none}
+use Rattle.script.proofs.run_calls.Statement.{statement}
+use Rattle.script.proofs.run_calls.Tie as tie
 
 abbrev Inv-loop : tie.InvT-loop
 Inv-loop script fcbs₀ buffers₀ image₀ map₀ p₀ at₀ fcbs buffers image map p at =

@@ -12,7 +12,7 @@ use Rattle.model.specs.declared.Session.{Session}
 use Rattle.model.specs.Lent.{Lent, lend, Outcome}
 use Rattle.model.specs.Step.{step}
 use Rattle.demands.specs.Runs.{Request, Disk, outcomeOf, after, run}
-use Rattle.assured.specs.declared.Point.{Point}
+use Rattle.script.specs.declared.Point.{Point}
 
 abbrev pub request : Asked → Bytes → Bytes → Request
 request asked fcb buffer = record { asked = asked; fcb = fcb; buffer = buffer }

@@ -1,9 +1,9 @@
--- `assured::make_call` meets its contract: the call is made of the script's numbers and of the next parts of the two slices.
+-- `script::make_call` meets its contract: the call is made of the script's numbers and of the next parts of the two slices.
 use borrow.Author.Needs.{needs}
 use Rattle.model.specs.Lent.{Lent}
-use Rattle.assured.specs.Script.{length-mended, calls-next}
-use Rattle.assured.proofs.make_call.Statement.{statement}
-use Rattle.assured.proofs.make_call.Tie as tie
+use Rattle.script.specs.Script.{length-mended, calls-next}
+use Rattle.script.proofs.make_call.Statement.{statement}
+use Rattle.script.proofs.make_call.Tie as tie
 
 same-length : tie.Need-same-length
 same-length c = let m = c .before .before .before .before .before .before .before .before .before .call in length-mended (λ (l : Lent). l .fcb) _ _ (m .ensures) _ _ _ _ (c .before .before .before .before .before .before .before .before .before .before .before .before .before .before .before .before .before .before .ends-at .ensures) (m .kept .1 .1 .1 .0)

@@ -1,0 +1,105 @@
+// A script: calls of any lengths in plain numbers and bytes, made one after another through the public call.
+ghost use mathlib.Core.Path.{_≡_};
+ghost use Prim.Native.Nat.{_+_, _≤_};
+ghost use lib.ListN.{length};
+ghost use Rattle.format.specs.Diskette.{eightInch};
+ghost use Rattle.demands.specs.Runs.{run};
+ghost use Rattle.script.specs.Script.{askedAt, requests, callsLeft, Ends, diskOf};
+use model::Asked;
+use model::Session;
+
+// The numbers of a call in a script: its own, its argument, and the lengths of its FCB and of its buffer.
+const CALL_NUMBERS: usize = 4;
+
+// Where a run stands: past the FCBs and the buffers of the calls that were made, and the session that these left.
+struct Point {
+    fcbs: usize,
+    buffers: usize,
+    session: Session,
+}
+
+// What a call of a script asks for: its first two numbers, as bytes. The call is there whole: the loop's test.
+fn asked_at(script: &[usize], at: usize) -> Asked
+    requires { ⌜ at + 4 ≤ length (now script) ⌝ }
+    ensures { λ r. ⌜ r ≡ askedAt (now (script .entry)) at ⌝ }
+{
+    Asked {
+        number: (script[at] % 256) as u8,
+        argument: (script[at + 1] % 256) as u8,
+    }
+}
+
+// Where the next n bytes end, or all of them if fewer are left. A part starts within its slice: the loop's invariant.
+fn ends_at(bytes: &[u8], from: usize, n: usize) -> usize
+    requires { ⌜ from ≤ length (now bytes) ⌝ }
+    ensures { λ r. ⌜ Ends (now (bytes .entry)) from n r ⌝ }
+{
+    if n < bytes.len() - from {
+        return from + n;
+    }
+    bytes.len()
+}
+
+// The next call of a script: those that are left, made on what it leaves, come to what they and it came to before. What it requires is the
+// loop's test and invariant.
+fn make_call(
+    script: &[usize],
+    at: usize,
+    fcbs: &mut [u8],
+    buffers: &mut [u8],
+    image: &mut [u8],
+    map: &mut [u16],
+    p: Point,
+) -> Point
+    requires { ⌜ (at + 4 ≤ length (now script)) × (p .fcbs ≤ length (now fcbs)) × (p .buffers ≤ length (now buffers)) ⌝ }
+    ensures { λ r. ⌜ (callsLeft (now (script .entry)) (at + 4) (now (fcbs .exit)) (now (buffers .exit)) (now (image .exit)) (now (map .exit)) r
+        ≡ callsLeft (now (script .entry)) at (now (fcbs .entry)) (now (buffers .entry)) (now (image .entry)) (now (map .entry)) p)
+        × (r .fcbs ≤ length (now (fcbs .entry))) × (r .buffers ≤ length (now (buffers .entry))) ⌝ }
+{
+    let s = p.session;
+    let fcb_from = p.fcbs;
+    let fcb_to = ends_at(fcbs, fcb_from, script[at + 2]);
+    let from = p.buffers;
+    let to = ends_at(buffers, from, script[at + 3]);
+    let asked = asked_at(script, at);
+    let r = bdos::call(
+        asked,
+        image,
+        map,
+        &mut fcbs[fcb_from..fcb_to],
+        &mut buffers[from..to],
+        s,
+    );
+    let t = r.session;
+    Point {
+        fcbs: fcb_to,
+        buffers: to,
+        session: t,
+    }
+}
+
+// The calls of a script, one after the other, with FCBs and buffers of any length.
+pub fn run_calls(
+    script: &[usize],
+    fcbs: &mut [u8],
+    buffers: &mut [u8],
+    image: &mut [u8],
+    map: &mut [u16],
+    session: Session,
+) -> Session
+    ensures { λ r. ⌜ diskOf (now (image .exit)) (now (map .exit)) r
+        ≡ run eightInch (diskOf (now (image .entry)) (now (map .entry)) session)
+        (requests (now (script .entry)) (now (fcbs .entry)) (now (buffers .entry))) ⌝ }
+{
+    let mut p = Point {
+        fcbs: 0,
+        buffers: 0,
+        session: session,
+    };
+    let mut at = 0;
+    while CALL_NUMBERS <= script.len() - at {
+        p = make_call(script, at, fcbs, buffers, image, map, p);
+        at += CALL_NUMBERS;
+    }
+    p.session
+}
