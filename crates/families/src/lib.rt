@@ -1,20 +1,19 @@
 // Calls 19 and 23, which change every extent of the files that they name: these are deleted or renamed.
 ghost use mathlib.Core.Path.{_≡_};
 ghost use mathlib.Core.Bool.{true, false};
-ghost use Prim.Native.Nat.{ℕ, _≤_, _<_};
+ghost use Prim.Native.Nat.{_≤_, _<_};
 ghost use lib.ListN.{length};
 ghost use Rattle.lists.specs.Tests.{_and_};
 ghost use Rattle.format.specs.Diskette.{Bytes, eightInch, Long, entryBytes};
 ghost use Rattle.format.specs.Entries.{entryAt, named, readOnly};
-ghost use Rattle.format.specs.Notes.{mapRight, releasedMap};
+ghost use Rattle.format.specs.Notes.{mapRight};
 ghost use Rattle.format.specs.Fcb.{fcbBytes};
 ghost use Rattle.model.specs.Lent.{lend, outcome};
 ghost use Rattle.model.specs.Table.{anyReadOnly};
 ghost use Rattle.model.specs.Entering.{renamedRow};
-ghost use Rattle.model.specs.Calls.{changedRow, changedRows, erasedRow};
+ghost use Rattle.model.specs.Calls.{changedRow, changedRows};
 ghost use Rattle.table.specs.Own.{calling};
 ghost use Rattle.table.specs.OwnStep.{ownStep};
-ghost use Rattle.families.specs.Erasing.{Erased};
 ghost use Rattle.model.specs.declared.Asked.{Asked};
 use format::ENTRIES;
 use format::Found;
@@ -97,38 +96,6 @@ pub fn rename_file(image: &mut [u8], fcb: &[u8], session: Session) -> Answer
     answers::done(0, session)
 }
 
-// Empties an entry that the FCB names and frees the blocks that it lists; the answer is its mark.
-fn erase_entry(image: &mut [u8], map: &mut [u16], e: usize, user: u8, fcb: &[u8]) -> u8
-    requires { ⌜ Long eightInch (now image) × (length (now map) ≡ eightInch .blocks) × (e < eightInch .entries) × (length (now fcb) ≡ fcbBytes) ⌝ }
-    ensures { λ r. ⌜ Erased eightInch (named true user (now (fcb .entry)) 1) (now (image .entry)) (now (map .entry)) e (now (image .exit)) (now (map .exit)) r ⌝ }
-{
-    let r = rows::row(image, e);
-    if !entries::is_named(true, user, fcb, 1, r) {
-        return 0;
-    }
-    freeing::free_slots(map, entries::slots(r));
-    let at = rows::entry_place(e);
-    image[at] = 0xE5;
-    1
-}
-
-// Empties the entries that the FCB names; the blocks that they list, and those that are pending for them, become free.
-fn erase_entries(image: &mut [u8], map: &mut [u16], user: u8, fcb: &[u8])
-    requires { ⌜ Long eightInch (now image) × (length (now map) ≡ eightInch .blocks) × (length (now fcb) ≡ fcbBytes) × (user ≤ 15)
-        × (mapRight eightInch (entryAt eightInch (now image)) (now map) ≡ true) ⌝ }
-    ensures { λ _. ⌜ (now (image .exit) ≡ changedRows eightInch (named true user (now (fcb .entry)) 1) erasedRow (now (image .entry)))
-        × (now (map .exit) ≡ releasedMap eightInch (entryAt eightInch (now (image .entry)))
-        (λ (e : ℕ). named true user (now (fcb .entry)) 1 (entryAt eightInch (now (image .entry)) e)) (now (map .entry))) ⌝ }
-{
-    let mut picked = [0u8; ENTRIES];
-    let mut e = 0;
-    while e < ENTRIES {
-        picked[e] = erase_entry(image, map, e, user, fcb);
-        e += 1;
-    }
-    freeing::free_held(map, &picked);
-}
-
 // 19: every extent that the name matches becomes empty, and the blocks of all of them free.
 pub fn delete_file(image: &mut [u8], map: &mut [u16], fcb: &[u8], session: Session) -> Answer
     requires { ⌜ Long eightInch (now image) × (length (now map) ≡ eightInch .blocks) × (length (now fcb) ≡ fcbBytes) × (session .user ≤ 15)
@@ -146,6 +113,6 @@ pub fn delete_file(image: &mut [u8], map: &mut [u16], fcb: &[u8], session: Sessi
     if any_read_only(image, true, user, fcb) {
         return answers::refuse(Code::ReadOnly, session);
     }
-    erase_entries(image, map, user, fcb);
+    erasing::erase_entries(image, map, user, fcb);
     answers::done(0, session)
 }

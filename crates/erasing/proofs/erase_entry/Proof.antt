@@ -10,8 +10,8 @@ use Rattle.format.specs.Entries.{entryAt, named}
 use Rattle.model.specs.Calls.{changedRow}
 use Rattle.disk.specs.Eight.{eight-sound}
 use Rattle.fields.specs.Changing.{erased-in-place}
-use Rattle.families.proofs.erase_entry.Statement.{statement}
-use Rattle.families.proofs.erase_entry.Tie as tie
+use Rattle.erasing.proofs.erase_entry.Statement.{statement}
+use Rattle.erasing.proofs.erase_entry.Tie as tie
 
 returns : tie.Need-returns
 unfolding changedRow

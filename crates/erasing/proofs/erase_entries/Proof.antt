@@ -9,9 +9,9 @@ use Rattle.format.specs.Diskette.{eightInch}
 use Rattle.format.specs.Entries.{named}
 use Rattle.disk.specs.Eight.{eight-sound}
 use Rattle.consistency.specs.Naming.{named-used}
-use Rattle.families.specs.Erasing.{Erasing, erasing-none, erasing-more, erasing-image, erasing-map}
-use Rattle.families.proofs.erase_entries.Statement.{statement}
-use Rattle.families.proofs.erase_entries.Tie as tie
+use Rattle.erasing.specs.Erasing.{Erasing, erasing-none, erasing-more, erasing-image, erasing-map}
+use Rattle.erasing.proofs.erase_entries.Statement.{statement}
+use Rattle.erasing.proofs.erase_entries.Tie as tie
 
 abbrev Inv-loop : tie.InvT-loop
 Inv-loop image₀ map₀ user fcb picked₀ e₀ image map picked e =
