@@ -1,6 +1,6 @@
 -- On the 8-inch disk an entry covers one extent, and a block number takes one byte. There the definitions that are said for other disks too are
 -- document 01's own words. These laws stand here for the reader; two more are `facts/Naming: covers-own` (the extent that a row covers) and
--- `searching/Searches: extent-by-bytes` (the extent that byte 12 of a search asks for).
+-- `hits/Hits: extent-by-bytes` (the extent that byte 12 of a search asks for).
 use mathlib.Core.Path.{_≡_, refl, ap, sym, _∙_}
 use mathlib.Core.Bool.{true, cond, not}
 use Prim.Native.Nat.{ℕ, _%_, _<_}

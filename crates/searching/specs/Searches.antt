@@ -1,19 +1,16 @@
 -- What calls 17 and 18 share: the search from a place on, which is over or finds a match. And the first entry that a pattern hits.
 use mathlib.Core.Path.{_≡_, refl, sym, ap, _∙_}
 use mathlib.Core.Bool.{Bool, true, false, cond, not}
-use Prim.Native.Nat.{ℕ, _+_, _*_, _/_}
-use native.Mathlib.Omega.{arith}
+use Prim.Native.Nat.{ℕ, _+_, _/_}
 use lib.Dec.{eqb, leb, ltb}
-use lib.ListN.{getD}
-use borrow.Author.Tests.{eqb-true, eq-eqb, ne-eqb, le-ltb, lt-ltb, le-leb, lt-leb}
-use Rattle.lists.specs.Cases.{split, bool-cases, bool-ext, lt-or-le}
-use Rattle.lists.specs.Tests.{_and_, _or_, and-then, and-first, and-left, and-right, and-both}
-use Rattle.format.specs.Diskette.{Bytes, Geometry, eightInch, recordAt, entriesPerRecord}
-use Rattle.format.specs.Names.{nameLike, nameRight}
-use Rattle.format.specs.Entries.{Rows, userOf, exOf, s2Of, extentOf, covers, named}
+use borrow.Author.Tests.{ne-eqb, le-ltb, lt-ltb, le-leb, lt-leb}
+use Rattle.lists.specs.Cases.{split, bool-cases, lt-or-le}
+use Rattle.lists.specs.Tests.{_and_, _or_, and-then, and-left, and-right}
+use Rattle.format.specs.Diskette.{Bytes, Geometry, recordAt, entriesPerRecord}
+use Rattle.format.specs.Names.{nameRight}
+use Rattle.format.specs.Entries.{Rows, exOf}
 use Rattle.format.specs.Found.{numberOf, isFound}
 use Rattle.facts.specs.Found.{FirstAt, first-says}
-use Rattle.facts.specs.Naming.{covers-own}
 use Rattle.format.specs.declared.Found.{Found}
 use Rattle.format.specs.declared.Found.the-variants.{At, Nothing}
 use Rattle.model.specs.declared.Asked.{Asked}
@@ -21,7 +18,7 @@ use Rattle.model.specs.declared.Session.{Session}
 use Rattle.model.specs.declared.Answer.{Answer}
 use Rattle.model.specs.declared.Code.the-variants.{Accepted, Failed, BadName, SearchOver}
 use Rattle.model.specs.Lent.{Lent, Outcome, rowsOf, outcome, answerOf, ended, searching, searchOn}
-use Rattle.model.specs.Search.{patternOf, extentHit, hit, findHit}
+use Rattle.model.specs.Search.{patternOf, findHit}
 use Rattle.model.specs.Calls.{entryNumber, foundAt, searched}
 use Rattle.model.specs.Kinds.{kindOf}
 use Rattle.model.specs.Step.{refused, effect, pattern, place}
@@ -29,29 +26,9 @@ use Rattle.table.specs.First.{_&_, Decides, here, later}
 use Rattle.model.specs.Table.{ownRows}
 use Rattle.table.specs.Own.{calling}
 use Rattle.table.specs.OwnStep.{ownStep, own-refused, own-carried}
+use Rattle.hits.specs.Hits.{hitTest}
 
--- among the user's rows whose extent is asked for, the name decides
-pub hit-by-name : (G : Geometry) (user : ℕ) (pattern row : Bytes) → userOf row ≡ user → extentHit G (getD pattern 11 0) row ≡ true
-    → hit G user pattern row ≡ nameLike true pattern 0 row 1
-unfolding hit named
-hit-by-name G user pattern row h t = and-first _ _ t ∙ and-then _ _ (eq-eqb _ _ h)
-
--- on the 8-inch disk an entry covers one extent, so byte 12 asks for its ex, with s2 0
-pub extent-by-bytes : (x : ℕ) (row : Bytes) → extentHit eightInch x row ≡ (eqb x 63 or (eqb (exOf row) x and eqb (s2Of row) 0))
-unfolding extentHit extentOf
-extent-by-bytes x row =
-    let same : (covers eightInch row x and eqb (s2Of row) 0) ≡ (eqb (exOf row) x and eqb (s2Of row) 0) =
-    bool-ext _ _
-    (λ t. let a : 32 * s2Of row + exOf row ≡ x = eqb-true (extentOf row) x (sym (covers-own row x) ∙ and-left _ _ t) in
-    let b : s2Of row ≡ 0 = eqb-true _ _ (and-right _ _ t) in and-both _ _ (eq-eqb (exOf row) x (omega arith)) (and-right _ _ t))
-    (λ t. let a : exOf row ≡ x = eqb-true _ _ (and-left _ _ t) in
-    let b : s2Of row ≡ 0 = eqb-true _ _ (and-right _ _ t) in and-both _ _ (covers-own row x ∙ eq-eqb (extentOf row) x (omega arith)) (and-right _ _ t)) in
-    rw same
-
--- the test of the look-up, at an entry
-abbrev pub hitTest : Geometry → Rows → ℕ → Bytes → ℕ → Bool
-hitTest G d user pattern e = hit G user pattern (d e)
-
+-- what the look-up answers is the first entry from i on that the pattern hits
 pub hit-says : (G : Geometry) (d : Rows) (user : ℕ) (pattern : Bytes) (i e : ℕ) → findHit G d user pattern i ≡ At e
     → FirstAt (hitTest G d user pattern) i (G .entries) e
 unfolding findHit

@@ -1,67 +1,18 @@
-// The searches: a row against a pattern, the first entry that a pattern hits, and calls 17 and 18. Each call is handed only what it
-// reads or changes; what it promises holds whatever the other buffers are.
+// The searches, calls 17 and 18. Each is handed only what it reads or changes; what it promises holds whatever the other buffers are.
 ghost use mathlib.Core.Path.{_≡_};
-ghost use Prim.Native.Nat.{_≤_};
 ghost use lib.ListN.{length};
-ghost use Rattle.format.specs.Diskette.{Bytes, eightInch, recordBytes, Long, entryBytes};
-ghost use Rattle.format.specs.Entries.{entryAt};
+ghost use Rattle.format.specs.Diskette.{Bytes, eightInch, recordBytes, Long};
 ghost use Rattle.format.specs.Fcb.{fcbBytes};
 ghost use Rattle.model.specs.Lent.{lend, outcome};
-ghost use Rattle.model.specs.Search.{patternBytes, extentHit, hit, findHit};
 ghost use Rattle.table.specs.Own.{calling};
 ghost use Rattle.table.specs.OwnStep.{ownStep};
 ghost use Rattle.searching.specs.Searches.{patternRight, searchedFrom};
 ghost use Rattle.model.specs.declared.Asked.{Asked};
-use format::ENTRIES;
 use format::ENTRIES_PER_RECORD;
 use format::Found;
 use model::Answer;
 use model::Code;
 use model::Session;
-
-// Whether byte 12 of a pattern asks for a row's extent: 3FH for any, another value for the same ex where s2 is 0, which is the row that covers
-// that extent.
-fn extent_hit(x: u8, row: &[u8]) -> bool
-    requires { ⌜ entryBytes ≤ length (now row) ⌝ }
-    ensures { λ r. ⌜ r ≡ extentHit eightInch x (now (row .entry)) ⌝ }
-{
-    if x == 63 {
-        return true;
-    }
-    if row[12] != x {
-        return false;
-    }
-    row[14] == 0
-}
-
-// Whether a row is the user's and matches a pattern. The name is compared last: it takes longest.
-fn hit(user: u8, pattern: &[u8], row: &[u8]) -> bool
-    requires { ⌜ (patternBytes ≤ length (now pattern)) × (entryBytes ≤ length (now row)) ⌝ }
-    ensures { λ r. ⌜ r ≡ hit eightInch user (now (pattern .entry)) (now (row .entry)) ⌝ }
-{
-    if row[0] != user {
-        return false;
-    }
-    if !extent_hit(pattern[11], row) {
-        return false;
-    }
-    matching::name_like(true, pattern, 0, row, 1)
-}
-
-// The first entry from a place on that a pattern hits.
-fn find_hit(image: &[u8], user: u8, pattern: &[u8], from: usize) -> Found
-    requires { ⌜ Long eightInch (now image) × (patternBytes ≤ length (now pattern)) ⌝ }
-    ensures { λ r. ⌜ r ≡ findHit eightInch (entryAt eightInch (now (image .entry))) user (now (pattern .entry)) from ⌝ }
-{
-    let mut e = from;
-    while e < ENTRIES {
-        if hit(user, pattern, rows::row(image, e)) {
-            return Found::At(e);
-        }
-        e += 1;
-    }
-    Found::Nothing
-}
 
 // The first match from a place on: its directory record goes into the buffer, and the search goes on one past it. Without a match the
 // search is over.
@@ -77,7 +28,7 @@ fn first_match(
         ≡ searchedFrom eightInch session (lend (now (image .entry)) map fcb (now (buffer .entry))) pattern from) ⌝ }
 {
     let user = session.user;
-    let Found::At(e) = find_hit(image, user, &pattern, from) else {
+    let Found::At(e) = hits::find_hit(image, user, &pattern, from) else {
         return answers::refuse(Code::SearchOver, session);
     };
     disk::read_record(image, e / ENTRIES_PER_RECORD, buffer);

@@ -3,9 +3,9 @@ use mathlib.Core.Path.{sym, _∙_}
 use borrow.Author.Needs.{needs}
 use borrow.Author.Tests.{eq-eqb, ne-eqb}
 use Rattle.lists.specs.Tests.{or-left, or-then, and-fails-left, and-then}
-use Rattle.searching.specs.Searches.{extent-by-bytes}
-use Rattle.searching.proofs.extent_hit.Statement.{statement}
-use Rattle.searching.proofs.extent_hit.Tie as tie
+use Rattle.hits.specs.Hits.{extent-by-bytes}
+use Rattle.hits.proofs.extent_hit.Statement.{statement}
+use Rattle.hits.proofs.extent_hit.Tie as tie
 
 returns : tie.Need-returns
 returns c = sym (extent-by-bytes _ _ ∙ or-left _ _ (eq-eqb _ _ (c .if1 .taken)))

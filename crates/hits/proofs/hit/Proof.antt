@@ -7,9 +7,9 @@ use Rattle.lists.specs.Tests.{and-fails-left, and-fails-right}
 use Rattle.format.specs.Diskette.{eightInch}
 use Rattle.format.specs.Entries.{named}
 use Rattle.model.specs.Search.{hit}
-use Rattle.searching.specs.Searches.{hit-by-name}
-use Rattle.searching.proofs.hit.Statement.{statement}
-use Rattle.searching.proofs.hit.Tie as tie
+use Rattle.hits.specs.Hits.{hit-by-name}
+use Rattle.hits.proofs.hit.Statement.{statement}
+use Rattle.hits.proofs.hit.Tie as tie
 
 returns : tie.Need-returns
 unfolding hit named

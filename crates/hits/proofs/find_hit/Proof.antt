@@ -9,9 +9,9 @@ use Rattle.format.specs.Diskette.{eightInch}
 use Rattle.format.specs.Entries.{entryAt}
 use Rattle.facts.specs.Found.{look-hit, look-end}
 use Rattle.model.specs.Search.{findHit}
-use Rattle.searching.specs.Searches.{hitTest}
-use Rattle.searching.proofs.find_hit.Statement.{statement}
-use Rattle.searching.proofs.find_hit.Tie as tie
+use Rattle.hits.specs.Hits.{hitTest}
+use Rattle.hits.proofs.find_hit.Statement.{statement}
+use Rattle.hits.proofs.find_hit.Tie as tie
 
 abbrev Inv-loop : tie.InvT-loop
 Inv-loop image user pattern from e₀ e =
