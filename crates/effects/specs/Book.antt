@@ -17,7 +17,6 @@ use Rattle.model.specs.Lent.{Lent, rowsOf, Outcome}
 use Rattle.model.specs.Closing.{takesSlot}
 use Rattle.model.specs.Target.{targetSlot, stays, blockThere}
 use Rattle.model.specs.Kinds.{kindOf, same, ofRecord}
-use Rattle.model.specs.declared.Kind.{Kind}
 use Rattle.model.specs.declared.Kind.the-variants.{Settle, Close, Delete, Read, Write}
 
 -- the place that each block is held for, written as its note would be (`pendingFor`); 0 where it is not held

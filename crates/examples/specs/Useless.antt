@@ -1,7 +1,7 @@
 -- The useless builds of document 01: for each an input at which it does something else than `step`. The inputs stand on an erased disk,
 -- or on one with a single file, straight after a log-in.
 use mathlib.Core.Path.{_≡_, refl, sym, ap, _∙_}
-use mathlib.Core.Bool.{true, not}
+use mathlib.Core.Bool.{true}
 use mathlib.Core.List.{List, [], _∷_}
 use Prim.Native.Nat.{ℕ, zero, suc, _*_, _%_, _≤_}
 use native.Mathlib.Omega.{arith}

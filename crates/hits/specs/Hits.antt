@@ -1,4 +1,4 @@
--- A row against a search pattern: the name decides last, and byte 12 asks for two bytes of a row. And the test of the look-up.
+-- A row against a search pattern: the name decides last, and byte 12 asks for two bytes of a row. And the first entry that a pattern hits.
 use mathlib.Core.Path.{_≡_, sym, _∙_}
 use mathlib.Core.Bool.{Bool, true}
 use Prim.Native.Nat.{ℕ, _+_, _*_}
@@ -12,7 +12,9 @@ use Rattle.format.specs.Diskette.{Bytes, Geometry, eightInch}
 use Rattle.format.specs.Names.{nameLike}
 use Rattle.format.specs.Entries.{Rows, userOf, exOf, s2Of, extentOf, covers, named}
 use Rattle.facts.specs.Naming.{covers-own}
-use Rattle.model.specs.Search.{extentHit, hit}
+use Rattle.facts.specs.Found.{FirstAt, first-says}
+use Rattle.format.specs.declared.Found.the-variants.{At}
+use Rattle.model.specs.Search.{extentHit, hit, findHit}
 
 -- among the user's rows whose extent is asked for, the name decides
 pub hit-by-name : (G : Geometry) (user : ℕ) (pattern row : Bytes) → userOf row ≡ user → extentHit G (getD pattern 11 0) row ≡ true
@@ -35,3 +37,9 @@ extent-by-bytes x row =
 -- the test of the look-up, at an entry
 abbrev pub hitTest : Geometry → Rows → ℕ → Bytes → ℕ → Bool
 hitTest G d user pattern e = hit G user pattern (d e)
+
+-- what the look-up answers is the first entry from i on that the pattern hits
+pub hit-says : (G : Geometry) (d : Rows) (user : ℕ) (pattern : Bytes) (i e : ℕ) → findHit G d user pattern i ≡ At e
+    → FirstAt (hitTest G d user pattern) i (G .entries) e
+unfolding findHit
+hit-says G d user pattern i e q = first-says (hitTest G d user pattern) i (G .entries) e q

@@ -1,4 +1,4 @@
-// A script: calls of any lengths in plain numbers and bytes, made one after another through the public call.
+// A script: calls in plain numbers, with FCBs and buffers of any lengths, made one after another through the public call.
 ghost use mathlib.Core.Path.{_≡_};
 ghost use Prim.Native.Nat.{_+_, _≤_};
 ghost use lib.ListN.{length};

@@ -1,4 +1,4 @@
--- What calls 17 and 18 share: the search from a place on, which is over or finds a match. And the first entry that a pattern hits.
+-- What calls 17 and 18 share: the search from a place on, which is over or finds a match.
 use mathlib.Core.Path.{_≡_, refl, sym, ap, _∙_}
 use mathlib.Core.Bool.{Bool, true, false, cond, not}
 use Prim.Native.Nat.{ℕ, _+_, _/_}
@@ -8,9 +8,8 @@ use Rattle.lists.specs.Cases.{split, bool-cases, lt-or-le}
 use Rattle.lists.specs.Tests.{_and_, _or_, and-then, and-left, and-right}
 use Rattle.format.specs.Diskette.{Bytes, Geometry, recordAt, entriesPerRecord}
 use Rattle.format.specs.Names.{nameRight}
-use Rattle.format.specs.Entries.{Rows, exOf}
+use Rattle.format.specs.Entries.{exOf}
 use Rattle.format.specs.Found.{numberOf, isFound}
-use Rattle.facts.specs.Found.{FirstAt, first-says}
 use Rattle.format.specs.declared.Found.{Found}
 use Rattle.format.specs.declared.Found.the-variants.{At, Nothing}
 use Rattle.model.specs.declared.Asked.{Asked}
@@ -26,13 +25,6 @@ use Rattle.table.specs.First.{_&_, Decides, here, later}
 use Rattle.model.specs.Table.{ownRows}
 use Rattle.table.specs.Own.{calling}
 use Rattle.table.specs.OwnStep.{ownStep, own-refused, own-carried}
-use Rattle.hits.specs.Hits.{hitTest}
-
--- what the look-up answers is the first entry from i on that the pattern hits
-pub hit-says : (G : Geometry) (d : Rows) (user : ℕ) (pattern : Bytes) (i e : ℕ) → findHit G d user pattern i ≡ At e
-    → FirstAt (hitTest G d user pattern) i (G .entries) e
-unfolding findHit
-hit-says G d user pattern i e q = first-says (hitTest G d user pattern) i (G .entries) e q
 
 -- the name rule for a pattern, and byte 12 in range or 3FH
 unfoldable pub patternRight : Bytes → Bool

@@ -3,7 +3,6 @@ use mathlib.Core.Path.{_≡_, refl, sym}
 use mathlib.Core.List.{List, [], _∷_}
 use Prim.Native.Nat.{ℕ}
 use Rattle.model.specs.Kinds.{Listed, calls, lineIn, kindOf, same}
-use Rattle.model.specs.declared.Kind.{Kind}
 use Rattle.model.specs.declared.Kind.the-variants.{Unlisted}
 use Rattle.table.specs.Own.{same-is}
 use Rattle.calls.specs.Arms.{at, None, rest}

@@ -7,7 +7,8 @@ use Rattle.format.specs.Entries.{entryAt}
 use Rattle.format.specs.declared.Found.the-variants.{At}
 use Rattle.model.specs.Lent.{lend}
 use Rattle.model.specs.Search.{findHit}
-use Rattle.searching.specs.Searches.{hit-says, answers-over, answers-found}
+use Rattle.hits.specs.Hits.{hit-says}
+use Rattle.searching.specs.Searches.{answers-over, answers-found}
 use borrow.Author.Needs.{needs}
 use Rattle.searching.proofs.first_match.Statement.{statement}
 use Rattle.searching.proofs.first_match.Tie as tie
