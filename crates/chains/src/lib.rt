@@ -28,7 +28,7 @@ fn same_file(r: &[u8], t: &[u8]) -> bool
     requires { ⌜ (entryBytes ≤ length (now r)) × (entryBytes ≤ length (now t)) × (used (now r) ≡ true) × (used (now t) ≡ true) ⌝ }
     ensures { λ b. ⌜ b ≡ sameFile eightInch (now (r .entry)) (now (t .entry)) ⌝ }
 {
-    entries::is_file(t[0], t, 1, entries::extent(t), r)
+    lookups::is_file(t[0], t, 1, entries::extent(t), r)
 }
 
 // Whether no entry before e, whose row is r, is of the same file: only those of its key are looked at.
@@ -70,7 +70,7 @@ pub fn find_file(image: &[u8], chain: &[u8], user: u8, s: &[u8], q: usize, ext: 
 {
     let mut f = lists::wide(chain[keys::file_key(user, s, q, ext)]);
     while f != 0 {
-        if entries::is_file(user, s, q, ext, rows::row(image, f - 1)) {
+        if lookups::is_file(user, s, q, ext, rows::row(image, f - 1)) {
             return Found::At(f - 1);
         }
         f = lists::wide(chain[KEYS + (f - 1)]);

@@ -1,14 +1,10 @@
-// What an entry says, and an FCB in the same bytes: its slots, its extent, its count, its t1', whether it is asked for; and the look-ups
-// of entries by it.
+// What an entry says, and an FCB in the same bytes: its slots, its extent, its count, its end and its t1'.
 ghost use mathlib.Core.Path.{_≡_};
 ghost use Prim.Native.Nat.{_+_, _≤_, _<_};
 ghost use lib.ListN.{length};
-ghost use Rattle.format.specs.Diskette.{eightInch, Long, entryBytes, extentRecords, slotCount};
-ghost use Rattle.format.specs.Names.{nameBytes};
+ghost use Rattle.format.specs.Diskette.{eightInch, entryBytes, extentRecords, slotCount};
 ghost use Rattle.format.specs.Consistent.{extentRight};
-ghost use Rattle.format.specs.Entries.{entryAt, slotsOf, extentOf, runOf, covers, countOf, endOf, slotFor, readOnly, named, isFile, findNamed, findEmpty};
-use format::ENTRIES;
-use format::Found;
+ghost use Rattle.format.specs.Entries.{slotsOf, extentOf, runOf, covers, countOf, endOf, slotFor, readOnly};
 
 // The sixteen slots of a row or an FCB, into s. Where they are only compared, a compiler copies them so as one vector.
 pub fn copy_slots(r: &[u8], s: &mut [u8])
@@ -44,7 +40,7 @@ fn run_of(ext: usize) -> usize
 }
 
 // Whether a row covers an extent.
-fn covers_extent(r: &[u8], ext: usize) -> bool
+pub fn covers_extent(r: &[u8], ext: usize) -> bool
     requires { ⌜ entryBytes ≤ length (now r) ⌝ }
     ensures { λ b. ⌜ b ≡ covers eightInch (now (r .entry)) ext ⌝ }
 {
@@ -92,59 +88,4 @@ pub fn is_read_only(r: &[u8]) -> bool
     ensures { λ b. ⌜ b ≡ readOnly (now (r .entry)) ⌝ }
 {
     128 <= r[9]
-}
-
-// Whether a row is the user's, and its name is what the name in s at q asks for.
-pub fn is_named(wild: bool, user: u8, s: &[u8], q: usize, r: &[u8]) -> bool
-    requires { ⌜ (q + nameBytes ≤ length (now s)) × (entryBytes ≤ length (now r)) ⌝ }
-    ensures { λ b. ⌜ b ≡ named wild user (now (s .entry)) q (now (r .entry)) ⌝ }
-{
-    if r[0] != user {
-        return false;
-    }
-    if wild {
-        return matching::name_like(true, s, q, r, 1);
-    }
-    matching::name_same(s, q, r, 1)
-}
-
-// Whether a row is the user's, of the name in s at q, and covers the extent.
-pub fn is_file(user: u8, s: &[u8], q: usize, ext: usize, r: &[u8]) -> bool
-    requires { ⌜ (q + nameBytes ≤ length (now s)) × (entryBytes ≤ length (now r)) ⌝ }
-    ensures { λ b. ⌜ b ≡ isFile eightInch user (now (s .entry)) q ext (now (r .entry)) ⌝ }
-{
-    if !is_named(false, user, s, q, r) {
-        return false;
-    }
-    covers_extent(r, ext)
-}
-
-// The first entry of this user whose name is asked for.
-pub fn find_named(image: &[u8], wild: bool, user: u8, s: &[u8], q: usize) -> Found
-    requires { ⌜ Long eightInch (now image) × (q + nameBytes ≤ length (now s)) ⌝ }
-    ensures { λ r. ⌜ r ≡ findNamed eightInch (entryAt eightInch (now (image .entry))) wild user (now (s .entry)) q ⌝ }
-{
-    let mut e = 0;
-    while e < ENTRIES {
-        if is_named(wild, user, s, q, rows::row(image, e)) {
-            return Found::At(e);
-        }
-        e += 1;
-    }
-    Found::Nothing
-}
-
-// The first empty entry.
-pub fn find_empty(image: &[u8]) -> Found
-    requires { ⌜ Long eightInch (now image) ⌝ }
-    ensures { λ r. ⌜ r ≡ findEmpty eightInch (entryAt eightInch (now (image .entry))) ⌝ }
-{
-    let mut e = 0;
-    while e < ENTRIES {
-        if rows::row(image, e)[0] == 0xE5 {
-            return Found::At(e);
-        }
-        e += 1;
-    }
-    Found::Nothing
 }

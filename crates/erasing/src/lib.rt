@@ -17,7 +17,7 @@ fn erase_entry(image: &mut [u8], map: &mut [u16], e: usize, user: u8, fcb: &[u8]
     ensures { λ r. ⌜ Erased eightInch (named true user (now (fcb .entry)) 1) (now (image .entry)) (now (map .entry)) e (now (image .exit)) (now (map .exit)) r ⌝ }
 {
     let r = rows::row(image, e);
-    if !entries::is_named(true, user, fcb, 1, r) {
+    if !lookups::is_named(true, user, fcb, 1, r) {
         return 0;
     }
     freeing::free_slots(map, entries::slots(r));

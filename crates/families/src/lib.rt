@@ -29,7 +29,7 @@ fn guards(wild: bool, user: u8, fcb: &[u8], r: &[u8]) -> bool
     if !entries::is_read_only(r) {
         return false;
     }
-    entries::is_named(wild, user, fcb, 1, r)
+    lookups::is_named(wild, user, fcb, 1, r)
 }
 
 // Whether t1' is set in an entry that the FCB names.
@@ -52,7 +52,7 @@ fn rename_entry(image: &mut [u8], e: usize, user: u8, fcb: &[u8])
     requires { ⌜ Long eightInch (now image) × (e < eightInch .entries) × (length (now fcb) ≡ fcbBytes) ⌝ }
     ensures { λ _. ⌜ now (image .exit) ≡ changedRow eightInch (named false user (now (fcb .entry)) 1) (renamedRow (now (fcb .entry))) (now (image .entry)) e ⌝ }
 {
-    if entries::is_named(false, user, fcb, 1, rows::row(image, e)) {
+    if lookups::is_named(false, user, fcb, 1, rows::row(image, e)) {
         let r = rows::copy_row(image, e);
         rows::store_row(image, e, entering::renamed_row(fcb, r));
     }
@@ -83,13 +83,13 @@ pub fn rename_file(image: &mut [u8], fcb: &[u8], session: Session) -> Answer
         return answers::refuse(Code::BadName, session);
     }
     let user = session.user;
-    let Found::At(_) = entries::find_named(image, false, user, fcb, 1) else {
+    let Found::At(_) = lookups::find_named(image, false, user, fcb, 1) else {
         return answers::refuse(Code::Failed, session);
     };
     if any_read_only(image, false, user, fcb) {
         return answers::refuse(Code::ReadOnly, session);
     }
-    let Found::Nothing = entries::find_named(image, false, user, fcb, 17) else {
+    let Found::Nothing = lookups::find_named(image, false, user, fcb, 17) else {
         return answers::refuse(Code::Exists, session);
     };
     rename_entries(image, user, fcb);
@@ -107,7 +107,7 @@ pub fn delete_file(image: &mut [u8], map: &mut [u16], fcb: &[u8], session: Sessi
         return answers::refuse(Code::BadName, session);
     }
     let user = session.user;
-    let Found::At(_) = entries::find_named(image, true, user, fcb, 1) else {
+    let Found::At(_) = lookups::find_named(image, true, user, fcb, 1) else {
         return answers::refuse(Code::Failed, session);
     };
     if any_read_only(image, true, user, fcb) {

@@ -22,7 +22,7 @@ use Rattle.model.specs.Step.{effect, told}
 use Rattle.table.specs.First.{_&_, here, later}
 use Rattle.table.specs.Own.{calling}
 use Rattle.table.specs.OwnStep.{ownStep, refuses-own, carries-own}
-use Rattle.files.specs.Asked.{asksRight, asked-wrong, asked-right}
+use Rattle.asking.specs.Asked.{asksRight, asked-wrong, asked-right}
 
 module _ (G : Geometry) (asked : Asked) (l : Lent) (s : Session) (r : Answer) where
   -- ---- 15

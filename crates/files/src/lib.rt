@@ -8,11 +8,9 @@ ghost use Rattle.format.specs.Entries.{entryAt, named};
 ghost use Rattle.format.specs.Fcb.{fcbBytes};
 ghost use Rattle.model.specs.Calls.{largerSize, fileSize};
 ghost use Rattle.model.specs.Lent.{lend, outcome};
-ghost use Rattle.model.specs.Table.{askedEntry};
 ghost use Rattle.table.specs.Own.{calling};
 ghost use Rattle.table.specs.OwnStep.{ownStep};
 ghost use Rattle.chains.specs.Chain.{Findable};
-ghost use Rattle.files.specs.Asked.{asksRight};
 ghost use Rattle.model.specs.declared.Asked.{Asked};
 use format::ENTRIES;
 use format::ENTRIES_PER_RECORD;
@@ -21,35 +19,16 @@ use model::Answer;
 use model::Code;
 use model::Session;
 
-// Whether 15 and 22 can ask for a file by the FCB: its name obeys the name rule, and byte 12 is an ex.
-fn asks_right(fcb: &[u8]) -> bool
-    requires { ⌜ length (now fcb) ≡ fcbBytes ⌝ }
-    ensures { λ b. ⌜ b ≡ asksRight (now (fcb .entry)) ⌝ }
-{
-    if 31 < fcb[12] {
-        return false;
-    }
-    names::name_right(false, fcb, 1)
-}
-
-// The entry that 15 and 22 ask for: of the FCB's name, with ex = byte 12 and s2 0.
-fn find_asked(image: &[u8], chain: &[u8], user: u8, fcb: &[u8]) -> Found
-    requires { ⌜ Findable eightInch (now image) (now chain) user (now fcb) ⌝ }
-    ensures { λ r. ⌜ ((map buffer : Bytes) → r ≡ askedEntry eightInch (lend (now (image .entry)) map (now (fcb .entry)) buffer) user) ⌝ }
-{
-    chains::find_file(image, chain, user, fcb, 1, lists::wide(fcb[12]))
-}
-
 // 15: the FCB takes the entry of its name and of the extent that byte 12 gives.
 pub fn open_file(image: &[u8], fcb: &mut [u8], session: Session, chain: &[u8]) -> Answer
     requires { ⌜ Findable eightInch (now image) (now chain) (session .user) (now fcb) ⌝ }
     ensures { λ r. ⌜ ((asked : Asked) (map buffer : Bytes) → outcome r (now (image .entry)) map (now (fcb .exit)) buffer
         ≡ ownStep eightInch (calling 15 asked) (lend (now (image .entry)) map (now (fcb .entry)) buffer) session) ⌝ }
 {
-    if !asks_right(fcb) {
+    if !asking::asks_right(fcb) {
         return answers::refuse(Code::BadName, session);
     }
-    let Found::At(e) = find_asked(image, chain, session.user, fcb) else {
+    let Found::At(e) = asking::find_asked(image, chain, session.user, fcb) else {
         return answers::refuse(Code::Failed, session);
     };
     entering::enter(fcb, rows::copy_row(image, e));
@@ -62,13 +41,13 @@ pub fn make_file(image: &mut [u8], fcb: &mut [u8], session: Session, chain: &[u8
     ensures { λ r. ⌜ ((asked : Asked) (map buffer : Bytes) → outcome r (now (image .exit)) map (now (fcb .exit)) buffer
         ≡ ownStep eightInch (calling 22 asked) (lend (now (image .entry)) map (now (fcb .entry)) buffer) session) ⌝ }
 {
-    if !asks_right(fcb) {
+    if !asking::asks_right(fcb) {
         return answers::refuse(Code::BadName, session);
     }
-    let Found::Nothing = find_asked(image, chain, session.user, fcb) else {
+    let Found::Nothing = asking::find_asked(image, chain, session.user, fcb) else {
         return answers::refuse(Code::Exists, session);
     };
-    let Found::At(e) = entries::find_empty(image) else {
+    let Found::At(e) = lookups::find_empty(image) else {
         return answers::refuse(Code::Failed, session);
     };
     let row = entering::made_row(session.user, fcb);
@@ -83,7 +62,7 @@ fn larger_size(image: &[u8], e: usize, user: u8, fcb: &[u8], size: usize) -> usi
     ensures { λ r. ⌜ r ≡ largerSize (entryAt eightInch (now (image .entry))) (named false user (now (fcb .entry)) 1) size e ⌝ }
 {
     let r = rows::row(image, e);
-    if !entries::is_named(false, user, fcb, 1, r) {
+    if !lookups::is_named(false, user, fcb, 1, r) {
         return size;
     }
     let n = entries::end_of(r);
@@ -116,7 +95,7 @@ pub fn file_size(image: &[u8], fcb: &mut [u8], session: Session) -> Answer
     if !names::name_right(false, fcb, 1) {
         return answers::refuse(Code::BadName, session);
     }
-    let Found::At(_) = entries::find_named(image, false, session.user, fcb, 1) else {
+    let Found::At(_) = lookups::find_named(image, false, session.user, fcb, 1) else {
         return answers::refuse(Code::Failed, session);
     };
     let size = largest_size(image, session.user, fcb);

@@ -84,7 +84,7 @@ fn write_new(image: &[u8], map: &[u16], code: Code, e: usize) -> Ruling
     requires { ⌜ Long eightInch (now image) × (length (now map) ≡ eightInch .blocks) ⌝ }
     ensures { λ r. ⌜ r ≡ writeNew eightInch (entryAt eightInch (now (image .entry))) (now (map .entry)) code e ⌝ }
 {
-    let Found::At(t) = entries::find_empty(image) else {
+    let Found::At(t) = lookups::find_empty(image) else {
         return Ruling::Refuse(code);
     };
     let Found::At(b) = notes::first_free(map) else {

@@ -1,20 +1,12 @@
 // One record read or written, in the extent that the FCB has come to.
 ghost use mathlib.Core.Path.{_≡_};
-ghost use Prim.Native.Nat.{_*_, _≤_, _<_};
+ghost use Prim.Native.Nat.{_≤_, _<_};
 ghost use lib.ListN.{length};
 ghost use Rattle.format.specs.Diskette.{Bytes, eightInch, Long, recordBytes, slotCount, extentRecords};
 ghost use Rattle.format.specs.Entries.{entryAt, extentOf};
 ghost use Rattle.format.specs.Fcb.{fcbBytes};
 ghost use Rattle.model.specs.Lent.{lend, AllLong};
-ghost use Rattle.model.specs.Target.{placeIn, haveRead, writtenFcb, writtenMap, haveWritten};
-
-// The disk record that holds record r of an extent, in block b.
-fn place_in(b: usize, r: usize) -> usize
-    requires { ⌜ b < eightInch .blocks ⌝ }
-    ensures { λ d. ⌜ (d ≡ placeIn eightInch b r) × (d < eightInch .perBlock * eightInch .blocks) ⌝ }
-{
-    format::RECORDS_PER_BLOCK * b + r % format::RECORDS_PER_BLOCK
-}
+ghost use Rattle.model.specs.Target.{haveRead, haveWritten};
 
 // Reading record r of the extent that the FCB has come to, in block b.
 pub fn read_at(image: &[u8], fcb: &mut [u8], buffer: &mut [u8], b: usize, r: usize, cr: usize)
@@ -23,32 +15,7 @@ pub fn read_at(image: &[u8], fcb: &mut [u8], buffer: &mut [u8], b: usize, r: usi
     ensures { λ _. ⌜ ((map : Bytes) → lend (now (image .entry)) map (now (fcb .exit)) (now (buffer .exit))
         ≡ haveRead eightInch b r cr (lend (now (image .entry)) map (now (fcb .entry)) (now (buffer .entry)))) ⌝ }
 {
-    disk::read_record(image, place_in(b, r), buffer);
-    fcb[32] = cr as u8;
-}
-
-// A block that a slot of 0 takes is noted pending for its entry and slot.
-fn note_block(map: &mut [u16], fcb: &[u8], t: usize, j: usize, b: usize)
-    requires { ⌜ (length (now map) ≡ eightInch .blocks) × (length (now fcb) ≡ fcbBytes) × (t < eightInch .entries) × (j < slotCount) × (b < eightInch .blocks) ⌝ }
-    ensures { λ _. ⌜ now (map .exit) ≡ writtenMap eightInch (now (map .entry)) (now (fcb .entry)) t j b ⌝ }
-{
-    if fcb[16 + j] != 0 {
-        return;
-    }
-    notes::set_note(map, b, notes::pending_note(t, j));
-}
-
-// The FCB after a write of record r: the block in its slot, the largest count, and cr. What its entry counts in its extent is handed in.
-fn set_written(fcb: &mut [u8], count: u8, j: usize, b: usize, r: usize, cr: usize)
-    requires { ⌜ (length (now fcb) ≡ fcbBytes) × (j < slotCount) × (b < eightInch .blocks) × (r < extentRecords) × (cr ≤ extentRecords) ⌝ }
-    ensures { λ _. ⌜ now (fcb .exit) ≡ writtenFcb eightInch (now (fcb .entry)) count j b r cr ⌝ }
-{
-    let rc = targets::larger(
-        targets::larger(entries::count_of(fcb), count),
-        (r + 1) as u8,
-    );
-    fcb[16 + j] = b as u8;
-    fcb[15] = rc;
+    disk::read_record(image, placing::place_in(b, r), buffer);
     fcb[32] = cr as u8;
 }
 
@@ -70,7 +37,7 @@ pub fn write_at(
         ≡ haveWritten eightInch t j b r cr (lend (now (image .entry)) (now (map .entry)) (now (fcb .entry)) (now (buffer .entry))) ⌝ }
 {
     let count = entries::count_of(rows::row(image, t));
-    disk::write_record(image, place_in(b, r), buffer);
-    note_block(map, fcb, t, j, b);
-    set_written(fcb, count, j, b, r, cr);
+    disk::write_record(image, placing::place_in(b, r), buffer);
+    placing::note_block(map, fcb, t, j, b);
+    placing::set_written(fcb, count, j, b, r, cr);
 }

@@ -10,7 +10,7 @@ use Rattle.facts.specs.Find.{empty-says}
 use Rattle.model.specs.Lent.{lend}
 use Rattle.model.specs.Table.{askedEntry}
 use Rattle.model.specs.Entering.{copied}
-use Rattle.files.specs.Asked.{asksRight}
+use Rattle.asking.specs.Asked.{asksRight}
 use Rattle.files.specs.Steps.{make-wrong, make-exists, make-full, make-done}
 use borrow.Author.Needs.{needs}
 use Rattle.files.proofs.make_file.Statement.{statement}

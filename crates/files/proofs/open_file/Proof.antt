@@ -9,7 +9,7 @@ use Rattle.format.specs.declared.Found.the-variants.{At}
 use Rattle.model.specs.Lent.{lend}
 use Rattle.model.specs.Table.{askedEntry}
 use Rattle.facts.specs.Naming.{run-own}
-use Rattle.files.specs.Asked.{asked-below, asked-own}
+use Rattle.asking.specs.Asked.{asked-below, asked-own}
 use Rattle.files.specs.Steps.{open-wrong, open-missed, open-done}
 use Rattle.files.proofs.open_file.Statement.{statement}
 use Rattle.files.proofs.open_file.Tie as tie

@@ -2,8 +2,8 @@
 use Rattle.format.specs.Entries.{withSlot}
 use Rattle.model.specs.Target.{writtenFcb, writtenCount}
 use borrow.Author.Needs.{needs}
-use Rattle.transfers.proofs.set_written.Statement.{statement}
-use Rattle.transfers.proofs.set_written.Tie as tie
+use Rattle.placing.proofs.set_written.Statement.{statement}
+use Rattle.placing.proofs.set_written.Tie as tie
 
 returns : tie.Need-returns
 unfolding writtenFcb writtenCount withSlot

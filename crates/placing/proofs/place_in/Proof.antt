@@ -3,8 +3,8 @@ use mathlib.Core.Path.{refl}
 use native.Mathlib.Omega.{arith}
 use Rattle.model.specs.Target.{placeIn}
 use borrow.Author.Needs.{needs}
-use Rattle.transfers.proofs.place_in.Statement.{statement}
-use Rattle.transfers.proofs.place_in.Tie as tie
+use Rattle.placing.proofs.place_in.Statement.{statement}
+use Rattle.placing.proofs.place_in.Tie as tie
 
 returns : tie.Need-returns
 unfolding placeIn

@@ -9,8 +9,8 @@ use Rattle.format.specs.Diskette.{eightInch}
 use Rattle.format.specs.Entries.{entryAt, findNamed}
 use Rattle.facts.specs.Found.{look-hit, look-end}
 use Rattle.facts.specs.Find.{namedTest}
-use Rattle.entries.proofs.find_named.Statement.{statement}
-use Rattle.entries.proofs.find_named.Tie as tie
+use Rattle.lookups.proofs.find_named.Statement.{statement}
+use Rattle.lookups.proofs.find_named.Tie as tie
 
 abbrev Inv-loop : tie.InvT-loop
 Inv-loop image wild user s q e₀ e = firstIn (namedTest (entryAt eightInch image) wild user s q) e (eightInch .entries) ≡ firstIn (namedTest (entryAt eightInch image) wild user s q) 0 (eightInch .entries)

@@ -4,8 +4,8 @@ use borrow.Author.Tests.{eq-eqb, ne-eqb}
 use Rattle.lists.specs.Tests.{and-fails-left, and-then}
 use Rattle.format.specs.Entries.{named}
 use borrow.Author.Needs.{needs}
-use Rattle.entries.proofs.is_named.Statement.{statement}
-use Rattle.entries.proofs.is_named.Tie as tie
+use Rattle.lookups.proofs.is_named.Statement.{statement}
+use Rattle.lookups.proofs.is_named.Tie as tie
 
 returns : tie.Need-returns
 unfolding named

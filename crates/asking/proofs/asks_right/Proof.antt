@@ -3,9 +3,9 @@ use mathlib.Core.Path.{sym, _∙_}
 use borrow.Author.Needs.{needs}
 use borrow.Author.Tests.{le-leb, lt-leb}
 use Rattle.lists.specs.Tests.{and-fails-right, and-first}
-use Rattle.files.specs.Asked.{asksRight}
-use Rattle.files.proofs.asks_right.Statement.{statement}
-use Rattle.files.proofs.asks_right.Tie as tie
+use Rattle.asking.specs.Asked.{asksRight}
+use Rattle.asking.proofs.asks_right.Statement.{statement}
+use Rattle.asking.proofs.asks_right.Tie as tie
 
 returns : tie.Need-returns
 unfolding asksRight

@@ -4,8 +4,8 @@ use borrow.Author.Tests.{not-true, not-false}
 use Rattle.lists.specs.Tests.{and-then, and-fails-left}
 use Rattle.format.specs.Entries.{isFile}
 use borrow.Author.Needs.{needs}
-use Rattle.entries.proofs.is_file.Statement.{statement}
-use Rattle.entries.proofs.is_file.Tie as tie
+use Rattle.lookups.proofs.is_file.Statement.{statement}
+use Rattle.lookups.proofs.is_file.Tie as tie
 
 returns : tie.Need-returns
 unfolding isFile

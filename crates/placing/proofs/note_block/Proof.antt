@@ -3,8 +3,8 @@ use borrow.Author.Tests.{eq-eqb, ne-eqb}
 use Rattle.model.specs.Target.{writtenMap}
 use Rattle.facts.specs.Slots.{slot-byte}
 use borrow.Author.Needs.{needs}
-use Rattle.transfers.proofs.note_block.Statement.{statement}
-use Rattle.transfers.proofs.note_block.Tie as tie
+use Rattle.placing.proofs.note_block.Statement.{statement}
+use Rattle.placing.proofs.note_block.Tie as tie
 
 returns : tie.Need-returns
 unfolding writtenMap

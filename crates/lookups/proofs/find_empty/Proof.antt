@@ -10,8 +10,8 @@ use Rattle.format.specs.Diskette.{eightInch}
 use Rattle.format.specs.Entries.{entryAt, empty, findEmpty}
 use Rattle.facts.specs.Found.{look-hit, look-end}
 use Rattle.facts.specs.Find.{emptyTest}
-use Rattle.entries.proofs.find_empty.Statement.{statement}
-use Rattle.entries.proofs.find_empty.Tie as tie
+use Rattle.lookups.proofs.find_empty.Statement.{statement}
+use Rattle.lookups.proofs.find_empty.Tie as tie
 
 abbrev Inv-loop : tie.InvT-loop
 Inv-loop image e₀ e = firstIn (emptyTest (entryAt eightInch image)) e (eightInch .entries) ≡ firstIn (emptyTest (entryAt eightInch image)) 0 (eightInch .entries)

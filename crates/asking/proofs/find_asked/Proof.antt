@@ -1,8 +1,8 @@
 -- The look-up with byte 12 is the definition.
 use borrow.Author.Needs.{needs}
 use Rattle.model.specs.Table.{askedEntry}
-use Rattle.files.proofs.find_asked.Statement.{statement}
-use Rattle.files.proofs.find_asked.Tie as tie
+use Rattle.asking.proofs.find_asked.Statement.{statement}
+use Rattle.asking.proofs.find_asked.Tie as tie
 
 returns : tie.Need-returns
 unfolding askedEntry
