@@ -24,6 +24,7 @@ use Rattle.model.specs.Entering.{entered, nextRow}
 use Rattle.model.specs.Target.{targetExtent, targetSlot, presentEntry, stays, within, targetEntry, blockThere, moved, made}
 use Rattle.lists.specs.Cases.{split, bool-cases}
 use Rattle.fields.specs.Agree.{SameName, isFile-cong}
+use Rattle.consistency.specs.Naming.{file-used}
 use Rattle.fields.specs.Fine.{fine-next}
 use Rattle.fields.specs.Making.{length-nextRow, slot-next, user-next, name-next, extent-next}
 use Rattle.fields.specs.Entering.{length-entered, slot-entered, first-entered, name-entered, extent-entered}
@@ -202,25 +203,36 @@ module _ {G : Geometry} (S : Sound G) (n : ℕ) (l : Lent) (s : Session) (g : Go
         empty-elsewhere (rowsOf G l) t e (empty-says G (rowsOf G l) t room .holds)
         (cur-uses G (viewOf G (l .drive .image) (l .drive .map)) (s .user) (f .user-low) (l .fcb) e present-cur)
 
-    long : length (rowsOf G l e) ≡ entryBytes
-    long = length-entryAt S (l .drive .image) (g .image-long) e (present-cur .low)
+    -- the FCB's entry as it stands after the close
+    shut : Bytes
+    shut = entryAt G (closedImage G (l .drive .image) e (l .fcb)) e
+
+    long : length shut ≡ entryBytes
+    unfolding shut
+    long = length-entryAt S (closedImage G (l .drive .image) e (l .fcb)) (closed-by .good .image-long) e (present-cur .low)
+
+    shut-file : isFile G (s .user) (l .fcb) 1 (extentOf (l .fcb)) shut ≡ true
+    unfolding shut
+    shut-file =
+        isFile-cong G (s .user) (l .fcb) 1 (extentOf (l .fcb)) (entryAt G (closedImage G (l .drive .image) e (l .fcb)) e) (rowsOf G l e)
+        (closed-file S (l .drive .image) (l .drive .map) g (s .user) (f .user-low) (l .fcb) e (present-current S n l s g f e at) e (present-cur .low)) ∙ present-cur .file
 
     -- the new row
     next : Bytes
-    next = nextRow (rowsOf G l e) (targetExtent n (l .fcb))
+    next = nextRow shut (targetExtent n (l .fcb))
 
     whole : length next ≡ entryBytes
     unfolding next
-    whole = length-nextRow (rowsOf G l e) (targetExtent n (l .fcb)) long
+    whole = length-nextRow shut (targetExtent n (l .fcb)) long
 
     -- it is of the user's file
     next-user : userOf next ≡ s .user
     unfolding next
-    next-user = user-next (rowsOf G l e) (targetExtent n (l .fcb)) long ∙ file-user G (s .user) (l .fcb) 1 (extentOf (l .fcb)) (rowsOf G l e) (present-cur .file)
+    next-user = user-next shut (targetExtent n (l .fcb)) long ∙ file-user G (s .user) (l .fcb) 1 (extentOf (l .fcb)) shut shut-file
 
     next-extent : extentOf next ≡ targetExtent n (l .fcb)
     unfolding next
-    next-extent = extent-next (rowsOf G l e) (targetExtent n (l .fcb)) long
+    next-extent = extent-next shut (targetExtent n (l .fcb)) long
 
     -- and stands for the target's extent, which no entry has
     next-file : isFile G (s .user) (l .fcb) 1 (targetExtent n (l .fcb)) next ≡ true
@@ -229,18 +241,18 @@ module _ {G : Geometry} (S : Sound G) (n : ℕ) (l : Lent) (s : Session) (g : Go
         let ext : ℕ = targetExtent n (l .fcb) in
         file-intro G (s .user) (l .fcb) 1 ext next
         (named-intro false (s .user) (l .fcb) 1 next next-user
-        (like-trans (l .fcb) 1 (rowsOf G l e) 1 next 1 (file-like G (s .user) (l .fcb) 1 (extentOf (l .fcb)) (rowsOf G l e) (present-cur .file))
-        (like-intro (rowsOf G l e) 1 next 1 (λ i b. sym (name-next (rowsOf G l e) ext long i b)))))
+        (like-trans (l .fcb) 1 shut 1 next 1 (file-like G (s .user) (l .fcb) 1 (extentOf (l .fcb)) shut shut-file)
+        (like-intro shut 1 next 1 (λ i b. sym (name-next shut ext long i b)))))
         (ap (runOf G) next-extent)
 
     next-named : byName (s .user) (l .fcb) next ≡ true
     next-named = file-named G (s .user) (l .fcb) 1 (targetExtent n (l .fcb)) next next-file
 
     next-fine : Fine G next
-    unfolding next
+    unfolding next shut
     next-fine =
-        fine-next G (rowsOf G l e) (targetExtent n (l .fcb)) long
-        (g .inv .dir .fine e (present-cur .low) (cur-uses G (viewOf G (l .drive .image) (l .drive .map)) (s .user) (f .user-low) (l .fcb) e present-cur)) low
+        fine-next G shut (targetExtent n (l .fcb)) long
+        (closed-by .good .inv .dir .fine e (present-cur .low) (file-used G (s .user) (l .fcb) 1 (extentOf (l .fcb)) shut shut-file (f .user-low))) low
 
     -- after the close
     mid : Bytes
@@ -285,7 +297,7 @@ module _ {G : Geometry} (S : Sound G) (n : ℕ) (l : Lent) (s : Session) (g : Go
     closed-then-made =
         then-change G (byName (s .user) (l .fcb)) W (settledBy G (rowsOf G l e) (l .fcb)) asItWas (l .drive .image) (l .drive .map) mid mid-map new mid-map (g .inv .dir) closed-by
         (made-change S (byName (s .user) (l .fcb)) mid mid-map mid-good t room-below void next whole next-named next-fine
-        (λ j h. slot-next (rowsOf G l e) (targetExtent n (l .fcb)) long G j) (s .user) (l .fcb) 1 (targetExtent n (l .fcb)) next-file next-alone W)
+        (λ j h. slot-next shut (targetExtent n (l .fcb)) long G j) (s .user) (l .fcb) 1 (targetExtent n (l .fcb)) next-file next-alone W)
         (made-names-stay S (byName (s .user) (l .fcb)) mid mid-map mid-good t room-below void next whole next-named) (inl closed-none)
 
     make-slot : blockThere G n (s .user) l ≡ 0
@@ -293,10 +305,10 @@ module _ {G : Geometry} (S : Sound G) (n : ℕ) (l : Lent) (s : Session) (g : Go
 
     next-slot : slotOf G next (targetSlot G n (l .fcb)) ≡ 0
     unfolding next
-    next-slot = slot-next (rowsOf G l e) (targetExtent n (l .fcb)) long G (targetSlot G n (l .fcb))
+    next-slot = slot-next shut (targetExtent n (l .fcb)) long G (targetSlot G n (l .fcb))
 
     pub make-came : CameTo G n (s .user) l (made G (targetExtent n (l .fcb)) l e t) t W (settledBy G (rowsOf G l e) (l .fcb))
-    unfolding made new next mid mid-map
+    unfolding made new next shut mid mid-map
     make-came =
         let hf : 32 ≤ length (l .fcb) = (let q : length (l .fcb) ≡ 36 = f .fcb-long in omega arith) in
         record {

@@ -1,12 +1,12 @@
 -- The rows that are made: a new file's, a new extent's, and a renamed one, byte by byte and field by field.
-use mathlib.Core.Path.{_≡_, refl, ap, _∙_}
+use mathlib.Core.Path.{_≡_, refl, ap, sym, _∙_}
 use mathlib.Core.Logic.{inl, inr}
 use mathlib.Core.Bool.{false}
 use mathlib.Core.List.{_∷_, _++_}
 use Prim.Native.Nat.{ℕ, suc, _+_, _-_, _/_, _%_, _≤_, _<_}
 use native.Mathlib.Omega.{arith}
 use lib.ListN.{length, getD, take, replicate, length-append, List·getD-append}
-use lib.Seq.{length-take-le, getD-take}
+use lib.Seq.{length-take-le, getD-take, ext-getD}
 use borrow.Author.Tests.{lt-leb}
 use Rattle.lists.specs.Splice.{length-splice, getD-splice-in, getD-splice-out, getD-append-past}
 use Rattle.lists.specs.Tab.{tab, length-tab, getD-tab, getD-zeros}
@@ -130,6 +130,15 @@ module _ (row : Bytes) (ext : ℕ) (hr : length row ≡ 32) where
   pub extent-next : extentOf (nextRow row ext) ≡ ext
   unfolding extentOf
   extent-next = rw (s2-next, ex-next) (omega arith)
+
+-- the row's first twelve bytes are all that a new one takes of it
+pub next-cong : (row t : Bytes) (ext : ℕ) → length row ≡ 32 → length t ≡ 32 → Agree row t 0 12 → nextRow row ext ≡ nextRow t ext
+unfolding nextRow
+next-cong row t ext hr ht h =
+    let heads : take 12 row ≡ take 12 t =
+    ext-getD 0 (take 12 row) (take 12 t) (head-long row ext hr ∙ sym (head-long t ext ht))
+    (λ i b. let low : i < 12 = omega (arith, head-long row ext hr) in getD-take 12 row i 0 low ∙ h i (omega arith) low ∙ sym (getD-take 12 t i 0 low)) in
+    rw heads
 
 -- ---- 23: the name in seven bits, with the attributes that were there
 module _ (fcb row : Bytes) where

@@ -96,9 +96,9 @@ module _ (G : Geometry) (n user : ℕ) (l : Lent) where
   unfoldable pub plan : Plan
   plan = planFrom (numberOf (G .entries) (presentEntry G user l))
 
--- ---- moving: the present extent (entry e) is closed, then the FCB takes the target's entry (t), which a write may have to make. On a disk
--- whose entries cover several extents the two may be one, so the target's row is read after the close; a close leaves user, name and
--- attributes
+-- ---- moving: the present extent (entry e) is closed, then the FCB takes the target's entry (t), which a write may have to make. Both rows are
+-- read as they stand after the close: on a disk whose entries cover several extents they may be one, and a new entry takes the attributes that
+-- the present one has then
 unfoldable pub moved : Geometry → ℕ → Lent → ℕ → ℕ → Lent
 moved G ext l e t =
     let img = closedImage G (l .drive .image) e (l .fcb) in
@@ -107,8 +107,9 @@ moved G ext l e t =
 -- ext is the new entry's extent
 unfoldable pub made : Geometry → ℕ → Lent → ℕ → ℕ → Lent
 made G ext l e t =
-    let next = nextRow (rowsOf G l e) ext in
-    lend (withEntry G (closedImage G (l .drive .image) e (l .fcb)) t next) (closedMap G (rowsOf G l e) (l .fcb) (l .drive .map)) (entered (l .fcb) next ext) (l .buffer)
+    let img = closedImage G (l .drive .image) e (l .fcb) in
+    let next = nextRow (entryAt G img e) ext in
+    lend (withEntry G img t next) (closedMap G (rowsOf G l e) (l .fcb) (l .drive .map)) (entered (l .fcb) next ext) (l .buffer)
 
 -- ---- reading and writing record r of an extent, in block b, with the FCB come to that extent; cr afterwards is given
 unfoldable pub placeIn : Geometry → ℕ → ℕ → ℕ

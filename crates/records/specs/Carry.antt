@@ -82,8 +82,8 @@ arrived-own {G} S ext l (Move e t b) long hf w own =
 arrived-own {G} S ext l (Make e t b) long hf w own =
     let shut : Bytes = closedImage G (l .drive .image) e (l .fcb) in
     let kept : Long G shut = long-on G (length-closedImage S (l .drive .image) long e (w .0) (l .fcb)) long in
-    let row : Bytes = entryAt G (l .drive .image) e in
-    let whole = length-entryAt S (l .drive .image) long e (w .0) in
+    let row : Bytes = entryAt G shut e in
+    let whole = length-entryAt S shut kept e (w .0) in
     let next : Bytes = nextRow row ext in
     let full : length next ≡ entryBytes = length-nextRow row ext whole in
     extent-entered (l .fcb) next ext (omega arith) (omega arith) ∙ sym (extent-next row ext whole)

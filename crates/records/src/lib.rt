@@ -40,8 +40,8 @@ fn make_next(image: &mut [u8], map: &mut [u16], fcb: &mut [u8], e: usize, t: usi
     ensures { λ _. ⌜ ((buffer : Bytes) → lend (now (image .exit)) (now (map .exit)) (now (fcb .exit)) buffer
         ≡ made eightInch extent (lend (now (image .entry)) (now (map .entry)) (now (fcb .entry)) buffer) e t) ⌝ }
 {
-    let row = entering::next_row(rows::copy_row(image, e), extent);
     closing::close_entry(image, map, e, fcb);
+    let row = entering::next_row(rows::copy_row(image, e), extent);
     rows::store_row(image, t, row);
     entering::enter(fcb, row);
 }

@@ -126,47 +126,62 @@ abbrev hasCode : Code → List Row → Bool
 hasCode c [] = false
 hasCode c (r ∷ rs) = cond (isCode c (r .code)) true (hasCode c rs)
 
+-- the calls that a row of their own may refuse with a code, as document 01's table has them. The first three rows are every call's, and an
+-- acceptance is no refusal
+abbrev pub gives : Code → List ℕ
+gives (Code.Accepted a) = []
+gives Code.NotListed = []
+gives Code.BadParameter = []
+gives Code.BadDisk = []
+gives Code.BadRecord = 33 ∷ 34 ∷ []
+gives Code.NotCurrent = 20 ∷ 21 ∷ 33 ∷ 34 ∷ []
+gives Code.Failed = 15 ∷ 16 ∷ 18 ∷ 19 ∷ 22 ∷ 23 ∷ 32 ∷ 35 ∷ 36 ∷ []
+gives Code.BadName = 15 ∷ 17 ∷ 19 ∷ 22 ∷ 23 ∷ 35 ∷ []
+gives Code.SearchOver = 17 ∷ 18 ∷ []
+gives Code.ReadOnly = 19 ∷ 21 ∷ 23 ∷ 34 ∷ []
+gives Code.Exists = 22 ∷ 23 ∷ []
+gives Code.NotClosed = 20 ∷ 21 ∷ 33 ∷ 34 ∷ []
+gives Code.NoExtent = 33 ∷ []
+gives Code.NoRecord = 20 ∷ 21 ∷ 33 ∷ []
+gives Code.NoEntry = 34 ∷ []
+gives Code.DiskFull = 21 ∷ 34 ∷ []
+
 module _ (G : Geometry) (asked : Asked) (l : Lent) (s : Session) where
-  -- ---- the table by its codes: the calls to which a row of the code applies. The first three rows, for every call, are not among these
+  -- ---- that is the table, read by its codes: the calls to which a row of the code applies
   unfoldable pub callsWith : Code → List ℕ
   callsWith c = numbersIn (λ (k : Listed). hasCode c (rowsAt (k .number) (callRows G asked l s))) calls
 
-  abbrev pub ByCode : Type 0
-  ByCode =
-      (callsWith Code.BadRecord ≡ 33 ∷ 34 ∷ [])
-      × (callsWith Code.NotCurrent ≡ 20 ∷ 21 ∷ 33 ∷ 34 ∷ [])
-      × (callsWith Code.Failed ≡ 15 ∷ 16 ∷ 18 ∷ 19 ∷ 22 ∷ 23 ∷ 32 ∷ 35 ∷ 36 ∷ [])
-      × (callsWith Code.BadName ≡ 15 ∷ 17 ∷ 19 ∷ 22 ∷ 23 ∷ 35 ∷ [])
-      × (callsWith Code.SearchOver ≡ 17 ∷ 18 ∷ [])
-      × (callsWith Code.ReadOnly ≡ 19 ∷ 21 ∷ 23 ∷ 34 ∷ [])
-      × (callsWith Code.Exists ≡ 22 ∷ 23 ∷ [])
-      × (callsWith Code.NotClosed ≡ 20 ∷ 21 ∷ 33 ∷ 34 ∷ [])
-      × (callsWith Code.NoExtent ≡ 33 ∷ [])
-      × (callsWith Code.NoRecord ≡ 20 ∷ 21 ∷ 33 ∷ [])
-      × (callsWith Code.NoEntry ≡ 34 ∷ [])
-      × (callsWith Code.DiskFull ≡ 21 ∷ 34 ∷ [])
-      × (callsWith Code.NotListed ≡ [])
-      × (callsWith Code.BadParameter ≡ [])
-      × (callsWith Code.BadDisk ≡ [])
-      × ((k : ℕ) → callsWith (Code.Accepted k) ≡ [])
-
-  pub by-code : ByCode
+  pub by-code : (c : Code) → callsWith c ≡ gives c
   unfolding callsWith
-  by-code = (refl, refl, refl, refl, refl, refl, refl, refl, refl, refl, refl, refl, refl, refl, refl, λ k. refl)
+  by-code (Code.Accepted a) = refl
+  by-code Code.NotListed = refl
+  by-code Code.BadParameter = refl
+  by-code Code.BadDisk = refl
+  by-code Code.BadRecord = refl
+  by-code Code.NotCurrent = refl
+  by-code Code.Failed = refl
+  by-code Code.BadName = refl
+  by-code Code.SearchOver = refl
+  by-code Code.ReadOnly = refl
+  by-code Code.Exists = refl
+  by-code Code.NotClosed = refl
+  by-code Code.NoExtent = refl
+  by-code Code.NoRecord = refl
+  by-code Code.NoEntry = refl
+  by-code Code.DiskFull = refl
 
   -- a call's own rows refuse it with no other codes
-  own-given : (code : Code) → Decides code (ownRows G asked l s) → oneOf (asked .number) (callsWith code) ≡ true
-  unfolding callsWith
+  own-given : (code : Code) → Decides code (ownRows G asked l s) → oneOf (asked .number) (gives code) ≡ true
   own-given code d =
-      let r = row-of (λ (cs : List ℕ) (c : Code). within cs (callsWith c)) (asked .number) code (callRows G asked l s) refl d in
-      within-one (asked .number) (r .calls) (callsWith code) (r .passes) (r .applies)
+      let r = row-of (λ (cs : List ℕ) (c : Code). within cs (gives c)) (asked .number) code (callRows G asked l s) refl d in
+      within-one (asked .number) (r .calls) (gives code) (r .passes) (r .applies)
 
   -- where a refusal comes from: one of the first three rows, or a row of the call's own, with a code that the table has for the call
   pub data Refuses (code : Code) : Type 0 where
     unlisted : code ≡ Code.NotListed → isCall (asked .number) ≡ false → Refuses code
     parameter : code ≡ Code.BadParameter → isCall (asked .number) ≡ true → parametersRight G l asked s ≡ false → Refuses code
     disk : code ≡ Code.BadDisk → isCall (asked .number) ≡ true → diskRight G l asked ≡ false → Refuses code
-    own : oneOf (asked .number) (callsWith code) ≡ true → Ready G asked l s → Decides code (ownRows G asked l s) → Refuses code
+    own : oneOf (asked .number) (gives code) ≡ true → Ready G asked l s → Decides code (ownRows G asked l s) → Refuses code
 
   refuses-call : (code : Code) → isCall (asked .number) ≡ true → Decides code (rowsFor G asked l s) → Refuses code
   refuses-call code c (here t q) = parameter (sym q) c (not-true _ t)
@@ -189,7 +204,6 @@ module _ (G : Geometry) (asked : Asked) (l : Lent) (s : Session) where
 
   -- ---- no call is refused with an acceptance
   pub never-accepted : (k : ℕ) → verdict G asked l s ≡ Refused (Code.Accepted k) → ⊥
-  unfolding callsWith
   never-accepted k q = clash (sym (own-given (Code.Accepted k) (own-decides (isCode (Code.Accepted k)) (Code.Accepted k) refl refl refl refl (refuses (Code.Accepted k) q) .1)))
 
   -- a row of the call's own decides, once the first three have failed
@@ -222,7 +236,6 @@ no-three X Y front rs a b current d =
 
 module _ (G : Geometry) (asked : Asked) (l : Lent) (s : Session) where
   pub never-not-closed : verdict G asked l s ≡ Refused Code.NotClosed → ⊥
-  unfolding callsWith
   never-not-closed q =
       let d = own-decides G asked l s (isCode Code.NotClosed) Code.NotClosed refl refl refl refl (refuses G asked l s Code.NotClosed q) .1 in
       at-one (λ (n : ℕ). Decides Code.NotClosed (ownRows G (calling n asked) l s) → ⊥) (asked .number) (20 ∷ 21 ∷ 33 ∷ 34 ∷ [])
@@ -234,7 +247,6 @@ module _ (G : Geometry) (asked : Asked) (l : Lent) (s : Session) where
 
   -- ---- code 6 comes out only where the random record is over 262,143
   pub random-over : verdict G asked l s ≡ Refused Code.BadRecord → lastRecord < randomOf (l .fcb)
-  unfolding callsWith
   random-over q =
       let d = own-decides G asked l s (isCode Code.BadRecord) Code.BadRecord refl refl refl refl (refuses G asked l s Code.BadRecord q) .1 in
       ltb-true _ _ (at-one (λ (n : ℕ). Decides Code.BadRecord (ownRows G (calling n asked) l s) → ltb lastRecord (randomOf (l .fcb)) ≡ true) (asked .number) (33 ∷ 34 ∷ [])

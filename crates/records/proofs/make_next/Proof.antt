@@ -1,10 +1,14 @@
--- The new row is made before the close, from the present one.
-use mathlib.Core.Path.{ap, _∙_}
+-- The new row is made after the close, from the present one as it stands then.
+use mathlib.Core.Path.{_≡_, ap, _∙_}
 use lib.ListN.{length}
-use Rattle.format.specs.Entries.{extentOf}
+use Rattle.format.specs.Entries.{entryAt, extentOf}
 use Rattle.disk.specs.Eight.{eight-sound}
 use Rattle.rows.specs.Entries.{length-entryAt}
 use Rattle.fields.specs.Making.{extent-next}
+use Rattle.fields.specs.Images.{length-closedImage}
+use Rattle.facts.specs.Long.{long-on}
+use Rattle.format.specs.Diskette.{Bytes, eightInch, Long}
+use Rattle.model.specs.Closing.{closedImage}
 use Rattle.model.specs.Target.{made}
 use borrow.Author.Needs.{needs}
 use Rattle.records.proofs.make_next.Statement.{statement}
@@ -13,19 +17,24 @@ use Rattle.records.proofs.make_next.Tie as tie
 returns : tie.Need-returns
 unfolding made
 returns c =
-    let row = c .before .before .before .before .before .before .before .before .before .before .before .before .before .before .before .before .before in
-    let s = row .before .before .before .before .before in
-    let next = c .before .before .before .before .before .before .before .before .before .before .before .before .before .before .before .before .next-row .ensures in
-    let whole = ap length (row .copy-row .ensures) ∙ length-entryAt eight-sound (s .args .image .now) (s .pre .0) (s .args .e) (s .pre .2) in
+    let row = c .before .before .before .before .before .before .before .before .before in
+    let shut = c .before .before .before .before .before .before .before .before .before .before .before .before .before .before .before in
+    let s = c .before .before .before .before .before .before .before .before .before .before .before .before .before .before .before .before .before .before .before .before .before .before in
+    let next = c .before .before .before .before .before .before .before .before .next-row .ensures in
+    let closed = shut .close-entry .ensures in
+    let img = s .args .image .now in
+    let kept : Long eightInch (closedImage eightInch img (s .args .e) (s .args .fcb .now)) = long-on eightInch (length-closedImage eight-sound img (s .pre .0) (s .args .e) (s .pre .2) (s .args .fcb .now)) (s .pre .0) in
+    let taken : row .copy-row .result ≡ entryAt eightInch (closedImage eightInch img (s .args .e) (s .args .fcb .now)) (s .args .e) = row .copy-row .ensures ∙ ap (λ (i : Bytes). entryAt eightInch i (s .args .e)) (closed .0) in
+    let whole = ap length taken ∙ length-entryAt eight-sound (closedImage eightInch img (s .args .e) (s .args .fcb .now)) kept (s .args .e) (s .pre .2) in
     let own = ap extentOf next ∙ extent-next (row .copy-row .result) (s .args .extent) whole in
     λ buffer. rw (
       c .before .before .before .before .before .before .store-row .ensures,
-      c .before .before .before .before .before .before .before .before .before .before .before .before .close-entry .ensures .0,
-      c .before .before .before .before .before .before .before .before .before .before .before .before .close-entry .ensures .1,
+      closed .0,
+      closed .1,
       c .before .before .enter .ensures,
       own,
       next,
-      row .copy-row .ensures,
+      taken,
     )
 
 pub make-next-spec : {M : Type 1} → statement M
