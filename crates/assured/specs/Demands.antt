@@ -21,7 +21,7 @@ use Rattle.model.specs.Target.{targetExtent, targetRecord}
 use Rattle.model.specs.Kinds.{kindOf, same}
 use Rattle.model.specs.declared.Kind.the-variants.{Write}
 use Rattle.model.specs.Step.{refused, effect, step}
-use Rattle.table.specs.Own.{ask, same-is}
+use Rattle.table.specs.Own.{calling, ask, same-is}
 use Rattle.table.specs.Total.{RefusedBy, CarriedOut, eight-total}
 use Rattle.effects.specs.Where.{Frame}
 use Rattle.effects.specs.Book.{Book, nothingHeld, acceptedAnswer}
@@ -37,9 +37,9 @@ use Rattle.targets.specs.Target.{TargetOf}
 use Rattle.script.specs.Script.{request}
 use Rattle.assured.specs.declared.ReadBack.{ReadBack}
 
--- a log-in, with whatever argument, FCB and buffer
-abbrev pub logIn : ℕ → Bytes → Bytes → Request
-logIn argument fcb buffer = request (record { number = 13; argument = argument }) fcb buffer
+-- a log-in, with whatever is asked besides its number, and whatever FCB and buffer
+abbrev pub logIn : Asked → Bytes → Bytes → Request
+logIn asked fcb buffer = request (calling 13 asked) fcb buffer
 
 -- an answer to a write that says that it was accepted
 unfoldable pub writesAnswer : ℕ → Answer → Bool

@@ -70,9 +70,10 @@ fn wrote(number: u8, answer: Answer) -> bool
     false
 }
 
-// Demand 3, of `call` itself: a log-in and, where it is accepted, the calls of any script, and nothing is lost.
+// Demand 3, of `call` itself: a log-in, with whatever is asked besides its number, and, where it is accepted, the calls of any script,
+// and nothing is lost.
 pub fn log_in_and_run(
-    argument: u8,
+    asked: Asked,
     fcb: &mut [u8],
     buffer: &mut [u8],
     script: &[usize],
@@ -82,17 +83,15 @@ pub fn log_in_and_run(
     map: &mut [u16],
     session: Session,
 ) -> Ran
-    ensures { λ r. ⌜ LoggedIn (diskOf (now (image .entry)) (now (map .entry)) session) (logIn argument (now (fcb .entry)) (now (buffer .entry)))
+    ensures { λ r. ⌜ LoggedIn (diskOf (now (image .entry)) (now (map .entry)) session) (logIn asked (now (fcb .entry)) (now (buffer .entry)))
         (requests (now (script .entry)) (now (fcbs .entry)) (now (buffers .entry)))
         (r .accepted) (diskOf (now (image .exit)) (now (map .exit)) (r .session)) (now (fcb .exit)) (now (buffer .exit)) ⌝ }
 {
-    let asked = Asked {
-        number: 13,
-        argument: argument,
-    };
-    let login = bdos::call(asked, image, map, fcb, buffer, session);
-    let s = login.session;
-    if !accepted(13, login) {
+    let mut login = asked;
+    login.number = 13;
+    let answer = bdos::call(login, image, map, fcb, buffer, session);
+    let s = answer.session;
+    if !accepted(13, answer) {
         return Ran {
             accepted: false,
             session: s,

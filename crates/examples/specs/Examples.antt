@@ -43,17 +43,17 @@ pub record Examples : Type 0 where
       → SpaceIs eightInch img (136 ∷ 7 ∷ 0 ∷ []) map fcb buffer s x y
   pub e-met : (img : Bytes) × (map : Bytes) × (fcb : Bytes) × (buffer : Bytes) × (s : Session) × ErasedDisk eightInch img × Fitting eightInch map fcb buffer s
   -- R = 262,143 is extent 2,047, record 127; 262,144 gives 6
-  pub f-last : (n : ℕ) (asked : Asked) (l : Lent) (s : Session) → oneOf n (33 ∷ 34 ∷ []) ≡ true → RandomIs (l .fcb) 255 255 3 → Last eightInch n asked l s
-  pub f-over : (n : ℕ) (asked : Asked) (l : Lent) (s : Session) → oneOf n (33 ∷ 34 ∷ []) ≡ true → Ready eightInch (calling n asked) l s → RandomIs (l .fcb) 0 0 4
-      → Six eightInch n asked l s
+  pub f-last : (asked : Asked) (l : Lent) (s : Session) → oneOf (asked .number) (33 ∷ 34 ∷ []) ≡ true → RandomIs (l .fcb) 255 255 3 → Last eightInch asked l s
+  pub f-over : (asked : Asked) (l : Lent) (s : Session) → oneOf (asked .number) (33 ∷ 34 ∷ []) ≡ true → Ready eightInch asked l s → RandomIs (l .fcb) 0 0 4
+      → Six eightInch asked l s
   pub f-met : (asked : Asked) (r0 r1 r2 : ℕ) → LentWith asked (λ (f : Bytes). RandomIs f r0 r1 r2)
   -- an entry of extent 2,047 with rc 128: size bytes 00H 00H 04H
   pub g : (asked : Asked) (l : Lent) (s : Session) → Ready eightInch (calling 35 asked) l s → nameRight false (l .fcb) 1 ≡ true → HasEntry eightInch l s 2047 128
-      → Gives eightInch 35 asked l s (0 ∷ 0 ∷ 4 ∷ [])
+      → Gives eightInch (calling 35 asked) l s (0 ∷ 0 ∷ 4 ∷ [])
   pub g-met : (asked : Asked) → Largest asked
   -- 36 at extent 1, cr 128: 256
   pub h : (asked : Asked) (l : Lent) (s : Session) → Ready eightInch (calling 36 asked) l s → extentOf (l .fcb) ≡ 1 → crOf (l .fcb) ≡ 128
-      → Gives eightInch 36 asked l s (threeBytes 256)
+      → Gives eightInch (calling 36 asked) l s (threeBytes 256)
   pub h-met : (asked : Asked) → LentWith asked (λ (f : Bytes). (extentOf f ≡ 1) × (crOf f ≡ 128))
   -- eleven 3FH match any name: in the name test, and in the pattern that 17 takes from an FCB, where byte 12 alone decides
   pub i-name : (s : Bytes) (q : ℕ) → AllAny s q → (user : ℕ) (row : Bytes) → userOf row ≡ user → named true user s q row ≡ true

@@ -35,7 +35,7 @@ pub record Largest (asked : Asked) : Type 0 where
   pub name : nameRight false (lent .fcb) 1 ≡ true
   pub has : HasEntry eightInch lent session 2047 128
   pub only : (e f : ℕ) → e < eightInch .entries → f < eightInch .entries → used (rowsOf eightInch lent e) ≡ true → used (rowsOf eightInch lent f) ≡ true → e ≡ f
-  pub gives : Gives eightInch 35 asked lent session (0 ∷ 0 ∷ 4 ∷ [])
+  pub gives : Gives eightInch (calling 35 asked) lent session (0 ∷ 0 ∷ 4 ∷ [])
 
 -- an image that is consistent, and a slot of one of its used entries
 pub record SlotOf (img : Bytes) (e j : ℕ) : Type 0 where

@@ -32,32 +32,32 @@ use Rattle.table.specs.Facts.{Ready, Sizes, Positions}
 use Rattle.table.specs.Total.{step-carried}
 
 -- the call answers 0, 0, and r0 to r2 of the FCB that it leaves are these bytes
-pub record Gives (G : Geometry) (n : ℕ) (asked : Asked) (l : Lent) (s : Session) (bytes : Bytes) : Type 0 where
-  pub is-a : step G (calling n asked) l s .answer .a ≡ 0
-  pub is-h : step G (calling n asked) l s .answer .h ≡ 0
-  pub is-random : part (step G (calling n asked) l s .lent .fcb) 33 3 ≡ bytes
+pub record Gives (G : Geometry) (asked : Asked) (l : Lent) (s : Session) (bytes : Bytes) : Type 0 where
+  pub is-a : step G asked l s .answer .a ≡ 0
+  pub is-h : step G asked l s .answer .h ≡ 0
+  pub is-random : part (step G asked l s .lent .fcb) 33 3 ≡ bytes
 
-gives-three : (G : Geometry) (n : ℕ) (asked : Asked) (l : Lent) (s : Session) (value : ℕ) → length (l .fcb) ≡ 36
-    → step G (calling n asked) l s ≡ done 0 s (lend (l .drive .image) (l .drive .map) (splice (l .fcb) 33 (threeBytes value)) (l .buffer))
-    → Gives G n asked l s (threeBytes value)
-gives-three G n asked l s value long q =
+gives-three : (G : Geometry) (asked : Asked) (l : Lent) (s : Session) (value : ℕ) → length (l .fcb) ≡ 36
+    → step G asked l s ≡ done 0 s (lend (l .drive .image) (l .drive .map) (splice (l .fcb) 33 (threeBytes value)) (l .buffer))
+    → Gives G asked l s (threeBytes value)
+gives-three G asked l s value long q =
     record { is-a = rw q; is-h = rw q; is-random = rw q (part-splice-same (l .fcb) 33 (threeBytes value) (omega arith)) }
 
 -- ---- 36: 128 × extent + cr
 position-gives : (G : Geometry) (asked : Asked) (l : Lent) (s : Session) → Ready G (calling 36 asked) l s → Positions G l s
-    → Gives G 36 asked l s (threeBytes (extentRecords * extentOf (l .fcb) + crOf (l .fcb)))
+    → Gives G (calling 36 asked) l s (threeBytes (extentRecords * extentOf (l .fcb) + crOf (l .fcb)))
 unfolding positioned effect told isCall kindOf
 position-gives G asked l s ready p =
-    gives-three G 36 asked l s (extentRecords * extentOf (l .fcb) + crOf (l .fcb)) (ready .fits .fcb-long)
+    gives-three G (calling 36 asked) l s (extentRecords * extentOf (l .fcb) + crOf (l .fcb)) (ready .fits .fcb-long)
     (step-carried G (calling 36 asked) l s refl ready (positions-none G asked l s p))
 
 -- extent 1, cr 128
 pub position-256 : (G : Geometry) (asked : Asked) (l : Lent) (s : Session) → Ready G (calling 36 asked) l s → extentOf (l .fcb) ≡ 1 → crOf (l .fcb) ≡ 128
-    → Gives G 36 asked l s (0 ∷ 1 ∷ 0 ∷ [])
+    → Gives G (calling 36 asked) l s (0 ∷ 1 ∷ 0 ∷ [])
 unfolding extentOf
 position-256 G asked l s ready ext cr =
     let q : extentRecords * extentOf (l .fcb) + crOf (l .fcb) ≡ 256 = omega arith in
-    subst (λ (k : ℕ). Gives G 36 asked l s (threeBytes k)) q
+    subst (λ (k : ℕ). Gives G (calling 36 asked) l s (threeBytes k)) q
     (position-gives G asked l s ready record { ex = omega arith; s2 = omega arith; cr = omega arith })
 
 -- ---- 35: the largest of 128 × extent + rc over the name's entries
@@ -95,12 +95,12 @@ entry-high G l s right low e below mine =
 
 -- extent 2,047 with rc 128
 pub size-largest : (G : Geometry) (asked : Asked) (l : Lent) (s : Session) → Ready G (calling 35 asked) l s → nameRight false (l .fcb) 1 ≡ true
-    → HasEntry G l s 2047 128 → Gives G 35 asked l s (0 ∷ 0 ∷ 4 ∷ [])
+    → HasEntry G l s 2047 128 → Gives G (calling 35 asked) l s (0 ∷ 0 ∷ 4 ∷ [])
 size-largest G asked l s ready name h =
     let picks : Bytes → Bool = named false (s .user) (l .fcb) 1 in
     let least = size-covers G (rowsOf G l) picks (h .entry) (h .below) (h .mine) in
     let most = size-high G (rowsOf G l) picks 262144 (entry-high G l s (ready .image-right) (ready .fits .user-low)) in
     let q : fileSize G (rowsOf G l) (named false (s .user) (l .fcb) 1) ≡ 262144 = omega (arith, entry-size G l s 2047 128 h) in
-    subst (λ (k : ℕ). Gives G 35 asked l s (threeBytes k)) q
-    (gives-three G 35 asked l s (fileSize G (rowsOf G l) picks) (ready .fits .fcb-long)
+    subst (λ (k : ℕ). Gives G (calling 35 asked) l s (threeBytes k)) q
+    (gives-three G (calling 35 asked) l s (fileSize G (rowsOf G l) picks) (ready .fits .fcb-long)
     (size-step G asked l s ready record { name = name; some = some-entry G l s 2047 128 h }))

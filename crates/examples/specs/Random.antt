@@ -15,7 +15,6 @@ use Rattle.model.specs.declared.Verdict.the-variants.{Refused}
 use Rattle.model.specs.Lent.{Lent}
 use Rattle.model.specs.Kinds.{isCall, isRandom, kindOf, oneOf}
 use Rattle.model.specs.Target.{targetExtent, targetRecord}
-use Rattle.model.specs.Kinds.{oneOf}
 use Rattle.model.specs.Table.{verdict}
 use Rattle.model.specs.Step.{refused, step}
 use Rattle.table.specs.First.{_&_, here}
@@ -36,42 +35,41 @@ unfolding randomOf
 random-is fcb r0 r1 r2 r = rw (r .low, r .middle, r .high)
 
 -- a call that the rows before its random record pass is refused with 6 and changes nothing
-pub record Six (G : Geometry) (n : ℕ) (asked : Asked) (l : Lent) (s : Session) : Type 0 where
+pub record Six (G : Geometry) (asked : Asked) (l : Lent) (s : Session) : Type 0 where
   pub is-number : randomOf (l .fcb) ≡ 262144
-  pub refuses : step G (calling n asked) l s ≡ refused BadRecord s l
-  pub is-a : step G (calling n asked) l s .answer .a ≡ 6
-  pub is-h : step G (calling n asked) l s .answer .h ≡ 0
+  pub refuses : step G asked l s ≡ refused BadRecord s l
+  pub is-a : step G asked l s .answer .a ≡ 6
+  pub is-h : step G asked l s .answer .h ≡ 0
 
-six : (G : Geometry) (n : ℕ) (asked : Asked) (l : Lent) (s : Session) → randomOf (l .fcb) ≡ 262144 → step G (calling n asked) l s ≡ refused BadRecord s l
-    → Six G n asked l s
-six G n asked l s is q = record { is-number = is; refuses = q; is-a = rw q; is-h = rw q }
+six : (G : Geometry) (asked : Asked) (l : Lent) (s : Session) → randomOf (l .fcb) ≡ 262144 → step G asked l s ≡ refused BadRecord s l → Six G asked l s
+six G asked l s is q = record { is-number = is; refuses = q; is-a = rw q; is-h = rw q }
 
-pub random-six : (G : Geometry) (n : ℕ) (asked : Asked) (l : Lent) (s : Session) → oneOf n (33 ∷ 34 ∷ []) ≡ true → Ready G (calling n asked) l s
-    → RandomIs (l .fcb) 0 0 4 → Six G n asked l s
+pub random-six : (G : Geometry) (asked : Asked) (l : Lent) (s : Session) → oneOf (asked .number) (33 ∷ 34 ∷ []) ≡ true → Ready G asked l s
+    → RandomIs (l .fcb) 0 0 4 → Six G asked l s
 unfolding isCall kindOf
-random-six G n asked l s which ready r =
+random-six G asked l s which ready r =
     let over = lt-ltb lastRecord (randomOf (l .fcb)) (omega (arith, random-is (l .fcb) 0 0 4 r)) in
-    six G n asked l s (random-is (l .fcb) 0 0 4 r)
-    (at-one (λ (m : ℕ). Ready G (calling m asked) l s → step G (calling m asked) l s ≡ refused BadRecord s l) n (33 ∷ 34 ∷ []) which
+    six G asked l s (random-is (l .fcb) 0 0 4 r)
+    (at-one (λ (m : ℕ). Ready G (calling m asked) l s → step G (calling m asked) l s ≡ refused BadRecord s l) (asked .number) (33 ∷ 34 ∷ []) which
     ((λ p. step-refused G (calling 33 asked) l s BadRecord refl p (here over refl))
     & (λ p. step-refused G (calling 34 asked) l s BadRecord refl p (here over refl)) & tt) ready)
 
 -- 262,143 is the last that is taken: record 127 of extent 2,047
-pub record Last (G : Geometry) (n : ℕ) (asked : Asked) (l : Lent) (s : Session) : Type 0 where
+pub record Last (G : Geometry) (asked : Asked) (l : Lent) (s : Session) : Type 0 where
   pub is-number : randomOf (l .fcb) ≡ 262143
-  pub extent : targetExtent n (l .fcb) ≡ 2047
-  pub is-record : targetRecord n (l .fcb) ≡ 127
-  pub not-six : verdict G (calling n asked) l s ≡ Refused BadRecord → ⊥
+  pub extent : targetExtent (asked .number) (l .fcb) ≡ 2047
+  pub is-record : targetRecord (asked .number) (l .fcb) ≡ 127
+  pub not-six : verdict G asked l s ≡ Refused BadRecord → ⊥
 
-pub random-last : (G : Geometry) (n : ℕ) (asked : Asked) (l : Lent) (s : Session) → oneOf n (33 ∷ 34 ∷ []) ≡ true → RandomIs (l .fcb) 255 255 3
-    → Last G n asked l s
+pub random-last : (G : Geometry) (asked : Asked) (l : Lent) (s : Session) → oneOf (asked .number) (33 ∷ 34 ∷ []) ≡ true → RandomIs (l .fcb) 255 255 3
+    → Last G asked l s
 unfolding isRandom
-random-last G n asked l s which r =
+random-last G asked l s which r =
     let is : randomOf (l .fcb) ≡ lastRecord = random-is (l .fcb) 255 255 3 r in
-    let random = at-one (λ (m : ℕ). isRandom m ≡ true) n (33 ∷ 34 ∷ []) which (refl & refl & tt) in
+    let random = at-one (λ (m : ℕ). isRandom m ≡ true) (asked .number) (33 ∷ 34 ∷ []) which (refl & refl & tt) in
     record {
       is-number = is;
-      extent = extent-random n (l .fcb) random ∙ rw is;
-      is-record = record-random n (l .fcb) random ∙ rw is;
-      not-six = λ q. omega (arith, random-over G (calling n asked) l s q);
+      extent = extent-random (asked .number) (l .fcb) random ∙ rw is;
+      is-record = record-random (asked .number) (l .fcb) random ∙ rw is;
+      not-six = λ q. omega (arith, random-over G asked l s q);
     }

@@ -16,7 +16,7 @@ abbrev given : tie.Start → Disk
 given c = let a = c .args in diskOf (a .image .now) (a .map .now) (a .session)
 
 abbrev asks : tie.Start → Request
-asks c = let a = c .args in logIn (a .argument) (a .fcb .now) (a .buffer .now)
+asks c = let a = c .args in logIn (a .asked) (a .fcb .now) (a .buffer .now)
 
 same-length : tie.Need-same-length
 same-length c = c .before .before .before .before .before .before .before .before .before .before .before .call .kept .1 .1 .1 .0
