@@ -1,12 +1,12 @@
--- `bdos::disk_right` meets its contract: the image decides, then, except for 13, the map by the marks that the look at the image left.
+-- `checking::disk_right` meets its contract: the image decides, then, except for 13, the map by the marks that the look at the image left.
 use mathlib.Core.Path.{sym, _∙_}
 use borrow.Author.Needs.{needs}
 use borrow.Author.Tests.{not-true, not-false}
 use Rattle.lists.specs.Cases.{clash}
 use Rattle.format.specs.Diskette.{eightInch}
-use Rattle.bdos.specs.Disk.{image-wrong, log-in-right, map-decides}
-use Rattle.bdos.proofs.disk_right.Statement.{statement}
-use Rattle.bdos.proofs.disk_right.Tie as tie
+use Rattle.checking.specs.Disk.{image-wrong, log-in-right, map-decides}
+use Rattle.checking.proofs.disk_right.Statement.{statement}
+use Rattle.checking.proofs.disk_right.Tie as tie
 
 returns : tie.Need-returns
 returns c =
