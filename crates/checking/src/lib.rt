@@ -12,7 +12,13 @@ use model::Asked;
 
 // Whether the image is consistent and, except for 13, the map right. Where they are, the marks tell which blocks are listed, and the
 // chain has the entries by their keys.
-pub fn disk_right(asked: Asked, image: &[u8], map: &[u16], marks: &mut [u8], chain: &mut [u8]) -> bool
+pub fn disk_right(
+    asked: Asked,
+    image: &[u8],
+    map: &[u16],
+    marks: &mut [u8],
+    chain: &mut [u8],
+) -> bool
     requires { ⌜ Long eightInch (now image) × (length (now map) ≡ eightInch .blocks) × (length (now marks) ≡ markCount)
         × (length (now chain) ≡ chainBytes eightInch) ⌝ }
     ensures { λ r. ⌜ ((fcb buffer : Bytes) → r ≡ diskRight eightInch (lend (now (image .entry)) (now (map .entry)) fcb buffer) asked)

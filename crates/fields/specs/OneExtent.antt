@@ -72,8 +72,10 @@ unfolding made
 made-own ext l e t long he =
     let row : Bytes = rowsOf eightInch l e in
     let whole : length row ≡ entryBytes = length-entryAt eight-sound (l .drive .image) long e he in
-    rw (row-closedImage eight-sound (l .drive .image) long e he (l .fcb),
-    next-cong (closedRow eightInch row (l .fcb)) row ext (length-closedRow eightInch row (l .fcb) whole) whole (head-closed eightInch row (l .fcb) whole))
+    rw (
+      row-closedImage eight-sound (l .drive .image) long e he (l .fcb),
+      next-cong (closedRow eightInch row (l .fcb)) row ext (length-closedRow eightInch row (l .fcb) whole) whole (head-closed eightInch row (l .fcb) whole),
+    )
 
 -- ---- a close
 -- each slot where the entry has 0 and the FCB doesn't takes the FCB's block
