@@ -38,13 +38,6 @@ module _ (G : Geometry) (asked : Asked) (l : Lent) (s : Session) where
   unfolding freed effect kindOf settled
   pending-freed r map a m = carries-own G (calling 98 asked) l s _ tt (rw (a, m))
 
-  -- ---- 46
-  pub space-told : (r : Answer) (buffer : Bytes) → r ≡ answerOf (Accepted 0) (ended s)
-      → buffer ≡ splice (l .buffer) 0 (threeBytes (G .perBlock * freeCount G (l .drive .map)))
-      → outcome r (l .drive .image) (l .drive .map) (l .fcb) buffer ≡ ownStep G (calling 46 asked) l s
-  unfolding space effect kindOf told
-  space-told r buffer a b = carries-own G (calling 46 asked) l s _ tt (rw (a, b))
-
   -- ---- 36
   pub position-refused : positionRight (l .fcb) ≡ false → Decides Failed (ownRows G (calling 36 asked) l s)
   position-refused h = here (ap not h) refl
