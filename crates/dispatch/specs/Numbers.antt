@@ -1,4 +1,4 @@
--- A call's number is one of those that the list of calls has of its kind. Those that a test has ruled out are struck off, until one is left.
+-- A call's number is one of those that the list of calls has of its kind: where all but one of them are ruled out, it is that one.
 use mathlib.Core.Path.{_≡_, refl, sym, ap, _∙_}
 use mathlib.Core.Logic.{_⊎_, inl, inr}
 use mathlib.Core.Bool.{Bool, true, false, cond}
@@ -16,11 +16,14 @@ use Rattle.model.specs.declared.Kind.the-variants.{Unlisted, Quiet, Search, Use
 use Rattle.model.proofs.Kind.{the-type}
 use Rattle.model.specs.Kinds.{Listed, calls, lineIn, kindOf, kindNumber, same, ofRecord}
 use Rattle.model.specs.Lent.{Lent, Outcome}
+use Rattle.model.specs.Table.{ownRows}
+use Rattle.model.specs.Calls.{quietly}
+use Rattle.model.specs.Step.{told}
+use Rattle.table.specs.First.{NoneHolds}
 use Rattle.table.specs.Own.{calling}
-use Rattle.table.specs.OwnStep.{ownStep, own-at}
+use Rattle.table.specs.OwnStep.{ownStep, own-at, quiet-own}
 use Rattle.calls.specs.Arms.{None, passes, rest}
 
--- the numbers of a kind
 line-number : (n : ℕ) (cs : List Listed) → lineIn n cs .number ≡ n
 line-number n [] = refl
 line-number n (c ∷ cs) =
@@ -41,6 +44,11 @@ last-of k told last ns {n} p u q x =
 pub at-number : {o : Outcome} {n : ℕ} (asked : Asked) (l : Lent) (s : Session) → asked .number ≡ n → ((a : Asked) → o ≡ ownStep eightInch (calling n a) l s)
     → o ≡ ownStep eightInch asked l s
 at-number {o} {n} asked l s q h = h asked ∙ own-at eightInch asked l s n q
+
+-- a quiet call that no row names leaves what its rule tells
+pub told-at : {o : Outcome} (n : ℕ) (asked : Asked) (l : Lent) (s : Session) → asked .number ≡ n → kindOf (asked .number) ≡ Quiet
+    → NoneHolds (ownRows eightInch (calling n asked) l s) → o ≡ quietly (told eightInch (calling n asked) l s) s l → o ≡ ownStep eightInch asked l s
+told-at {o} n asked l s q k none h = quiet-own eightInch (calling n asked) l s o (ap kindOf (sym q) ∙ k) none h ∙ own-at eightInch asked l s n q
 
 -- ---- an arm of several kinds goes by the place of each in the enum, which is its number
 tag-is : (k : Kind) → tagOf the-type k ≡ kindNumber k

@@ -15,7 +15,7 @@ use model::Code;
 use model::Kind;
 use model::Session;
 
-// The quiet calls: 15, 35, 36 and 46.
+// The quiet calls, each by its number.
 fn quiet_call(
     asked: Asked,
     image: &[u8],

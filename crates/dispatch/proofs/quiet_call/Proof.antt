@@ -3,11 +3,13 @@ use mathlib.Core.Path.{refl}
 use mathlib.Core.List.{[], _∷_}
 use borrow.Author.Needs.{needs}
 use Rattle.model.specs.declared.Kind.the-variants.{Quiet}
-use Rattle.dispatch.specs.Numbers.{last-of, at-number}
+use Rattle.model.specs.Step.{told}
+use Rattle.dispatch.specs.Numbers.{last-of, at-number, told-at}
 use Rattle.dispatch.proofs.quiet_call.Statement.{statement}
 use Rattle.dispatch.proofs.quiet_call.Tie as tie
 
 pub quiet-call-spec : {M : Type 1} → statement M
+unfolding told
 quiet-call-spec =
     tie.close
     (tie.spec
@@ -23,5 +25,5 @@ quiet-call-spec =
     (λ c. at-number _ _ _ (c .before .before .before .before .match .keys3) (λ a. c .before .before .random-record .ensures a _ _ _))
     (λ c. search needs)
     (λ c. let m = c .before .before .before .before in
-    at-number _ _ _ (last-of Quiet _ 46 (15 ∷ 35 ∷ 36 ∷ []) refl refl (m .before .before .before .before .before .before .pre .0) (m .match .rest))
-    (λ a. c .before .before .free-space .ensures a _ _)))
+    let q = m .before .before .before .before .before .before .pre .0 in
+    told-at 46 _ _ _ (last-of Quiet _ 46 (15 ∷ 35 ∷ 36 ∷ []) refl refl q (m .match .rest)) q tt (c .before .before .free-space .ensures _ _)))

@@ -1,14 +1,13 @@
 -- Each answer is that of the row that decides; where none holds, the largest size goes into r0 to r2.
 use mathlib.Core.Path.{refl, sym, ap, _∙_}
 use mathlib.Core.Bool.{not}
-use Rattle.facts.specs.Found.{found-row, missed-row}
 use Rattle.format.specs.Diskette.{eightInch}
 use Rattle.model.specs.declared.Code.the-variants.{BadName, Failed}
 use Rattle.model.specs.Calls.{sized}
 use Rattle.model.specs.Kinds.{kindOf}
 use Rattle.model.specs.Step.{told}
 use Rattle.model.specs.Table.{anyNamed}
-use Rattle.table.specs.First.{_&_, here, later}
+use Rattle.table.specs.First.{here, later}
 use Rattle.table.specs.Own.{calling}
 use Rattle.table.specs.OwnStep.{refuses-own, quiet-own}
 use borrow.Author.Needs.{needs}
@@ -25,7 +24,7 @@ returns-2 c = λ asked map buffer.
     let f = c .before .before .before in
     let u = f .before .before in
     refuses-own eightInch (calling 35 asked) _ _ Failed _
-    (later (ap not (sym (u .before .name-right .ensures)) ∙ u .if1 .left) (here (missed-row _ (sym (f .find-named .ensures) ∙ c .before .enum-told2 .given .1)) refl))
+    (later (ap not (sym (u .before .name-right .ensures)) ∙ u .if1 .left) (here (rw (← f .find-named .ensures, c .before .enum-told2 .given .1)) refl))
     (c .refuse2 .ensures)
 
 returns-3 : tie.Need-returns-3
@@ -35,7 +34,7 @@ returns-3 c = λ asked map buffer.
     let k = p .before .before .before .before in
     let u = k .before .before .before .before in
     quiet-own eightInch (calling 35 asked) _ _ _ refl
-    (ap not (sym (u .before .name-right .ensures)) ∙ u .if1 .left & found-row _ (sym (k .before .before .find-named .ensures) ∙ k .enum-told .given .1) & tt)
+    (ap not (sym (u .before .name-right .ensures)) ∙ u .if1 .left, (rw (← k .before .before .find-named .ensures, k .enum-told .given .1), tt))
     (rw (c .done .ensures, p .put-three .ensures, p .before .before .largest-size .ensures))
 
 pub file-size-spec : {M : Type 1} → statement M

@@ -1,20 +1,13 @@
 -- Eight times the free notes are put into the buffer, and the answer is that of a call done.
-use mathlib.Core.Path.{refl}
-use Rattle.format.specs.Diskette.{eightInch}
-use Rattle.model.specs.Lent.{lend}
 use Rattle.model.specs.Calls.{space}
-use Rattle.model.specs.Kinds.{kindOf}
-use Rattle.model.specs.Step.{told}
-use Rattle.table.specs.Own.{calling}
-use Rattle.table.specs.OwnStep.{quiet-own}
 use borrow.Author.Needs.{needs}
 use Rattle.plain.proofs.free_space.Statement.{statement}
 use Rattle.plain.proofs.free_space.Tie as tie
 
 returns : tie.Need-returns
-unfolding space kindOf told
+unfolding space
 returns c = let p = c .before .before .before in
-    λ asked image fcb. quiet-own eightInch (calling 46 asked) _ _ _ refl tt (rw (c .done .ensures, p .put-three .ensures, p .before .before .free-count .ensures .0))
+    λ image fcb. rw (c .done .ensures, p .put-three .ensures, p .before .before .free-count .ensures .0)
 
 pub free-space-spec : {M : Type 1} → statement M
 free-space-spec =
