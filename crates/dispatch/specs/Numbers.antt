@@ -29,9 +29,11 @@ line-number n [] = refl
 line-number n (c ∷ cs) =
     split (bool-cases (eqb n (c .number))) (λ e. rw e (sym (eqb-true n (c .number) e))) (λ e. rw e (line-number n cs))
 
+-- of this kind the line has no other number
 abbrev pub isLast : Kind → ℕ → Listed → Bool
 isLast k last c = cond (same (c .kind) k) (eqb (c .number) last) true
 
+-- ns are the numbers that are ruled out, by the arms of a match or by tests; told is what was said before
 pub last-of : (k : Kind) (told : Type 0) (last : ℕ) (ns : List ℕ) {n : ℕ} → passes (isLast k last) ns calls ≡ true → same Unlisted k ≡ false → kindOf n ≡ k
     → None told n ns → n ≡ last
 unfolding kindOf
