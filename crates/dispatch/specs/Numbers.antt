@@ -33,12 +33,12 @@ line-number n (c ∷ cs) =
 abbrev pub isLast : Kind → ℕ → Listed → Bool
 isLast k last c = cond (same (c .kind) k) (eqb (c .number) last) true
 
--- ns are the numbers that are ruled out, by the arms of a match or by tests; told is what was said before
-pub last-of : (k : Kind) (told : Type 0) (last : ℕ) (ns : List ℕ) {n : ℕ} → passes (isLast k last) ns calls ≡ true → same Unlisted k ≡ false → kindOf n ≡ k
-    → None told n ns → n ≡ last
+-- ns are the numbers that are ruled out, by the arms of a match or by tests; said is what was known before
+pub last-of : (k : Kind) (said : Type 0) (last : ℕ) (ns : List ℕ) {n : ℕ} → passes (isLast k last) ns calls ≡ true → same Unlisted k ≡ false → kindOf n ≡ k
+    → None said n ns → n ≡ last
 unfolding kindOf
-last-of k told last ns {n} p u q x =
-    let t : isLast k last (lineIn n calls) ≡ true = rest (isLast k last) told n ns p (rw u) x in
+last-of k said last ns {n} p u q x =
+    let t : isLast k last (lineIn n calls) ≡ true = rest (isLast k last) said n ns p (rw u) x in
     let is : same (lineIn n calls .kind) k ≡ true = ap (λ (j : Kind). same j k) q ∙ eq-eqb (kindNumber k) (kindNumber k) refl in
     let e : eqb (lineIn n calls .number) last ≡ true = rw is at t in sym (line-number n calls) ∙ eqb-true _ _ e
 
