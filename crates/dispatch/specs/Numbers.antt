@@ -1,11 +1,12 @@
--- A call's number is one of those that the list of calls has of its kind. Those that a test has ruled out are struck off, until one is left.
-use mathlib.Core.Path.{_≡_, refl, sym, _∙_}
+-- A call's number is one of those that the list of calls has of its kind: where all but one of them are ruled out, it is that one.
+use mathlib.Core.Path.{_≡_, refl, sym, ap, _∙_}
 use mathlib.Core.Logic.{_⊎_, inl, inr}
-use mathlib.Core.Bool.{true, false}
+use mathlib.Core.Bool.{Bool, true, false, cond}
 use mathlib.Core.List.{List, [], _∷_}
 use Prim.Native.Nat.{ℕ}
+use lib.Dec.{eqb}
 use denote.Enum.Declared.{tagOf}
-use borrow.Author.Tests.{eq-eqb}
+use borrow.Author.Tests.{eq-eqb, eqb-true}
 use Rattle.lists.specs.Cases.{split, bool-cases}
 use Rattle.format.specs.Diskette.{eightInch}
 use Rattle.model.specs.declared.Asked.{Asked}
@@ -13,39 +14,43 @@ use Rattle.model.specs.declared.Session.{Session}
 use Rattle.model.specs.declared.Kind.{Kind}
 use Rattle.model.specs.declared.Kind.the-variants.{Unlisted, Quiet, Search, User, Settle, Close, Delete, Create, Rename, Read, Write}
 use Rattle.model.proofs.Kind.{the-type}
-use Rattle.model.specs.Kinds.{Listed, calls, kindOf, kindNumber, same, numbersIn, ofRecord}
+use Rattle.model.specs.Kinds.{Listed, calls, lineIn, kindOf, kindNumber, same, ofRecord}
 use Rattle.model.specs.Lent.{Lent, Outcome}
-use Rattle.table.specs.First.{_&_}
-use Rattle.table.specs.Own.{AtEach, at-kind, calling}
-use Rattle.table.specs.OwnStep.{ownStep, own-at}
+use Rattle.model.specs.Table.{ownRows}
+use Rattle.model.specs.Calls.{quietly}
+use Rattle.model.specs.Step.{told}
+use Rattle.table.specs.First.{NoneHolds}
+use Rattle.table.specs.Own.{calling}
+use Rattle.table.specs.OwnStep.{ownStep, own-at, quiet-own}
+use Rattle.calls.specs.Arms.{None, passes, rest}
 
-pub data Among : ℕ → List ℕ → Type 0 where
-  first : {n : ℕ} {cs : List ℕ} → Among n (n ∷ cs)
-  later : {n c : ℕ} {cs : List ℕ} → Among n cs → Among n (c ∷ cs)
+line-number : (n : ℕ) (cs : List Listed) → lineIn n cs .number ≡ n
+line-number n [] = refl
+line-number n (c ∷ cs) =
+    split (bool-cases (eqb n (c .number))) (λ e. rw e (sym (eqb-true n (c .number) e))) (λ e. rw e (line-number n cs))
 
--- the numbers of a kind
-abbrev pub numbersOf : Kind → List ℕ
-numbersOf k = numbersIn (λ (c : Listed). same (c .kind) k) calls
+-- of this kind the line has no other number
+abbrev pub isLast : Kind → ℕ → Listed → Bool
+isLast k last c = cond (same (c .kind) k) (eqb (c .number) last) true
 
-each : (P : ℕ → Type 0) (cs : List ℕ) → ((n : ℕ) → Among n cs → P n) → AtEach P cs
-each P [] f = tt
-each P (c ∷ cs) f = f c first & each P cs (λ n x. f n (later x))
-
-pub of-kind : (k : Kind) (n : ℕ) → same Unlisted k ≡ false → kindOf n ≡ k → Among n (numbersOf k)
-of-kind k n listed = at-kind (λ (m : ℕ). Among m (numbersOf k)) k n listed (each (λ (m : ℕ). Among m (numbersOf k)) (numbersOf k) (λ m x. x))
-
-pub left : {n c : ℕ} {cs : List ℕ} → Among n (c ∷ cs) → (n ≡ c → ⊥) → Among n cs
-left first other = absurd (other refl)
-left (later x) other = x
-
-pub only : {n c : ℕ} → Among n (c ∷ []) → n ≡ c
-only first = refl
-only (later x) = elim x [ ]
+-- ns are the numbers that are ruled out, by the arms of a match or by tests; said is what was known before
+pub last-of : (k : Kind) (said : Type 0) (last : ℕ) (ns : List ℕ) {n : ℕ} → passes (isLast k last) ns calls ≡ true → same Unlisted k ≡ false → kindOf n ≡ k
+    → None said n ns → n ≡ last
+unfolding kindOf
+last-of k said last ns {n} p u q x =
+    let t : isLast k last (lineIn n calls) ≡ true = rest (isLast k last) said n ns p (rw u) x in
+    let is : same (lineIn n calls .kind) k ≡ true = ap (λ (j : Kind). same j k) q ∙ eq-eqb (kindNumber k) (kindNumber k) refl in
+    let e : eqb (lineIn n calls .number) last ≡ true = rw is at t in sym (line-number n calls) ∙ eqb-true _ _ e
 
 -- what a call's own function promises, whatever else is asked, is what is asked where the number is the call's
 pub at-number : {o : Outcome} {n : ℕ} (asked : Asked) (l : Lent) (s : Session) → asked .number ≡ n → ((a : Asked) → o ≡ ownStep eightInch (calling n a) l s)
     → o ≡ ownStep eightInch asked l s
 at-number {o} {n} asked l s q h = h asked ∙ own-at eightInch asked l s n q
+
+-- a quiet call that no row names leaves what its rule tells
+pub told-at : {o : Outcome} (n : ℕ) (asked : Asked) (l : Lent) (s : Session) → asked .number ≡ n → kindOf (asked .number) ≡ Quiet
+    → NoneHolds (ownRows eightInch (calling n asked) l s) → o ≡ quietly (told eightInch (calling n asked) l s) s l → o ≡ ownStep eightInch asked l s
+told-at {o} n asked l s q k none h = quiet-own eightInch (calling n asked) l s o (ap kindOf (sym q) ∙ k) none h ∙ own-at eightInch asked l s n q
 
 -- ---- an arm of several kinds goes by the place of each in the enum, which is its number
 tag-is : (k : Kind) → tagOf the-type k ≡ kindNumber k

@@ -15,7 +15,7 @@ use model::Code;
 use model::Kind;
 use model::Session;
 
-// The quiet calls: 15, 35, 36 and 46.
+// The quiet calls, each by its number.
 fn quiet_call(
     asked: Asked,
     image: &[u8],
@@ -31,16 +31,12 @@ fn quiet_call(
         ≡ ownStep eightInch asked (lend (now (image .entry)) (now (map .entry)) (now (fcb .entry)) (now (buffer .entry))) session ⌝ }
 {
     let number = asked.number;
-    if number == 15 {
-        return files::open_file(image, fcb, session, chain);
+    match number {
+        15 => files::open_file(image, fcb, session, chain),
+        35 => files::file_size(image, fcb, session),
+        36 => plain::random_record(fcb, session),
+        _ => plain::free_space(map, buffer, session),
     }
-    if number == 35 {
-        return files::file_size(image, fcb, session);
-    }
-    if number == 36 {
-        return plain::random_record(fcb, session);
-    }
-    plain::free_space(map, buffer, session)
 }
 
 // The searches: 17 and 18.

@@ -27,7 +27,7 @@ abbrev pub refused : Code → Session → Lent → Outcome
 refused code s l = ends code (refusedSession code s) l
 
 module _ (G : Geometry) (asked : Asked) (l : Lent) (s : Session) where
-  -- what a quiet call tells, by its number; the last is 46
+  -- what a quiet call tells, by its number; only listed numbers come here
   unfoldable pub told : Told
   told =
       cond (eqb (asked .number) 15) (opened G s l)

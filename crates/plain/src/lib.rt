@@ -1,5 +1,5 @@
-// The calls that look for no entry: 13 log in, 32 user number, 36 random record, 46 space, 98 free blocks. Each is handed only what
-// it reads or changes; what it promises holds whatever the other buffers are.
+// The calls that look for no entry. Each is handed only what it reads or changes; what it promises holds whatever the other buffers
+// are. A quiet call that no row of the table names promises what its rule tells, the others their own step.
 ghost use mathlib.Core.Path.{_≡_};
 ghost use lib.ListN.{length};
 ghost use Rattle.format.specs.Diskette.{Bytes, eightInch, recordBytes};
@@ -7,6 +7,7 @@ ghost use Rattle.format.specs.Entries.{entryAt};
 ghost use Rattle.facts.specs.Marks.{Marked, markCount};
 ghost use Rattle.format.specs.Fcb.{fcbBytes};
 ghost use Rattle.model.specs.Lent.{lend, outcome};
+ghost use Rattle.model.specs.Calls.{quietly, space};
 ghost use Rattle.model.specs.Table.{positionRight};
 ghost use Rattle.table.specs.Own.{calling};
 ghost use Rattle.table.specs.OwnStep.{ownStep};
@@ -70,8 +71,8 @@ pub fn random_record(fcb: &mut [u8], session: Session) -> Answer
 // 46: the records of the free blocks into the buffer's first three bytes.
 pub fn free_space(map: &[u16], buffer: &mut [u8], session: Session) -> Answer
     requires { ⌜ (length (now map) ≡ eightInch .blocks) × (length (now buffer) ≡ recordBytes) ⌝ }
-    ensures { λ r. ⌜ ((asked : Asked) (image fcb : Bytes) → outcome r image (now (map .entry)) fcb (now (buffer .exit))
-        ≡ ownStep eightInch (calling 46 asked) (lend image (now (map .entry)) fcb (now (buffer .entry))) session) ⌝ }
+    ensures { λ r. ⌜ ((image fcb : Bytes) → let l = lend image (now (map .entry)) fcb (now (buffer .entry)) in
+        outcome r image (now (map .entry)) fcb (now (buffer .exit)) ≡ quietly (space eightInch session l) session l) ⌝ }
 {
     let n = format::RECORDS_PER_BLOCK * notes::free_count(map);
     entering::put_three(buffer, 0, n);

@@ -8,10 +8,12 @@ use Rattle.model.specs.declared.Session.{Session}
 use Rattle.model.specs.declared.Answer.{Answer}
 use Rattle.model.specs.declared.Code.{Code}
 use Rattle.model.specs.declared.Code.the-variants.{BadParameter, BadDisk}
-use Rattle.model.specs.Kinds.{isCall}
+use Rattle.model.specs.declared.Kind.the-variants.{Quiet}
+use Rattle.model.specs.Kinds.{kindOf, isCall}
 use Rattle.model.specs.Lent.{Lent, Outcome, outcome, answerOf}
 use Rattle.model.specs.Table.{parametersRight, diskRight, when, firstRow, ownRows, verdict}
-use Rattle.model.specs.Step.{refusedSession, refused, effect, carriedOut, step}
+use Rattle.model.specs.Calls.{quietly}
+use Rattle.model.specs.Step.{refusedSession, refused, told, effect, carriedOut, step}
 use Rattle.table.specs.First.{NoneHolds, Decides, first-passes, none-passed, decides-refused}
 use Rattle.table.specs.Own.{calling, verdict-rows}
 use Rattle.table.specs.Facts.{Ready}
@@ -40,6 +42,11 @@ module _ (G : Geometry) (asked : Asked) (l : Lent) (s : Session) where
 
   pub carries-own : (o : Outcome) → NoneHolds (ownRows G asked l s) → o ≡ effect G asked l s → o ≡ ownStep
   carries-own o none q = q ∙ sym (own-carried none)
+
+  -- a quiet call leaves what it tells
+  pub quiet-own : (o : Outcome) → kindOf (asked .number) ≡ Quiet → NoneHolds (ownRows G asked l s) → o ≡ quietly (told G asked l s) s l → o ≡ ownStep
+  unfolding effect
+  quiet-own o k none q = carries-own o none (q ∙ rw k)
 
   -- ---- the table decides a call that the first three rows have passed as its own rows do
   pub verdict-own : isCall (asked .number) ≡ true → Ready G asked l s → verdict G asked l s ≡ firstRow (ownRows G asked l s)

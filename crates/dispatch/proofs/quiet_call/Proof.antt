@@ -1,39 +1,29 @@
--- 15, 35, 36, or else the one that is left.
+-- Each arm is the call of its number; the rest is the one number of the kind that has no arm.
 use mathlib.Core.Path.{refl}
+use mathlib.Core.List.{[], _∷_}
 use borrow.Author.Needs.{needs}
 use Rattle.model.specs.declared.Kind.the-variants.{Quiet}
-use Rattle.dispatch.specs.Numbers.{of-kind, left, only, at-number}
+use Rattle.model.specs.Step.{told}
+use Rattle.dispatch.specs.Numbers.{last-of, at-number, told-at}
 use Rattle.dispatch.proofs.quiet_call.Statement.{statement}
 use Rattle.dispatch.proofs.quiet_call.Tie as tie
 
-returns : tie.Need-returns
-returns c = at-number _ _ _ (c .before .before .before .before .if1 .taken) (λ a. c .before .before .open-file .ensures a _ _)
-
-returns-2 : tie.Need-returns-2
-returns-2 c = at-number _ _ _ (c .before .before .before .before .if2 .taken) (λ a. c .before .before .file-size .ensures a _ _)
-
-returns-3 : tie.Need-returns-3
-returns-3 c = at-number _ _ _ (c .before .before .before .before .if3 .taken) (λ a. c .before .before .random-record .ensures a _ _ _)
-
-returns-4 : tie.Need-returns-4
-returns-4 c =
-    let i = c .before .before .before .before in let some = of-kind Quiet _ refl (i .before .before .before .before .before .before .before .before .pre .0) in
-    let last = only (left (left (left some (i .before .before .if1 .left)) (i .before .if2 .left)) (i .if3 .left)) in
-    at-number _ _ _ last (λ a. c .before .before .free-space .ensures a _ _)
-
 pub quiet-call-spec : {M : Type 1} → statement M
+unfolding told
 quiet-call-spec =
     tie.close
     (tie.spec
     (λ c κs. search needs)
-    (λ c. search needs)
-    returns
+    (λ c κs. search needs)
+    (λ c κs. search needs)
     (λ c κs. search needs)
     (λ c. search needs)
-    returns-2
-    (λ c κs. search needs)
+    (λ c. at-number _ _ _ (c .before .before .before .before .match .keys1) (λ a. c .before .before .open-file .ensures a _ _))
     (λ c. search needs)
-    returns-3
-    (λ c κs. search needs)
+    (λ c. at-number _ _ _ (c .before .before .before .before .match .keys2) (λ a. c .before .before .file-size .ensures a _ _))
     (λ c. search needs)
-    returns-4)
+    (λ c. at-number _ _ _ (c .before .before .before .before .match .keys3) (λ a. c .before .before .random-record .ensures a _ _ _))
+    (λ c. search needs)
+    (λ c. let m = c .before .before .before .before in
+    let q = m .before .before .before .before .before .before .pre .0 in
+    told-at 46 _ _ _ (last-of Quiet _ 46 (15 ∷ 35 ∷ 36 ∷ []) refl refl q (m .match .rest)) q tt (c .before .before .free-space .ensures _ _)))

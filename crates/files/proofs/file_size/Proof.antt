@@ -1,32 +1,41 @@
 -- Each answer is that of the row that decides; where none holds, the largest size goes into r0 to r2.
-use mathlib.Core.Path.{sym, ap, _∙_}
-use Prim.Native.Nat.{ℕ}
-use borrow.Author.Tests.{not-true, not-false}
-use Rattle.lists.specs.Splice.{splice}
+use mathlib.Core.Path.{refl, sym, ap, _∙_}
+use mathlib.Core.Bool.{not}
 use Rattle.format.specs.Diskette.{eightInch}
-use Rattle.model.specs.Entering.{threeBytes}
-use Rattle.files.specs.Steps.{size-wrong, size-missed, size-done}
+use Rattle.model.specs.declared.Code.the-variants.{BadName, Failed}
+use Rattle.model.specs.Calls.{sized}
+use Rattle.model.specs.Kinds.{kindOf}
+use Rattle.model.specs.Step.{told}
+use Rattle.model.specs.Table.{anyNamed}
+use Rattle.table.specs.First.{here, later}
+use Rattle.table.specs.Own.{calling}
+use Rattle.table.specs.OwnStep.{refuses-own, quiet-own}
 use borrow.Author.Needs.{needs}
 use Rattle.files.proofs.file_size.Statement.{statement}
 use Rattle.files.proofs.file_size.Tie as tie
 
 returns : tie.Need-returns
 returns c = λ asked map buffer.
-    size-wrong eightInch asked _ _ _ (sym (c .before .before .name-right .ensures) ∙ not-true _ (c .before .if1 .taken)) (c .refuse .ensures)
+    refuses-own eightInch (calling 35 asked) _ _ BadName _ (here (ap not (sym (c .before .before .name-right .ensures)) ∙ c .before .if1 .taken) refl) (c .refuse .ensures)
 
 returns-2 : tie.Need-returns-2
+unfolding anyNamed
 returns-2 c = λ asked map buffer.
-    let u = c .before .before .before .before .before in
-    size-missed eightInch asked _ _ _ (sym (u .before .name-right .ensures) ∙ not-false _ (u .if1 .left))
-    (sym (c .before .before .before .find-named .ensures) ∙ c .before .enum-told2 .given .1) (c .refuse2 .ensures)
+    let f = c .before .before .before in
+    let u = f .before .before in
+    refuses-own eightInch (calling 35 asked) _ _ Failed _
+    (later (ap not (sym (u .before .name-right .ensures)) ∙ u .if1 .left) (here (rw (← f .find-named .ensures, c .before .enum-told2 .given .1)) refl))
+    (c .refuse2 .ensures)
 
 returns-3 : tie.Need-returns-3
+unfolding anyNamed sized kindOf told
 returns-3 c = λ asked map buffer.
-    let k = c .before .before .before .before .before .before .before in
+    let p = c .before .before .before in
+    let k = p .before .before .before .before in
     let u = k .before .before .before .before in
-    size-done eightInch asked _ _ _ _ _ (sym (u .before .name-right .ensures) ∙ not-false _ (u .if1 .left))
-    (sym (k .before .before .find-named .ensures) ∙ k .enum-told .given .1) (c .done .ensures)
-    (c .before .before .before .put-three .ensures ∙ ap (λ (n : ℕ). splice (u .before .before .before .before .before .args .fcb .now) 33 (threeBytes n)) (c .before .before .before .before .before .largest-size .ensures))
+    quiet-own eightInch (calling 35 asked) _ _ _ refl
+    (ap not (sym (u .before .name-right .ensures)) ∙ u .if1 .left, (rw (← k .before .before .find-named .ensures, k .enum-told .given .1), tt))
+    (rw (c .done .ensures, p .put-three .ensures, p .before .before .largest-size .ensures))
 
 pub file-size-spec : {M : Type 1} → statement M
 file-size-spec =

@@ -1,36 +1,29 @@
 -- An FCB whose numbers are out of range is refused; otherwise the record that it stands at is put into r0 to r2.
+use mathlib.Core.Path.{refl, sym, ap, _∙_}
+use mathlib.Core.Bool.{not}
 use Rattle.format.specs.Diskette.{eightInch}
-use Rattle.model.specs.Lent.{lend}
-use mathlib.Core.Path.{ap, sym, _∙_}
-use Prim.Native.Nat.{ℕ}
-use native.Mathlib.Omega.{arith}
-use borrow.Author.Tests.{not-true, not-false}
-use Rattle.lists.specs.Splice.{splice}
-use Rattle.model.specs.Entering.{threeBytes}
+use Rattle.model.specs.Calls.{positioned}
+use Rattle.model.specs.Kinds.{kindOf}
+use Rattle.model.specs.Step.{told}
 use Rattle.model.specs.declared.Code.the-variants.{Failed}
+use Rattle.table.specs.First.{here}
 use Rattle.table.specs.Own.{calling}
-use Rattle.table.specs.OwnStep.{refuses-own}
-use Rattle.plain.specs.Plain.{position-refused, position-told}
+use Rattle.table.specs.OwnStep.{refuses-own, quiet-own}
 use borrow.Author.Needs.{needs}
 use Rattle.plain.proofs.random_record.Statement.{statement}
 use Rattle.plain.proofs.random_record.Tie as tie
 
 returns : tie.Need-returns
-returns c =
-    let a = c .before .before .before .before .before .args in
-    λ asked image map buffer. refuses-own eightInch (calling 36 asked) (lend image map (a .fcb .now) buffer) (a .session) Failed (c .refuse .result)
-    (position-refused eightInch asked (lend image map (a .fcb .now) buffer) (a .session)
-    (sym (c .before .before .position-right .ensures) ∙ not-true _ (c .before .if1 .taken)))
-    (c .refuse .ensures)
+returns c = λ asked image map buffer.
+    refuses-own eightInch (calling 36 asked) _ _ Failed _ (here (ap not (sym (c .before .before .position-right .ensures)) ∙ c .before .if1 .taken) refl) (c .refuse .ensures)
 
 returns-2 : tie.Need-returns-2
+unfolding positioned kindOf told
 returns-2 c =
-    let b = c .before .before .before .before .before .before .before .before .before in
-    let a = b .before .before .before .before .args in
-    λ asked image map buffer. position-told eightInch asked (lend image map (a .fcb .now) buffer) (a .session)
-    (c .done .result) (c .before .before .before .put-three .last .0) (sym (b .before .position-right .ensures) ∙ not-false _ (b .if1 .left)) (c .done .ensures)
-    (c .before .before .before .put-three .ensures ∙ ap (λ (n : ℕ). splice (a .fcb .now) 33 (threeBytes n))
-    (omega (arith, c .before .before .before .before .before .before .before .extent .ensures .0, c .before .before .before .before .before .wide .ensures .0)))
+    let p = c .before .before .before in
+    let b = p .before .before .before .before .before .before in
+    λ asked image map buffer. quiet-own eightInch (calling 36 asked) _ _ _ refl (ap not (sym (b .before .position-right .ensures)) ∙ b .if1 .left, tt)
+    (rw (c .done .ensures, p .put-three .ensures, p .before .before .before .before .extent .ensures .0, p .before .before .wide .ensures .0))
 
 pub random-record-spec : {M : Type 1} → statement M
 random-record-spec =
