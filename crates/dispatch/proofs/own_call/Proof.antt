@@ -5,18 +5,23 @@ use Rattle.format.specs.Diskette.{eightInch}
 use Rattle.table.specs.Own.{not-unlisted}
 use Rattle.table.specs.OwnStep.{own-at}
 use Rattle.dispatch.specs.Numbers.{last-of, at-number, moves-record}
+use Rattle.model.specs.Lent.{Lent, lend}
 use Rattle.model.specs.declared.Kind.the-variants.{User, Settle, Close, Delete, Create, Rename}
 use borrow.Author.Needs.{needs}
 use Rattle.dispatch.proofs.own_call.Statement.{statement}
 use Rattle.dispatch.proofs.own_call.Tie as tie
 
+-- what the call was given
+abbrev given : tie.Start → Lent
+given s = lend (s .args .image .now) (s .args .map .now) (s .args .fcb .now) (s .args .buffer .now)
+
 quiet-call-requires : tie.Need-quiet-call-requires
 quiet-call-requires c κs =
-    let t = c .before .before .before .before in let p = t .before .before .before .before .before .before .before .pre in (sym (t .before .before .before .before .before .before .before .pre .0) ∙ t .enum-told .given .1, p .3 .fits, p .4)
+    let t = c .before .before .before .before in let p = t .before .before .before .before .before .before .before .pre in (sym (p .0) ∙ t .enum-told .given .1, p .3 .fits, p .4)
 
 search-call-requires : tie.Need-search-call-requires
 search-call-requires c κs =
-    let t = c .before .before .before .before in let p = t .before .before .before .before .before .before .before .pre in (sym (t .before .before .before .before .before .before .before .pre .0) ∙ t .enum-told2 .given .1, p .3 .fits)
+    let t = c .before .before .before .before in let p = t .before .before .before .before .before .before .before .pre in (sym (p .0) ∙ t .enum-told2 .given .1, p .3 .fits)
 
 delete-file-requires : tie.Need-delete-file-requires
 delete-file-requires c κs =
@@ -41,35 +46,35 @@ returns-3 c =
 
 returns-4 : tie.Need-returns-4
 returns-4 c =
-    let f = c .before .before in let t = f .before .before in let p = t .before .before .before .before .before .before .before .pre in
-    at-number _ _ _ (last-of Settle _ 98 (13 ∷ []) refl refl (sym (t .before .before .before .before .before .before .before .pre .0) ∙ t .enum-told4 .given .1) (tt {0}, p .2))
+    let f = c .before .before in let t = f .before .before in let s = t .before .before .before .before .before .before .before in
+    at-number (s .args .asked) (given s) (s .args .session) (last-of Settle _ 98 (13 ∷ []) refl refl (sym (s .pre .0) ∙ t .enum-told4 .given .1) (tt {0}, s .pre .2))
     (λ a. f .free-blocks .ensures a _ _ _)
 
 returns-5 : tie.Need-returns-5
 returns-5 c =
-    let f = c .before .before .before .before .before .before in let t = f .before .before .before .before in
-    at-number _ _ _ (last-of Close _ 16 [] refl refl (sym (t .before .before .before .before .before .before .before .pre .0) ∙ t .enum-told5 .given .1) (tt {0})) (λ a. f .close-file .ensures a _)
+    let f = c .before .before .before .before .before .before in let t = f .before .before .before .before in let s = t .before .before .before .before .before .before .before in
+    at-number (s .args .asked) (given s) (s .args .session) (last-of Close _ 16 [] refl refl (sym (s .pre .0) ∙ t .enum-told5 .given .1) (tt {0})) (λ a. f .close-file .ensures a _)
 
 returns-6 : tie.Need-returns-6
 returns-6 c =
-    let f = c .before .before .before .before in let t = f .before .before .before .before in
-    at-number _ _ _ (last-of Delete _ 19 [] refl refl (sym (t .before .before .before .before .before .before .before .pre .0) ∙ t .enum-told6 .given .1) (tt {0})) (λ a. f .delete-file .ensures a _)
+    let f = c .before .before .before .before in let t = f .before .before .before .before in let s = t .before .before .before .before .before .before .before in
+    at-number (s .args .asked) (given s) (s .args .session) (last-of Delete _ 19 [] refl refl (sym (s .pre .0) ∙ t .enum-told6 .given .1) (tt {0})) (λ a. f .delete-file .ensures a _)
 
 returns-7 : tie.Need-returns-7
 returns-7 c =
-    let f = c .before .before .before .before in let t = f .before .before .before in
-    at-number _ _ _ (last-of Create _ 22 [] refl refl (sym (t .before .before .before .before .before .before .before .pre .0) ∙ t .enum-told7 .given .1) (tt {0})) (λ a. f .make-file .ensures a _ _)
+    let f = c .before .before .before .before in let t = f .before .before .before in let s = t .before .before .before .before .before .before .before in
+    at-number (s .args .asked) (given s) (s .args .session) (last-of Create _ 22 [] refl refl (sym (s .pre .0) ∙ t .enum-told7 .given .1) (tt {0})) (λ a. f .make-file .ensures a _ _)
 
 returns-8 : tie.Need-returns-8
 returns-8 c =
-    let f = c .before .before in let t = f .before .before .before in
-    at-number _ _ _ (last-of Rename _ 23 [] refl refl (sym (t .before .before .before .before .before .before .before .pre .0) ∙ t .enum-told8 .given .1) (tt {0})) (λ a. f .rename-file .ensures a _ _)
+    let f = c .before .before in let t = f .before .before .before in let s = t .before .before .before .before .before .before .before in
+    at-number (s .args .asked) (given s) (s .args .session) (last-of Rename _ 23 [] refl refl (sym (s .pre .0) ∙ t .enum-told8 .given .1) (tt {0})) (λ a. f .rename-file .ensures a _ _)
 
 returns-9 : tie.Need-returns-9
 returns-9 c = c .before .before .before .before .before .before .before .before .record-call .ensures
 
 returns-10 : tie.Need-returns-10
-returns-10 c = let t = c .before in not-unlisted _ (t .before .before .before .before .before .before .before .pre .1) (sym (t .before .before .before .before .before .before .before .pre .0) ∙ t .enum-told9 .given .1)
+returns-10 c = let t = c .before in let p = t .before .before .before .before .before .before .before .pre in not-unlisted _ (p .1) (sym (p .0) ∙ t .enum-told9 .given .1)
 
 pub own-call-spec : {M : Type 1} → statement M
 own-call-spec =
@@ -94,36 +99,36 @@ own-call-spec =
     record-call-requires
     (λ c. search needs)
     (λ c κs. search needs)
-    (λ c. search needs)
-    (λ c. search needs)
-    (λ c. search needs)
-    (λ c. search needs)
+    (λ c. refl)
+    (λ c. refl)
+    (λ c. c .before .before .before .before .quiet-call .kept .1 .1 .1 .0)
+    (λ c. c .before .before .before .before .quiet-call .kept .1 .1 .1 .1 .0)
     returns
-    (λ c. search needs)
-    (λ c. search needs)
-    (λ c. search needs)
-    (λ c. search needs)
+    (λ c. refl)
+    (λ c. refl)
+    (λ c. refl)
+    (λ c. c .before .before .search-call .kept .1 .1 .1 .1 .0)
     returns-2
     returns-3
-    (λ c. search needs)
+    (λ c. c .before .before .free-blocks .kept .0)
     returns-4
-    (λ c. search needs)
-    (λ c. search needs)
-    (λ c. search needs)
+    (λ c. c .before .before .before .before .before .before .close-file .kept .0)
+    (λ c. c .before .before .before .before .before .before .close-file .kept .1 .0)
+    (λ c. c .before .before .before .before .before .before .close-file .kept .1 .1 .0)
     returns-5
-    (λ c. search needs)
-    (λ c. search needs)
-    (λ c. search needs)
+    (λ c. c .before .before .before .before .delete-file .kept .0)
+    (λ c. c .before .before .before .before .delete-file .kept .1 .0)
+    (λ c. refl)
     returns-6
-    (λ c. search needs)
-    (λ c. search needs)
+    (λ c. c .before .before .before .before .make-file .kept .0)
+    (λ c. c .before .before .before .before .make-file .kept .1 .0)
     returns-7
-    (λ c. search needs)
-    (λ c. search needs)
+    (λ c. c .before .before .rename-file .kept .0)
+    (λ c. refl)
     returns-8
-    (λ c. search needs)
-    (λ c. search needs)
-    (λ c. search needs)
-    (λ c. search needs)
+    (λ c. c .before .before .before .before .before .before .before .before .record-call .kept .1 .0)
+    (λ c. c .before .before .before .before .before .before .before .before .record-call .kept .1 .1 .0)
+    (λ c. c .before .before .before .before .before .before .before .before .record-call .kept .1 .1 .1 .0)
+    (λ c. c .before .before .before .before .before .before .before .before .record-call .kept .1 .1 .1 .1 .0)
     returns-9
     returns-10)
