@@ -13,18 +13,18 @@ use Rattle.model.specs.Kinds.{Listed, noFcb, calls, lineIn, oneOf}
 pub at : {A : Type 0} (says : Listed → A) {n k : ℕ} → n ≡ k → says (lineIn k calls) ≡ says (lineIn n calls)
 at says {n} {k} q = sym (ap (λ (m : ℕ). says (lineIn m calls)) q)
 
--- ---- the rest: n is none of the numbers; told is what the arms in front have said
+-- ---- the rest: n is none of the numbers; said is what was known before, of the arms in front
 abbrev pub None : Type 0 → ℕ → List ℕ → Type 0
-None told n [] = told
-None told n (c ∷ cs) = None (told × (n ≡ c → ⊥)) n cs
+None said n [] = said
+None said n (c ∷ cs) = None (said × (n ≡ c → ⊥)) n cs
 
-front : (told : Type 0) (n : ℕ) (ns : List ℕ) → None told n ns → told
-front told n [] x = x
-front told n (c ∷ cs) x = front (told × (n ≡ c → ⊥)) n cs x .0
+front : (said : Type 0) (n : ℕ) (ns : List ℕ) → None said n ns → said
+front said n [] x = x
+front said n (c ∷ cs) x = front (said × (n ≡ c → ⊥)) n cs x .0
 
-none-of : (told : Type 0) (n : ℕ) (ns : List ℕ) → None told n ns → oneOf n ns ≡ false
-none-of told n [] x = refl
-none-of told n (c ∷ cs) x = rw (ne-eqb n c (front (told × (n ≡ c → ⊥)) n cs x .1)) (none-of (told × (n ≡ c → ⊥)) n cs x)
+none-of : (said : Type 0) (n : ℕ) (ns : List ℕ) → None said n ns → oneOf n ns ≡ false
+none-of said n [] x = refl
+none-of said n (c ∷ cs) x = rw (ne-eqb n c (front (said × (n ≡ c → ⊥)) n cs x .1)) (none-of (said × (n ≡ c → ⊥)) n cs x)
 
 -- every line passes the test, or has its number among these
 abbrev pub passes : (Listed → Bool) → List ℕ → List Listed → Bool
@@ -41,6 +41,6 @@ rest-in t n ns (c ∷ cs) p o d =
     rw e (rw out at (here .0)))
     (λ e. rw e (rest-in t n ns cs (here .1) o d))
 
-pub rest : (t : Listed → Bool) (told : Type 0) (n : ℕ) (ns : List ℕ) → passes t ns calls ≡ true → t (noFcb n Unlisted) ≡ true → None told n ns
+pub rest : (t : Listed → Bool) (said : Type 0) (n : ℕ) (ns : List ℕ) → passes t ns calls ≡ true → t (noFcb n Unlisted) ≡ true → None said n ns
     → t (lineIn n calls) ≡ true
-rest t told n ns p d x = rest-in t n ns calls p (none-of told n ns x) d
+rest t said n ns p d x = rest-in t n ns calls p (none-of said n ns x) d

@@ -16,12 +16,8 @@ use Rattle.model.specs.declared.Kind.the-variants.{Unlisted, Quiet, Search, Use
 use Rattle.model.proofs.Kind.{the-type}
 use Rattle.model.specs.Kinds.{Listed, calls, lineIn, kindOf, kindNumber, same, ofRecord}
 use Rattle.model.specs.Lent.{Lent, Outcome}
-use Rattle.model.specs.Table.{ownRows}
-use Rattle.model.specs.Calls.{quietly}
-use Rattle.model.specs.Step.{told}
-use Rattle.table.specs.First.{NoneHolds}
-use Rattle.table.specs.Own.{calling}
-use Rattle.table.specs.OwnStep.{ownStep, own-at, quiet-own}
+use Rattle.table.specs.Own.{calling, same-self}
+use Rattle.table.specs.OwnStep.{ownStep, own-at}
 use Rattle.calls.specs.Arms.{None, passes, rest}
 
 line-number : (n : ℕ) (cs : List Listed) → lineIn n cs .number ≡ n
@@ -39,18 +35,21 @@ pub last-of : (k : Kind) (said : Type 0) (last : ℕ) (ns : List ℕ) {n : ℕ} 
 unfolding kindOf
 last-of k said last ns {n} p u q x =
     let t : isLast k last (lineIn n calls) ≡ true = rest (isLast k last) said n ns p (rw u) x in
-    let is : same (lineIn n calls .kind) k ≡ true = ap (λ (j : Kind). same j k) q ∙ eq-eqb (kindNumber k) (kindNumber k) refl in
+    let is : same (lineIn n calls .kind) k ≡ true = ap (λ (j : Kind). same j k) q ∙ same-self k in
     let e : eqb (lineIn n calls .number) last ≡ true = rw is at t in sym (line-number n calls) ∙ eqb-true _ _ e
+
+-- where the kind has this number alone
+pub only-of : (k : Kind) (last : ℕ) {n : ℕ} → passes (isLast k last) [] calls ≡ true → same Unlisted k ≡ false → kindOf n ≡ k → n ≡ last
+only-of k last p u q = last-of k (Unit {0}) last [] p u q tt
+
+-- where it has one more, which is ruled out
+pub other-of : (k : Kind) (last c : ℕ) {n : ℕ} → passes (isLast k last) (c ∷ []) calls ≡ true → same Unlisted k ≡ false → kindOf n ≡ k → (n ≡ c → ⊥) → n ≡ last
+other-of k last c p u q ne = last-of k (Unit {0}) last (c ∷ []) p u q (tt, ne)
 
 -- what a call's own function promises, whatever else is asked, is what is asked where the number is the call's
 pub at-number : {o : Outcome} {n : ℕ} (asked : Asked) (l : Lent) (s : Session) → asked .number ≡ n → ((a : Asked) → o ≡ ownStep eightInch (calling n a) l s)
     → o ≡ ownStep eightInch asked l s
 at-number {o} {n} asked l s q h = h asked ∙ own-at eightInch asked l s n q
-
--- a quiet call that no row names leaves what its rule tells
-pub told-at : {o : Outcome} (n : ℕ) (asked : Asked) (l : Lent) (s : Session) → asked .number ≡ n → kindOf (asked .number) ≡ Quiet
-    → NoneHolds (ownRows eightInch (calling n asked) l s) → o ≡ quietly (told eightInch (calling n asked) l s) s l → o ≡ ownStep eightInch asked l s
-told-at {o} n asked l s q k none h = quiet-own eightInch (calling n asked) l s o (ap kindOf (sym q) ∙ k) none h ∙ own-at eightInch asked l s n q
 
 -- ---- an arm of several kinds goes by the place of each in the enum, which is its number
 tag-is : (k : Kind) → tagOf the-type k ≡ kindNumber k

@@ -41,7 +41,7 @@ use Rattle.effects.specs.Cur.{Cur, current-cur, cur-uses, cur-mine}
 use Rattle.effects.specs.Where.{Theirs, was-theirs}
 use Rattle.effects.specs.Book.{Book, settledBy, entryBefore, closedBook, movedBook}
 use Rattle.effects.specs.Change.{Change, asItWas, no-change, then-change}
-use Rattle.fields.specs.Images.{row-closedImage-other}
+use Rattle.fields.specs.Images.{row-closedImage-other, length-row-closed}
 use Rattle.effects.specs.Closed.{byName, closed-change}
 use Rattle.facts.specs.Current.{current-says}
 use Rattle.current.specs.Current.{fcb-says}
@@ -203,18 +203,21 @@ module _ {G : Geometry} (S : Sound G) (n : ℕ) (l : Lent) (s : Session) (g : Go
         empty-elsewhere (rowsOf G l) t e (empty-says G (rowsOf G l) t room .holds)
         (cur-uses G (viewOf G (l .drive .image) (l .drive .map)) (s .user) (f .user-low) (l .fcb) e present-cur)
 
-    -- the FCB's entry as it stands after the close
+    -- after the close: the image, and the FCB's entry there
+    mid : Bytes
+    mid = closedImage G (l .drive .image) e (l .fcb)
+
     shut : Bytes
-    shut = entryAt G (closedImage G (l .drive .image) e (l .fcb)) e
+    shut = entryAt G mid e
 
     long : length shut ≡ entryBytes
-    unfolding shut
-    long = length-entryAt S (closedImage G (l .drive .image) e (l .fcb)) (closed-by .good .image-long) e (present-cur .low)
+    unfolding shut mid
+    long = length-row-closed S (l .drive .image) (g .image-long) e (present-cur .low) (l .fcb) e (present-cur .low)
 
     shut-file : isFile G (s .user) (l .fcb) 1 (extentOf (l .fcb)) shut ≡ true
-    unfolding shut
+    unfolding shut mid
     shut-file =
-        isFile-cong G (s .user) (l .fcb) 1 (extentOf (l .fcb)) (entryAt G (closedImage G (l .drive .image) e (l .fcb)) e) (rowsOf G l e)
+        isFile-cong G (s .user) (l .fcb) 1 (extentOf (l .fcb)) shut (rowsOf G l e)
         (closed-file S (l .drive .image) (l .drive .map) g (s .user) (f .user-low) (l .fcb) e (present-current S n l s g f e at) e (present-cur .low)) ∙ present-cur .file
 
     -- the new row
@@ -249,14 +252,10 @@ module _ {G : Geometry} (S : Sound G) (n : ℕ) (l : Lent) (s : Session) (g : Go
     next-named = file-named G (s .user) (l .fcb) 1 (targetExtent n (l .fcb)) next next-file
 
     next-fine : Fine G next
-    unfolding next shut
+    unfolding next shut mid
     next-fine =
         fine-next G shut (targetExtent n (l .fcb)) long
         (closed-by .good .inv .dir .fine e (present-cur .low) (file-used G (s .user) (l .fcb) 1 (extentOf (l .fcb)) shut shut-file (f .user-low))) low
-
-    -- after the close
-    mid : Bytes
-    mid = closedImage G (l .drive .image) e (l .fcb)
 
     mid-map : Bytes
     mid-map = closedMap G (rowsOf G l e) (l .fcb) (l .drive .map)

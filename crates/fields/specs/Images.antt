@@ -8,7 +8,10 @@ use Rattle.format.specs.Entries.{entryAt, withEntry}
 use Rattle.disk.specs.Places.{blockRecords}
 use Rattle.rows.specs.Entries.{areaRecords, length-entryAt, length-withEntry, entry-own, entry-stored, entry-left, record-kept}
 use Rattle.model.specs.Closing.{closedRow, closeChanges, closedImage}
-use Rattle.fields.specs.Closing.{length-closedRow, row-kept}
+use Rattle.facts.specs.Long.{long-on}
+use Rattle.model.specs.Entering.{nextRow}
+use Rattle.fields.specs.Closing.{length-closedRow, head-closed, row-kept}
+use Rattle.fields.specs.Making.{next-cong}
 
 module _ {G : Geometry} (S : Sound G) (img : Bytes) (long : Long G img) (e : ℕ) (below : e < G .entries) (fcb : Bytes) where
   whole : length (closedRow G (entryAt G img e) fcb) ≡ entryBytes
@@ -29,6 +32,15 @@ module _ {G : Geometry} (S : Sound G) (img : Bytes) (long : Long G img) (e : ℕ
 
   pub row-closedImage-other : (f : ℕ) → f < G .entries → (f ≡ e → ⊥) → entryAt G (closedImage G img e fcb) f ≡ entryAt G img f
   row-closedImage-other f h n = rw closed-stored (entry-left S img long e below (closedRow G (entryAt G img e) fcb) whole f h (λ q. n (sym q)))
+
+  -- the entry keeps its length, and what a new one has of it
+  pub length-row-closed : (f : ℕ) → f < G .entries → length (entryAt G (closedImage G img e fcb) f) ≡ entryBytes
+  length-row-closed f h = length-entryAt S (closedImage G img e fcb) (long-on G length-closedImage long) f h
+
+  pub next-closed : (ext : ℕ) → nextRow (entryAt G (closedImage G img e fcb) e) ext ≡ nextRow (entryAt G img e) ext
+  next-closed ext =
+      let row : length (entryAt G img e) ≡ entryBytes = length-entryAt S img long e below in
+      rw row-closedImage (next-cong (closedRow G (entryAt G img e) fcb) (entryAt G img e) ext whole row (head-closed G (entryAt G img e) fcb row))
 
   pub record-closedImage : (d : ℕ) → areaRecords G ≤ d → d < blockRecords G → recordAt G (closedImage G img e fcb) d ≡ recordAt G img d
   record-closedImage d a b = rw closed-stored (record-kept S img long e below (closedRow G (entryAt G img e) fcb) whole d a b)

@@ -12,7 +12,7 @@ use Rattle.lists.specs.Cases.{split, bool-cases, not-both}
 use Rattle.lists.specs.Tests.{_and_, and-first}
 use Rattle.lists.specs.Splice.{splice, set-own}
 use Rattle.lists.specs.Tab.{tab}
-use Rattle.format.specs.Diskette.{Bytes, Geometry, eightInch, Long, entryBytes, slotCount, slotsOn}
+use Rattle.format.specs.Diskette.{Bytes, Geometry, eightInch, Long, slotCount, slotsOn}
 use Rattle.format.specs.Entries.{Rows, withEntry, exOf, s2Of, rcOf, countOf, withNumbers, slotsOf, slotIn, slotAt, used, extentOf, runOf, covers, endOf}
 use Rattle.format.specs.Notes.{isPending, pendingEntry, pendingSlot, heldByUsed}
 use Rattle.format.specs.Fcb.{fcbEnd}
@@ -25,9 +25,8 @@ use Rattle.model.specs.Closing.{takesSlot, mergedByte, mergedSlots, endsLater, 
 use Rattle.model.specs.Entering.{copied, interfaceCleared, entered, nextRow}
 use Rattle.model.specs.Target.{targetExtent, stays, within, moved, made}
 use Rattle.fields.specs.Entering.{asExtent-own}
-use Rattle.fields.specs.Closing.{length-closedRow, head-closed}
-use Rattle.fields.specs.Making.{next-cong}
-use Rattle.fields.specs.Images.{row-closedImage, row-closedImage-other}
+use Rattle.fields.specs.Making.{extent-next}
+use Rattle.fields.specs.Images.{row-closedImage-other, next-closed}
 
 -- a note is pending for a used entry: each of the sixteen places is a slot
 pub held-own : (d : Rows) (n : ℕ) → heldByUsed eightInch d n ≡ (isPending n and ltb (pendingEntry n) (eightInch .entries) and used (d (pendingEntry n)))
@@ -63,19 +62,16 @@ unfolding moved
 moved-own ext l e t long he ht other h =
     rw (row-closedImage-other eight-sound (l .drive .image) long e he (l .fcb) t ht other, entered-own (l .fcb) (rowsOf eightInch l t) ext h)
 
--- a close leaves user, name bytes and attributes, so that the new entry takes them from the present one as it came
+-- the present extent is closed, the new entry has the present one's user, name bytes and attributes, and the FCB takes bytes 1 to 31 of it
 pub made-own : (ext : ℕ) (l : Lent) (e t : ℕ) → Long eightInch (l .drive .image) → e < eightInch .entries
     → made eightInch ext l e t
     ≡ lend (withEntry eightInch (closedImage eightInch (l .drive .image) e (l .fcb)) t (nextRow (rowsOf eightInch l e) ext))
-    (closedMap eightInch (rowsOf eightInch l e) (l .fcb) (l .drive .map)) (entered (l .fcb) (nextRow (rowsOf eightInch l e) ext) ext) (l .buffer)
-unfolding made
+    (closedMap eightInch (rowsOf eightInch l e) (l .fcb) (l .drive .map)) (copied (l .fcb) (interfaceCleared (nextRow (rowsOf eightInch l e) ext))) (l .buffer)
+unfolding made entered
 made-own ext l e t long he =
     let row : Bytes = rowsOf eightInch l e in
-    let whole : length row ≡ entryBytes = length-entryAt eight-sound (l .drive .image) long e he in
-    rw (
-      row-closedImage eight-sound (l .drive .image) long e he (l .fcb),
-      next-cong (closedRow eightInch row (l .fcb)) row ext (length-closedRow eightInch row (l .fcb) whole) whole (head-closed eightInch row (l .fcb) whole),
-    )
+    let own : extentOf (nextRow row ext) ≡ ext = extent-next row ext (length-entryAt eight-sound (l .drive .image) long e he) in
+    rw (next-closed eight-sound (l .drive .image) long e he (l .fcb) ext, asExtent-own (nextRow row ext) ext (sym own))
 
 -- ---- a close
 -- each slot where the entry has 0 and the FCB doesn't takes the FCB's block

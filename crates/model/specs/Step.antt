@@ -27,7 +27,7 @@ abbrev pub refused : Code → Session → Lent → Outcome
 refused code s l = ends code (refusedSession code s) l
 
 module _ (G : Geometry) (asked : Asked) (l : Lent) (s : Session) where
-  -- what a quiet call tells, by its number; only listed numbers come here
+  -- what a quiet call tells, by its number: the rule of each, and the last is that of the number which is left in the list of calls, 46
   unfoldable pub told : Told
   told =
       cond (eqb (asked .number) 15) (opened G s l)

@@ -96,15 +96,14 @@ module _ (G : Geometry) (n user : ℕ) (l : Lent) where
   unfoldable pub plan : Plan
   plan = planFrom (numberOf (G .entries) (presentEntry G user l))
 
--- ---- moving: the present extent (entry e) is closed, then the FCB takes the target's entry (t), which a write may have to make. Both rows are
--- read as they stand after the close: on a disk whose entries cover several extents they may be one, and a new entry takes the attributes that
--- the present one has then
+-- ---- moving: the present extent (entry e) is closed, then the FCB takes the target's entry (t), which a write may have to make. The target's row
+-- is read after the close: on a disk whose entries cover several extents the two may be one
 unfoldable pub moved : Geometry → ℕ → Lent → ℕ → ℕ → Lent
 moved G ext l e t =
     let img = closedImage G (l .drive .image) e (l .fcb) in
     lend img (closedMap G (rowsOf G l e) (l .fcb) (l .drive .map)) (entered (l .fcb) (entryAt G img t) ext) (l .buffer)
 
--- ext is the new entry's extent
+-- ext is the new entry's extent; its name and attributes are those that the present entry has after the close
 unfoldable pub made : Geometry → ℕ → Lent → ℕ → ℕ → Lent
 made G ext l e t =
     let img = closedImage G (l .drive .image) e (l .fcb) in

@@ -9,8 +9,8 @@ use Rattle.format.specs.Diskette.{Bytes, Geometry, Sound, Long, entryBytes}
 use Rattle.format.specs.Entries.{entryAt, extentOf, slotFor}
 use Rattle.format.specs.Fcb.{fcbBytes}
 use Rattle.facts.specs.Long.{long-on}
-use Rattle.rows.specs.Entries.{length-entryAt, entry-stored}
-use Rattle.fields.specs.Images.{length-closedImage}
+use Rattle.rows.specs.Entries.{entry-stored}
+use Rattle.fields.specs.Images.{length-closedImage, length-row-closed}
 use Rattle.fields.specs.Entering.{extent-entered}
 use Rattle.fields.specs.Making.{length-nextRow, extent-next}
 use Rattle.model.specs.declared.Asked.{Asked}
@@ -76,14 +76,13 @@ unfolding moved made
 arrived-own {G} S ext l (Stay e b) long hf w own = sym own
 arrived-own {G} S ext l (Move e t b) long hf w own =
     let shut : Bytes = closedImage G (l .drive .image) e (l .fcb) in
-    let kept : Long G shut = long-on G (length-closedImage S (l .drive .image) long e (w .0) (l .fcb)) long in
-    let whole = length-entryAt S shut kept t (w .1) in
+    let whole = length-row-closed S (l .drive .image) long e (w .0) (l .fcb) t (w .1) in
     extent-entered (l .fcb) (entryAt G shut t) ext (omega arith) (omega arith) ∙ sym own
 arrived-own {G} S ext l (Make e t b) long hf w own =
     let shut : Bytes = closedImage G (l .drive .image) e (l .fcb) in
     let kept : Long G shut = long-on G (length-closedImage S (l .drive .image) long e (w .0) (l .fcb)) long in
     let row : Bytes = entryAt G shut e in
-    let whole = length-entryAt S shut kept e (w .0) in
+    let whole = length-row-closed S (l .drive .image) long e (w .0) (l .fcb) e (w .0) in
     let next : Bytes = nextRow row ext in
     let full : length next ≡ entryBytes = length-nextRow row ext whole in
     extent-entered (l .fcb) next ext (omega arith) (omega arith) ∙ sym (extent-next row ext whole)

@@ -70,16 +70,16 @@ of-number Write = refl
 pub same-is : (k j : Kind) → same k j ≡ true → k ≡ j
 same-is k j t = sym (of-number k) ∙ ap ofNumber (eqb-true (kindNumber k) (kindNumber j) t) ∙ of-number j
 
+pub same-self : (k : Kind) → same k k ≡ true
+same-self k = eq-eqb (kindNumber k) (kindNumber k) refl
+
 pub kinds-apart : {A : Type 0} (k j : Kind) → same k j ≡ false → k ≡ j → A
-kinds-apart k j f q = not-both (same j j) (eq-eqb (kindNumber j) (kindNumber j) refl) (subst (λ (i : Kind). same i j ≡ false) q f)
+kinds-apart k j f q = not-both (same j j) (same-self j) (subst (λ (i : Kind). same i j ≡ false) q f)
 
 pub is-or-not : (k j : Kind) → (k ≡ j) ⊎ (k ≡ j → ⊥)
 is-or-not k j = split (bool-cases (same k j)) (λ t. inl (same-is k j t)) (λ f. inr (λ q. kinds-apart k j f q))
 
 -- ---- what holds of each number of a kind holds of every call of that kind
-same-self : (k : Kind) → same k k ≡ true
-same-self k = eq-eqb (kindNumber k) (kindNumber k) refl
-
 first-kept : (P : ℕ → Type 0) (b : Bool) (n : ℕ) (ns : List ℕ) → b ≡ true → AtEach P (keepNumber b n ns) → P n
 first-kept P true n ns t x = x .0
 first-kept P false n ns t x = clash (sym t)

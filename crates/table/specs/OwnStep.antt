@@ -43,7 +43,7 @@ module _ (G : Geometry) (asked : Asked) (l : Lent) (s : Session) where
   pub carries-own : (o : Outcome) → NoneHolds (ownRows G asked l s) → o ≡ effect G asked l s → o ≡ ownStep
   carries-own o none q = q ∙ sym (own-carried none)
 
-  -- a quiet call leaves what it tells
+  -- a quiet call none of whose rows holds leaves what its rule tells
   pub quiet-own : (o : Outcome) → kindOf (asked .number) ≡ Quiet → NoneHolds (ownRows G asked l s) → o ≡ quietly (told G asked l s) s l → o ≡ ownStep
   unfolding effect
   quiet-own o k none q = carries-own o none (q ∙ rw k)

@@ -238,7 +238,7 @@ module _ (G : Geometry) (asked : Asked) (l : Lent) (s : Session) where
   pub never-not-closed : verdict G asked l s ≡ Refused Code.NotClosed → ⊥
   never-not-closed q =
       let d = own-decides G asked l s (isCode Code.NotClosed) Code.NotClosed refl refl refl refl (refuses G asked l s Code.NotClosed q) .1 in
-      at-one (λ (n : ℕ). Decides Code.NotClosed (ownRows G (calling n asked) l s) → ⊥) (asked .number) (20 ∷ 21 ∷ 33 ∷ 34 ∷ [])
+      at-one (λ (n : ℕ). Decides Code.NotClosed (ownRows G (calling n asked) l s) → ⊥) (asked .number) (gives Code.NotClosed)
       (own-given G asked l s Code.NotClosed d)
       ((λ v. no-three _ _ (_ ∷ []) _ refl refl (λ h. h .0) v)
       & (λ v. no-three _ _ (_ ∷ _ ∷ []) _ refl refl (λ h. h .0) v)
@@ -249,7 +249,7 @@ module _ (G : Geometry) (asked : Asked) (l : Lent) (s : Session) where
   pub random-over : verdict G asked l s ≡ Refused Code.BadRecord → lastRecord < randomOf (l .fcb)
   random-over q =
       let d = own-decides G asked l s (isCode Code.BadRecord) Code.BadRecord refl refl refl refl (refuses G asked l s Code.BadRecord q) .1 in
-      ltb-true _ _ (at-one (λ (n : ℕ). Decides Code.BadRecord (ownRows G (calling n asked) l s) → ltb lastRecord (randomOf (l .fcb)) ≡ true) (asked .number) (33 ∷ 34 ∷ [])
+      ltb-true _ _ (at-one (λ (n : ℕ). Decides Code.BadRecord (ownRows G (calling n asked) l s) → ltb lastRecord (randomOf (l .fcb)) ≡ true) (asked .number) (gives Code.BadRecord)
       (own-given G asked l s Code.BadRecord d)
       ((λ v. only-row (isCode Code.BadRecord) Code.BadRecord refl _ Code.BadRecord _ v refl)
       & (λ v. only-row (isCode Code.BadRecord) Code.BadRecord refl _ Code.BadRecord _ v refl) & tt) d)

@@ -1,10 +1,9 @@
 -- The kind tells the number, where a kind has one call; the others go to functions of their own.
 use mathlib.Core.Path.{refl, sym, _∙_}
-use mathlib.Core.List.{[], _∷_}
 use Rattle.format.specs.Diskette.{eightInch}
 use Rattle.table.specs.Own.{not-unlisted}
 use Rattle.table.specs.OwnStep.{own-at}
-use Rattle.dispatch.specs.Numbers.{last-of, at-number, moves-record}
+use Rattle.dispatch.specs.Numbers.{only-of, other-of, at-number, moves-record}
 use Rattle.model.specs.Lent.{Lent, lend}
 use Rattle.model.specs.declared.Kind.the-variants.{User, Settle, Close, Delete, Create, Rename}
 use borrow.Author.Needs.{needs}
@@ -42,33 +41,33 @@ returns-2 c = c .before .before .search-call .ensures
 returns-3 : tie.Need-returns-3
 returns-3 c =
     let t = c .before in
-    c .user-number .ensures _ _ _ _ ∙ own-at eightInch _ _ _ 32 (last-of User _ 32 [] refl refl (sym (t .before .before .before .before .before .before .before .pre .0) ∙ t .enum-told3 .given .1) (tt {0}))
+    c .user-number .ensures _ _ _ _ ∙ own-at eightInch _ _ _ 32 (only-of User 32 refl refl (sym (t .before .before .before .before .before .before .before .pre .0) ∙ t .enum-told3 .given .1))
 
 returns-4 : tie.Need-returns-4
 returns-4 c =
     let f = c .before .before in let t = f .before .before in let s = t .before .before .before .before .before .before .before in
-    at-number (s .args .asked) (given s) (s .args .session) (last-of Settle _ 98 (13 ∷ []) refl refl (sym (s .pre .0) ∙ t .enum-told4 .given .1) (tt {0}, s .pre .2))
+    at-number (s .args .asked) (given s) (s .args .session) (other-of Settle 98 13 refl refl (sym (s .pre .0) ∙ t .enum-told4 .given .1) (s .pre .2))
     (λ a. f .free-blocks .ensures a _ _ _)
 
 returns-5 : tie.Need-returns-5
 returns-5 c =
     let f = c .before .before .before .before .before .before in let t = f .before .before .before .before in let s = t .before .before .before .before .before .before .before in
-    at-number (s .args .asked) (given s) (s .args .session) (last-of Close _ 16 [] refl refl (sym (s .pre .0) ∙ t .enum-told5 .given .1) (tt {0})) (λ a. f .close-file .ensures a _)
+    at-number (s .args .asked) (given s) (s .args .session) (only-of Close 16 refl refl (sym (s .pre .0) ∙ t .enum-told5 .given .1)) (λ a. f .close-file .ensures a _)
 
 returns-6 : tie.Need-returns-6
 returns-6 c =
     let f = c .before .before .before .before in let t = f .before .before .before .before in let s = t .before .before .before .before .before .before .before in
-    at-number (s .args .asked) (given s) (s .args .session) (last-of Delete _ 19 [] refl refl (sym (s .pre .0) ∙ t .enum-told6 .given .1) (tt {0})) (λ a. f .delete-file .ensures a _)
+    at-number (s .args .asked) (given s) (s .args .session) (only-of Delete 19 refl refl (sym (s .pre .0) ∙ t .enum-told6 .given .1)) (λ a. f .delete-file .ensures a _)
 
 returns-7 : tie.Need-returns-7
 returns-7 c =
     let f = c .before .before .before .before in let t = f .before .before .before in let s = t .before .before .before .before .before .before .before in
-    at-number (s .args .asked) (given s) (s .args .session) (last-of Create _ 22 [] refl refl (sym (s .pre .0) ∙ t .enum-told7 .given .1) (tt {0})) (λ a. f .make-file .ensures a _ _)
+    at-number (s .args .asked) (given s) (s .args .session) (only-of Create 22 refl refl (sym (s .pre .0) ∙ t .enum-told7 .given .1)) (λ a. f .make-file .ensures a _ _)
 
 returns-8 : tie.Need-returns-8
 returns-8 c =
     let f = c .before .before in let t = f .before .before .before in let s = t .before .before .before .before .before .before .before in
-    at-number (s .args .asked) (given s) (s .args .session) (last-of Rename _ 23 [] refl refl (sym (s .pre .0) ∙ t .enum-told8 .given .1) (tt {0})) (λ a. f .rename-file .ensures a _ _)
+    at-number (s .args .asked) (given s) (s .args .session) (only-of Rename 23 refl refl (sym (s .pre .0) ∙ t .enum-told8 .given .1)) (λ a. f .rename-file .ensures a _ _)
 
 returns-9 : tie.Need-returns-9
 returns-9 c = c .before .before .before .before .before .before .before .before .record-call .ensures

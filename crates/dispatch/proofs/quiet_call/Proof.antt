@@ -3,13 +3,17 @@ use mathlib.Core.Path.{refl}
 use mathlib.Core.List.{[], _∷_}
 use borrow.Author.Needs.{needs}
 use Rattle.model.specs.declared.Kind.the-variants.{Quiet}
+use Rattle.format.specs.Diskette.{eightInch}
+use Rattle.model.specs.Kinds.{kindOf}
 use Rattle.model.specs.Step.{told}
-use Rattle.dispatch.specs.Numbers.{last-of, at-number, told-at}
+use Rattle.table.specs.Own.{calling}
+use Rattle.table.specs.OwnStep.{quiet-own}
+use Rattle.dispatch.specs.Numbers.{last-of, at-number}
 use Rattle.dispatch.proofs.quiet_call.Statement.{statement}
 use Rattle.dispatch.proofs.quiet_call.Tie as tie
 
 pub quiet-call-spec : {M : Type 1} → statement M
-unfolding told
+unfolding kindOf told
 quiet-call-spec =
     tie.close
     (tie.spec
@@ -26,4 +30,4 @@ quiet-call-spec =
     (λ c. search needs)
     (λ c. let m = c .before .before .before .before in
     let q = m .before .before .before .before .before .before .pre .0 in
-    told-at 46 _ _ _ (last-of Quiet _ 46 (15 ∷ 35 ∷ 36 ∷ []) refl refl q (m .match .rest)) q tt (c .before .before .free-space .ensures _ _)))
+    at-number _ _ _ (last-of Quiet _ 46 (15 ∷ 35 ∷ 36 ∷ []) refl refl q (m .match .rest)) (λ a. quiet-own eightInch (calling 46 a) _ _ _ refl tt (c .before .before .free-space .ensures _ _))))

@@ -34,10 +34,11 @@ returns-2 c = λ asked map buffer.
     refuses-own eightInch (calling 22 asked) _ _ Exists _
     (later (p .name) (later (p .ex) (here (ap isFound (sym (f .find-asked .ensures map buffer) ∙ c .before .enum-told2 .given .1)) refl))) (c .refuse2 .ensures)
 
--- there is no entry that is asked for
+-- the name and byte 12 are right
 right : (c : tie.After-enum-told) → Asked (c .before .before .before .before .before .before .before .before .before .before .before .args .fcb .now)
 right c = let u = c .before .before .before .before .before in asked-right _ (sym (u .before .asks-right .ensures) ∙ not-false _ (u .if1 .left))
 
+-- there is no entry that is asked for
 new : (c : tie.After-enum-told) (map buffer : Bytes) →
     let a = c .before .before .before .before .before .before .before .before .before .before .before .args in
     askedEntry eightInch (lend (a .image .now) map (a .fcb .now) buffer) (a .session .user) ≡ Nothing

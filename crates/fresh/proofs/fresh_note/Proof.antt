@@ -1,4 +1,4 @@
--- `maps::fresh_note` meets its contract: past the directory the block's mark tells whether it is listed.
+-- `fresh::fresh_note` meets its contract: past the directory the block's mark tells whether it is listed.
 use mathlib.Core.Path.{sym, _∙_}
 use borrow.Author.Needs.{needs}
 use Rattle.format.specs.Diskette.{eightInch}

@@ -1,4 +1,4 @@
--- `maps::told_note` meets its contract: the test is the definition's.
+-- `fresh::told_note` meets its contract: the test is the definition's.
 use borrow.Author.Tests.{eq-eqb, ne-eqb}
 use Rattle.fresh.specs.Note.{toldNote}
 use Rattle.fresh.proofs.told_note.Statement.{statement}

@@ -3,11 +3,9 @@ use mathlib.Core.Path.{_≡_, ap, _∙_}
 use lib.ListN.{length}
 use Rattle.format.specs.Entries.{entryAt, extentOf}
 use Rattle.disk.specs.Eight.{eight-sound}
-use Rattle.rows.specs.Entries.{length-entryAt}
 use Rattle.fields.specs.Making.{extent-next}
-use Rattle.fields.specs.Images.{length-closedImage}
-use Rattle.facts.specs.Long.{long-on}
-use Rattle.format.specs.Diskette.{Bytes, eightInch, Long}
+use Rattle.fields.specs.Images.{length-row-closed}
+use Rattle.format.specs.Diskette.{Bytes, eightInch}
 use Rattle.model.specs.Closing.{closedImage}
 use Rattle.model.specs.Target.{made}
 use borrow.Author.Needs.{needs}
@@ -23,9 +21,9 @@ returns c =
     let next = c .before .before .before .before .before .before .before .before .next-row .ensures in
     let closed = shut .close-entry .ensures in
     let img = s .args .image .now in
-    let kept : Long eightInch (closedImage eightInch img (s .args .e) (s .args .fcb .now)) = long-on eightInch (length-closedImage eight-sound img (s .pre .0) (s .args .e) (s .pre .2) (s .args .fcb .now)) (s .pre .0) in
-    let taken : row .copy-row .result ≡ entryAt eightInch (closedImage eightInch img (s .args .e) (s .args .fcb .now)) (s .args .e) = row .copy-row .ensures ∙ ap (λ (i : Bytes). entryAt eightInch i (s .args .e)) (closed .0) in
-    let whole = ap length taken ∙ length-entryAt eight-sound (closedImage eightInch img (s .args .e) (s .args .fcb .now)) kept (s .args .e) (s .pre .2) in
+    let after : Bytes = closedImage eightInch img (s .args .e) (s .args .fcb .now) in
+    let taken : row .copy-row .result ≡ entryAt eightInch after (s .args .e) = row .copy-row .ensures ∙ ap (λ (i : Bytes). entryAt eightInch i (s .args .e)) (closed .0) in
+    let whole = ap length taken ∙ length-row-closed eight-sound img (s .pre .0) (s .args .e) (s .pre .2) (s .args .fcb .now) (s .args .e) (s .pre .2) in
     let own = ap extentOf next ∙ extent-next (row .copy-row .result) (s .args .extent) whole in
     λ buffer. rw (
       c .before .before .before .before .before .before .store-row .ensures,
