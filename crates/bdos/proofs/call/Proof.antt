@@ -1,5 +1,5 @@
 -- `bdos::call` meets its contract: a test that fails is a row that decides, and what passed them all is ready for its own function.
-use mathlib.Core.Path.{_≡_, refl, sym, _∙_}
+use mathlib.Core.Path.{_≡_, sym, _∙_}
 use mathlib.Core.Bool.{true}
 use borrow.Author.Needs.{needs}
 use borrow.Author.Tests.{not-true, not-false}
@@ -88,31 +88,31 @@ call-spec =
     returns
     (λ c κs. search needs)
     (λ c κs. search needs)
-    (λ c. refl)
-    (λ c. refl)
-    (λ c. refl)
-    (λ c. refl)
+    (λ c. search needs)
+    (λ c. search needs)
+    (λ c. search needs)
+    (λ c. search needs)
     returns-2
-    (λ c. refl)
-    (λ c. refl)
+    (λ c. search needs)
+    (λ c. search needs)
     disk-right-requires
     (λ c κs. search needs)
-    (λ c. refl)
-    (λ c. refl)
-    (λ c. refl)
-    (λ c. refl)
+    (λ c. search needs)
+    (λ c. search needs)
+    (λ c. search needs)
+    (λ c. search needs)
     returns-3
     (λ c. search needs)
     log-in-requires
-    (λ c. refl)
-    (λ c. c .before .before .log-in .kept .0)
-    (λ c. refl)
-    (λ c. refl)
+    (λ c. search needs)
+    (λ c. search needs)
+    (λ c. search needs)
+    (λ c. search needs)
     returns-4
     (λ c. search needs)
     own-call-requires
-    (λ c. c .before .before .before .before .before .before .before .before .own-call .kept .1 .1 .0)
-    (λ c. c .before .before .before .before .before .before .before .before .own-call .kept .1 .1 .1 .0)
-    (λ c. c .before .before .before .before .before .before .before .before .own-call .kept .1 .1 .1 .1 .0)
-    (λ c. c .before .before .before .before .before .before .before .before .own-call .kept .1 .1 .1 .1 .1 .0)
+    (λ c. search needs)
+    (λ c. search needs)
+    (λ c. search needs)
+    (λ c. search needs)
     returns-5)

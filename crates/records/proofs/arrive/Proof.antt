@@ -32,11 +32,11 @@ arrive-spec =
     (λ c. search needs)
     make-next-requires
     returns
-    (λ c. c .before .before .before .before .before .before .move-to .kept .0)
-    (λ c. c .before .before .before .before .before .before .move-to .kept .1 .0)
-    (λ c. c .before .before .before .before .before .before .move-to .kept .1 .1 .0)
+    (λ c. search needs)
+    (λ c. search needs)
+    (λ c. search needs)
     returns-2
-    (λ c. c .before .before .before .before .before .before .make-next .kept .0)
-    (λ c. c .before .before .before .before .before .before .make-next .kept .1 .0)
-    (λ c. c .before .before .before .before .before .before .make-next .kept .1 .1 .0)
+    (λ c. search needs)
+    (λ c. search needs)
+    (λ c. search needs)
     returns-3)

@@ -19,7 +19,7 @@ transfer-requires c κs =
     ap (λ (l : Lent). extentOf (l .fcb)) q
     ∙ arrived-own eight-sound (a .target .extent) (lend (a .image .now) (a .map .now) (a .fcb .now) []) (a .plan) (s .pre .5 .0) (s .pre .5 .2) (s .pre .3) (s .pre .4)
     ∙ sym (ap (λ (l : Lent). extentOf (entryAt eightInch (l .drive .image) (entryOf (a .plan)))) q) in
-    (s .pre .1, s .pre .2, s .pre .3, o, (came .kept .0 ∙ s .pre .5 .0, came .kept .1 .0 ∙ s .pre .5 .1, came .kept .1 .1 .0 ∙ s .pre .5 .2, s .pre .5 .3))
+    (s .pre .1, s .pre .2, s .pre .3, o, (search needs, search needs, search needs, s .pre .5 .3))
 
 returns : tie.Need-returns
 returns c =
@@ -32,8 +32,8 @@ follow-spec =
     (tie.spec
     (λ c κs. search needs)
     transfer-requires
-    (λ c. c .before .before .before .before .before .before .before .before .transfer .kept .1 .0 ∙ c .before .before .before .before .before .before .before .before .before .before .before .before .before .before .before .before .before .before .before .arrive .kept .0)
-    (λ c. c .before .before .before .before .before .before .before .before .transfer .kept .1 .1 .0 ∙ c .before .before .before .before .before .before .before .before .before .before .before .before .before .before .before .before .before .before .before .arrive .kept .1 .0)
-    (λ c. c .before .before .before .before .before .before .before .before .transfer .kept .1 .1 .1 .0 ∙ c .before .before .before .before .before .before .before .before .before .before .before .before .before .before .before .before .before .before .before .arrive .kept .1 .1 .0)
-    (λ c. c .before .before .before .before .before .before .before .before .transfer .kept .1 .1 .1 .1 .0)
+    (λ c. search needs)
+    (λ c. search needs)
+    (λ c. search needs)
+    (λ c. search needs)
     returns)

@@ -1,5 +1,5 @@
 -- A refusal is the ruling's, with nothing touched; a plan is followed within the disk's bounds.
-use mathlib.Core.Path.{_≡_, refl, sym, _∙_}
+use mathlib.Core.Path.{_≡_, sym, _∙_}
 use Rattle.format.specs.Diskette.{eightInch}
 use Rattle.disk.specs.Eight.{eight-sound}
 use Rattle.facts.specs.Naming.{run-own}
@@ -54,12 +54,12 @@ record-call-spec =
     (λ c. search needs)
     follow-requires
     (λ c κs. search needs)
-    (λ c. refl)
-    (λ c. refl)
-    (λ c. refl)
+    (λ c. search needs)
+    (λ c. search needs)
+    (λ c. search needs)
     returns
-    (λ c. c .before .before .before .before .before .before .before .before .before .follow .kept .1 .0)
-    (λ c. c .before .before .before .before .before .before .before .before .before .follow .kept .1 .1 .0)
-    (λ c. c .before .before .before .before .before .before .before .before .before .follow .kept .1 .1 .1 .0)
-    (λ c. c .before .before .before .before .before .before .before .before .before .follow .kept .1 .1 .1 .1 .0)
+    (λ c. search needs)
+    (λ c. search needs)
+    (λ c. search needs)
+    (λ c. search needs)
     returns-2)

@@ -1,5 +1,5 @@
 -- The kind of call decides between the two halves of the definition; the plan's entry and block are the disk's.
-use mathlib.Core.Path.{_≡_, refl, sym, _∙_}
+use mathlib.Core.Path.{_≡_, sym, _∙_}
 use Prim.Native.Nat.{_<_}
 use Rattle.format.specs.Diskette.{eightInch}
 use Rattle.format.specs.Entries.{entryAt, extentOf}
@@ -18,7 +18,7 @@ write-at-requires c κs =
 returns : tie.Need-returns
 returns c =
     let w = c .before .before .before .before .before .before in let j = w .before .before .before .before .before .before in let d = j .before .before in
-    rw (sym (d .writes .ensures) ∙ j .before .if1 .taken, ← d .before .block-of .ensures, ← w .before .entry-of .ensures, ← j .slot-for .ensures .0) (w .write-at .ensures)
+    rw (sym (d .writes .ensures) ∙ j .before .if1 .taken) (w .write-at .ensures ∙ rw (d .before .block-of .ensures, w .before .entry-of .ensures, j .slot-for .ensures .0))
 
 read-at-requires : tie.Need-read-at-requires
 read-at-requires c κs =
@@ -28,7 +28,7 @@ read-at-requires c κs =
 returns-2 : tie.Need-returns-2
 returns-2 c =
     let r = c .before .before .before .before in let i = r .before .before .before .before in
-    rw (sym (i .before .writes .ensures) ∙ i .if1 .left, ← i .before .before .block-of .ensures) (r .read-at .ensures _)
+    rw (sym (i .before .writes .ensures) ∙ i .if1 .left) (r .read-at .ensures _ ∙ rw (i .before .before .block-of .ensures))
 
 pub transfer-spec : {M : Type 1} → statement M
 transfer-spec =
@@ -39,13 +39,13 @@ transfer-spec =
     (λ c κs. search needs)
     (λ c κs. search needs)
     write-at-requires
-    (λ c. c .before .before .before .before .before .before .write-at .kept .0)
-    (λ c. c .before .before .before .before .before .before .write-at .kept .1 .0)
-    (λ c. c .before .before .before .before .before .before .write-at .kept .1 .1 .0)
-    (λ c. refl)
+    (λ c. search needs)
+    (λ c. search needs)
+    (λ c. search needs)
+    (λ c. search needs)
     returns
     read-at-requires
-    (λ c. refl)
-    (λ c. c .before .before .before .before .read-at .kept .1 .0)
-    (λ c. c .before .before .before .before .read-at .kept .1 .1 .0)
+    (λ c. search needs)
+    (λ c. search needs)
+    (λ c. search needs)
     returns-2)

@@ -43,12 +43,12 @@ make-call-spec =
     (λ c. search needs)
     (λ c κs. search needs)
     (λ c κs. search needs)
-    (λ c. c .before .before .before .before .before .before .ends-at .ensures .low)
-    (λ c. c .before .before .before .before .before .before .ends-at .ensures .low)
-    (λ c. c .before .before .before .before .before .before .ends-at .ensures .high)
-    (λ c. c .before .before .before .before .ends-at2 .ensures .low)
-    (λ c. c .before .before .before .before .ends-at2 .ensures .low)
-    (λ c. c .before .before .before .before .ends-at2 .ensures .high)
+    (λ c. search needs)
+    (λ c. search needs)
+    (λ c. search needs)
+    (λ c. search needs)
+    (λ c. search needs)
+    (λ c. search needs)
     (λ c κs. search needs)
     same-length
     same-length-2
