@@ -33,10 +33,11 @@ module _ {G : Geometry} (S : Sound G) (img : Bytes) (long : Long G img) (e : ℕ
   pub row-closedImage-other : (f : ℕ) → f < G .entries → (f ≡ e → ⊥) → entryAt G (closedImage G img e fcb) f ≡ entryAt G img f
   row-closedImage-other f h n = rw closed-stored (entry-left S img long e below (closedRow G (entryAt G img e) fcb) whole f h (λ q. n (sym q)))
 
-  -- the entry keeps its length, and what a new one has of it
+  -- every entry has its length still
   pub length-row-closed : (f : ℕ) → f < G .entries → length (entryAt G (closedImage G img e fcb) f) ≡ entryBytes
   length-row-closed f h = length-entryAt S (closedImage G img e fcb) (long-on G length-closedImage long) f h
 
+  -- a new extent's row is the same whether the entry is read before the close or after it: a close leaves user, name and attributes
   pub next-closed : (ext : ℕ) → nextRow (entryAt G (closedImage G img e fcb) e) ext ≡ nextRow (entryAt G img e) ext
   next-closed ext =
       let row : length (entryAt G img e) ≡ entryBytes = length-entryAt S img long e below in
