@@ -77,7 +77,9 @@ typedef struct {
 /* What a call answers: the registers A and H, and the session.
  *
  * An accepted call has H 0, and A 0 but for these: the entry's number mod 4 in
- * 15, 16, 17, 18 and 22, and the user in 32 with argument 255.
+ * 15, 16, 17, 18 and 22, and the user in 32 with argument 255. So 3, 0 is no
+ * refusal: these calls alone answer it, for an entry whose number mod 4 is 3,
+ * or for user 3.
  *
  * A refused call has one of these codes, tested in this order:
  *
@@ -110,8 +112,6 @@ typedef struct {
  *   255, 8     23                  A file of the new name is there already.
  *   255, 0     22                  The directory is full: none of its 64
  *                                  entries is empty.
- *   3, 0       20 21 33 34         The present extent can't be closed, so the
- *                                  move to another can't begin.
  *   4, 0       33                  The file has no entry for the extent of this
  *                                  record.
  *   1, 0       20 33               The record is not there.

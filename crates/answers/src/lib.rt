@@ -54,7 +54,6 @@ fn line_of(code: Code) -> Line
         Code::SearchOver => Line(255, 0, true),
         Code::ReadOnly => Line(255, 3, false),
         Code::Exists => Line(255, 8, false),
-        Code::NotClosed => Line(3, 0, false),
         Code::NoExtent => Line(4, 0, false),
         Code::NoRecord => Line(1, 0, false),
         Code::NoEntry => Line(5, 0, false),

@@ -1,4 +1,4 @@
--- The demands on the 8-inch disk: no hypothesis is left but that the log-in or the write was accepted.
+-- The demands on the 8-inch disk: that its sizes are sound is shown, and no longer asked.
 use mathlib.Core.Path.{_≡_}
 use mathlib.Core.Bool.{true, false}
 use mathlib.Core.List.{List, [], _∷_}
@@ -13,7 +13,7 @@ use Rattle.facts.specs.Found.{FoundAt}
 use Rattle.disk.specs.Eight.{eight-sound}
 use Rattle.model.specs.declared.Asked.{Asked}
 use Rattle.model.specs.Target.{presentEntry}
-use Rattle.model.specs.Kinds.{oneOf, kindOf}
+use Rattle.model.specs.Kinds.{oneOf, kindOf, ofRecord}
 use Rattle.model.specs.declared.Kind.the-variants.{Write}
 use Rattle.fields.specs.Erased.{ErasedDisk}
 use Rattle.table.specs.Total.{InRange}
@@ -23,6 +23,7 @@ use Rattle.demands.specs.NothingLost.{NothingLost, Stays, nothing-lost, 
 use Rattle.demands.specs.Reading.{Gives}
 use Rattle.demands.specs.ReadBack.{AllLeaveAlone, readFcb, read-back}
 use Rattle.demands.specs.StillCurrent.{currentCalls, still-current}
+use Rattle.demands.specs.ClosesFirst.{PastCurrent, ClosesFirst, closes-first}
 use Rattle.demands.specs.Begins.{Asks, erased-begins}
 
 -- demand 2
@@ -48,6 +49,11 @@ pub eight-still-current : (d : Disk) (q : Request) → accepts eightInch d q ≡
     → (oneOf (q .asked .number) (15 ∷ 22 ∷ []) ≡ true → crOf (q .fcb) ≤ 128)
     → FoundAt (presentEntry eightInch (after eightInch d q .session .user) (outcomeOf eightInch d q .lent))
 eight-still-current = still-current eight-sound
+
+-- the close that a move begins with is never refused
+pub eight-closes-first : (d : Disk) (q : Request) → ofRecord (kindOf (q .asked .number)) ≡ true → PastCurrent (outcomeOf eightInch d q .answer)
+    → ClosesFirst eightInch d q
+eight-closes-first = closes-first eightInch
 
 -- and they speak of something: a log-in, a make and a write on an erased disk are accepted
 pub eight-begins : (d : Disk) → ErasedDisk eightInch (d .drive .image) → length (d .drive .map) ≡ 243 → InRange eightInch (d .session)

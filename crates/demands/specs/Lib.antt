@@ -5,6 +5,7 @@ pub mod NothingLost
 pub mod Reading
 pub mod ReadBack
 pub mod StillCurrent
+pub mod ClosesFirst
 pub mod Erased
 pub mod Begins
 pub mod Eight

@@ -24,7 +24,6 @@ saysOf Code.BadName = says 255 9
 saysOf Code.SearchOver = record { a = 255; h = 0; over = true }
 saysOf Code.ReadOnly = says 255 3
 saysOf Code.Exists = says 255 8
-saysOf Code.NotClosed = says 3 0
 saysOf Code.NoExtent = says 4 0
 saysOf Code.NoRecord = says 1 0
 saysOf Code.NoEntry = says 5 0

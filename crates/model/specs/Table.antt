@@ -1,5 +1,6 @@
--- Document 01, "Codes, in the order they are tested". Each row says to which calls it applies, when, and with which code. Every row
--- looks at the state as it came; the first that holds decides, and only the table refuses.
+-- Document 01, "Codes, in the order they are tested", without the row of 3, 0, which request [7] takes away (docs/changes/07-code-3.md). Each
+-- row says to which calls it applies, when, and with which code. Every row looks at the state as it came; the first that holds decides, and
+-- only the table refuses.
 use mathlib.Core.Bool.{Bool, true, false, cond, not}
 use mathlib.Core.List.{List, [], _∷_}
 use Prim.Native.Nat.{ℕ}
@@ -23,7 +24,7 @@ use Rattle.model.specs.declared.Verdict.the-variants.{Passed, Refused}
 use Rattle.model.specs.declared.Asked.{Asked}
 use Rattle.model.specs.Kinds.{oneOf, usesFcb, isCall}
 use Rattle.model.specs.Lent.{Lent, rowsOf, searchOn}
-use Rattle.model.specs.Target.{targetExtent, stays, presentEntry, targetEntry, blockThere, recordThere, readOnlyThere}
+use Rattle.model.specs.Target.{targetExtent, presentEntry, targetEntry, blockThere, recordThere, readOnlyThere}
 use Rattle.model.specs.Search.{patternOf, findHit}
 
 -- ---- the tests
@@ -120,8 +121,6 @@ module _ (G : Geometry) (asked : Asked) (l : Lent) (s : Session) where
       ∷ row (23 ∷ []) (anyNamed G l false (s .user) 17) Code.Exists
       -- 255, 0
       ∷ row (22 ∷ []) (not (isFound (findEmpty G (rowsOf G l)))) Code.Failed
-      -- 3, 0: stands behind 9, 0, so that it never decides (crate table, `never-not-closed`)
-      ∷ row (20 ∷ 21 ∷ 33 ∷ 34 ∷ []) (not (stays (asked .number) (l .fcb)) and not (isFound (presentEntry G (s .user) l))) Code.NotClosed
       -- 4, 0
       ∷ row (33 ∷ []) (not (isFound (targetEntry G (asked .number) (s .user) l))) Code.NoExtent
       -- 1, 0

@@ -52,7 +52,6 @@ pub enum Code {
     SearchOver,
     ReadOnly,
     Exists,
-    NotClosed,
     NoExtent,
     NoRecord,
     NoEntry,

@@ -7,14 +7,14 @@ use native.Mathlib.Omega.{arith}
 use lib.Dec.{ltb}
 use borrow.Author.Tests.{le-leb, lt-leb, lt-ltb, le-ltb, not-false}
 use Rattle.lists.specs.Cases.{split, bool-cases, lt-or-le, clash}
-use Rattle.lists.specs.Tests.{and-fails-left, and-fails-right, and-then}
+use Rattle.lists.specs.Tests.{and-fails-left, and-then}
 use Rattle.format.specs.Diskette.{Bytes, Geometry, extentRecords, extents, lastRecord}
 use Rattle.format.specs.Fcb.{randomOf}
 use Rattle.facts.specs.Found.{is-found, found-so}
 use Rattle.model.specs.declared.Asked.{Asked}
 use Rattle.model.specs.declared.Session.{Session}
 use Rattle.model.specs.declared.Code.{Code}
-use Rattle.model.specs.declared.Code.the-variants.{BadRecord, NotClosed, NoRecord}
+use Rattle.model.specs.declared.Code.the-variants.{BadRecord, NoRecord}
 use Rattle.model.specs.declared.Verdict.{Verdict}
 use Rattle.model.specs.declared.Verdict.the-variants.{Passed, Refused}
 use Rattle.model.specs.declared.Plan.{Plan}
@@ -71,30 +71,26 @@ same-code [] rs false true code h = clash (sym (h tt refl))
 same-code (x ∷ front) rs t r code h = past-row (x .holds) _ _ _ (λ f. same-code front rs t r code (λ k. h (f & k)))
 
 module _ (G : Geometry) (asked : Asked) (l : Lent) (s : Session) where
-  -- ---- the rows: an FCB that is current can be closed, so that the row of code 3 may go; a record that is there has an entry
+  -- ---- the rows: a record that is there has an entry
   rows-20 : firstRow (ownRows G (calling 20 asked) l s) ≡ firstRow (rulingRows G 20 (s .user) l)
   unfolding rulingRows readRows missingCode kindOf isRandom
   rows-20 =
-      gone (_ ∷ []) _ _ NotClosed (λ h. and-fails-right _ _ (h .0))
-      ∙ same-code (_ ∷ []) _ _ _ NoRecord (λ h r. found-so _ (there-target G 20 (s .user) l (is-found _ (not-false _ (h .0))) r))
+      same-code (_ ∷ []) _ _ _ NoRecord (λ h r. found-so _ (there-target G 20 (s .user) l (is-found _ (not-false _ (h .0))) r))
       ∙ sym (gone [] _ _ BadRecord (λ h. over-sequential 20 _ refl))
 
   rows-33 : firstRow (ownRows G (calling 33 asked) l s) ≡ firstRow (rulingRows G 33 (s .user) l)
   unfolding rulingRows readRows missingCode kindOf isRandom
-  rows-33 = rw (over-random 33 (l .fcb) refl) (gone (_ ∷ _ ∷ []) _ _ NotClosed (λ h. and-fails-right _ _ (h .1 .0)))
+  rows-33 = rw (over-random 33 (l .fcb) refl)
 
   rows-21 : firstRow (ownRows G (calling 21 asked) l s) ≡ firstRow (rulingRows G 21 (s .user) l)
   unfolding rulingRows writeRows missingCode kindOf isRandom
-  rows-21 =
-      gone (_ ∷ _ ∷ []) _ _ NotClosed (λ h. and-fails-right _ _ (h .0))
-      ∙ sym (gone [] _ _ BadRecord (λ h. over-sequential 21 _ refl))
+  rows-21 = sym (gone [] _ _ BadRecord (λ h. over-sequential 21 _ refl))
 
   rows-34 : firstRow (ownRows G (calling 34 asked) l s) ≡ firstRow (rulingRows G 34 (s .user) l)
   unfolding rulingRows writeRows missingCode kindOf isRandom
   rows-34 =
       rw (over-random 34 (l .fcb) refl)
-      (gone (_ ∷ _ ∷ _ ∷ []) _ _ NotClosed (λ h. and-fails-right _ _ (h .1 .0))
-      ∙ sym (gone (_ ∷ _ ∷ _ ∷ []) _ _ NoRecord (λ h. lt-leb _ _ (random-below 34 (l .fcb) refl (h .0)))))
+      (sym (gone (_ ∷ _ ∷ _ ∷ []) _ _ NoRecord (λ h. lt-leb _ _ (random-below 34 (l .fcb) refl (h .0)))))
 
   -- ---- what a ruling has a call do, by what a plan has it do
   abbrev pub ruled : (Plan → Outcome) → Ruling → Outcome

@@ -120,14 +120,14 @@ module _ (G : Geometry) (asked : Asked) (l : Lent) (s : Session) (none : NoneHol
   pub reads-of : consistent G (l .drive .image) ≡ true → s .user ≤ 15 → kindOf (asked .number) ≡ Read → Reads G l s (asked .number)
   reads-of right low =
       by-rows (Reads G l s) Read refl
-      ((λ h. read-of G l s 20 right low (h .0) (h .1 .1 .0)) & (λ h. read-of G l s 33 right low (h .1 .0) (h .1 .1 .1 .1 .0)) & tt)
+      ((λ h. read-of G l s 20 right low (h .0) (h .1 .0)) & (λ h. read-of G l s 33 right low (h .1 .0) (h .1 .1 .1 .0)) & tt)
 
   pub writes-by : kindOf (asked .number) ≡ Write → Writes G l s (asked .number)
   unfolding isRandom
   writes-by =
       by-rows (Writes G l s) Write refl
-      ((λ h. writes-of G l s 21 (h .0) (h .1 .0) (leb-false _ _ (h .1 .1 .1 .0)) (h .1 .1 .1 .1 .0) (h .1 .1 .1 .1 .1 .0))
-      & (λ h. writes-of G l s 34 (h .1 .0) (h .1 .1 .0) (random-below 34 (l .fcb) refl (h .0)) (h .1 .1 .1 .1 .0) (h .1 .1 .1 .1 .1 .0)) & tt)
+      ((λ h. writes-of G l s 21 (h .0) (h .1 .0) (leb-false _ _ (h .1 .1 .0)) (h .1 .1 .1 .0) (h .1 .1 .1 .1 .0))
+      & (λ h. writes-of G l s 34 (h .1 .0) (h .1 .1 .0) (random-below 34 (l .fcb) refl (h .0)) (h .1 .1 .1 .0) (h .1 .1 .1 .1 .0)) & tt)
 
   -- its rows are those of its number
   at-number : (n : ℕ) → asked .number ≡ n → NoneHolds (ownRows G (calling n asked) l s)
@@ -172,13 +172,11 @@ module _ (G : Geometry) (asked : Asked) (l : Lent) (s : Session) where
   pub reads-right : Reads G l s 33 → NoneHolds (ownRows G (calling 33 asked) l s)
   unfolding isRandom
   reads-right o =
-      random-low 33 (l .fcb) refl (o .extent) & missed _ (o .entry) & and-fails-right _ _ (missed _ (o .entry))
-      & missed _ (o .target) & ap not (o .there) & tt
+      random-low 33 (l .fcb) refl (o .extent) & missed _ (o .entry) & missed _ (o .target) & ap not (o .there) & tt
 
   pub writes-right : Writes G l s 21 → NoneHolds (ownRows G (calling 21 asked) l s)
   writes-right o =
-      missed _ (o .entry) & o .writable & and-fails-right _ _ (missed _ (o .entry)) & lt-leb _ _ (o .extent)
-      & either-missed _ _ (o .room) & block-right G l s 21 (o .block) & tt
+      missed _ (o .entry) & o .writable & lt-leb _ _ (o .extent) & either-missed _ _ (o .room) & block-right G l s 21 (o .block) & tt
 
 -- ---- the table
 module _ (G : Geometry) (asked : Asked) (l : Lent) (s : Session) where

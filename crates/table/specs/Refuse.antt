@@ -8,7 +8,6 @@ use lib.Dec.{eqb, ltb}
 use denote.Enum.Declared.{tagOf}
 use borrow.Author.Tests.{ltb-true, eq-eqb, eqb-true, not-true, not-false}
 use Rattle.lists.specs.Cases.{split, bool-cases, clash, not-both, cond-both}
-use Rattle.lists.specs.Tests.{_and_, and-right}
 use Rattle.format.specs.Diskette.{Geometry, lastRecord}
 use Rattle.format.specs.Names.{nameRight}
 use Rattle.format.specs.Entries.{exOf}
@@ -63,9 +62,6 @@ codeNumber c = tagOf the-type c
 
 abbrev isCode : Code → Code → Bool
 isCode c d = eqb (codeNumber c) (codeNumber d)
-
-is-self : (c : Code) → isCode c c ≡ true
-is-self c = eq-eqb (codeNumber c) (codeNumber c) refl
 
 -- rows whose codes fail a test decide no code that passes it
 abbrev lacks : (Code → Bool) → List Row → Bool
@@ -126,7 +122,7 @@ abbrev hasCode : Code → List Row → Bool
 hasCode c [] = false
 hasCode c (r ∷ rs) = cond (isCode c (r .code)) true (hasCode c rs)
 
--- the calls that a row of their own may refuse with a code, as document 01's table has them. The first three rows are every call's, and an
+-- the calls that a row of their own may refuse with a code, as document 01's table has them, 3, 0 aside. The first three rows are every call's, and an
 -- acceptance is no refusal
 abbrev pub gives : Code → List ℕ
 gives (Code.Accepted a) = []
@@ -140,7 +136,6 @@ gives Code.BadName = 15 ∷ 17 ∷ 19 ∷ 22 ∷ 23 ∷ 35 ∷ []
 gives Code.SearchOver = 17 ∷ 18 ∷ []
 gives Code.ReadOnly = 19 ∷ 21 ∷ 23 ∷ 34 ∷ []
 gives Code.Exists = 22 ∷ 23 ∷ []
-gives Code.NotClosed = 20 ∷ 21 ∷ 33 ∷ 34 ∷ []
 gives Code.NoExtent = 33 ∷ []
 gives Code.NoRecord = 20 ∷ 21 ∷ 33 ∷ []
 gives Code.NoEntry = 34 ∷ []
@@ -164,7 +159,6 @@ module _ (G : Geometry) (asked : Asked) (l : Lent) (s : Session) where
   by-code Code.SearchOver = refl
   by-code Code.ReadOnly = refl
   by-code Code.Exists = refl
-  by-code Code.NotClosed = refl
   by-code Code.NoExtent = refl
   by-code Code.NoRecord = refl
   by-code Code.NoEntry = refl
@@ -227,24 +221,7 @@ module _ (G : Geometry) (asked : Asked) (l : Lent) (s : Session) where
   never-bad-disk code h right map q =
       not-both (diskRight G l asked) (disk-right G asked l s right (λ z. map)) (bad-disk code (eq-eqb _ _ h) (refuses code q))
 
--- ---- code 3 never comes out: its row asks for an FCB that is not current, and stands behind the row for that
-no-three : (X Y : Bool) (front rs : List Row) → Absent (isCode Code.NotClosed) front → Absent (isCode Code.NotClosed) rs → (NoneHolds front → X ≡ false)
-    → Decides Code.NotClosed (front ++ (when (Y and X) Code.NotClosed ∷ rs)) → ⊥
-no-three X Y front rs a b current d =
-    let p = behind (isCode Code.NotClosed) Code.NotClosed (is-self Code.NotClosed) front (when (Y and X) Code.NotClosed ∷ rs) a d in
-    not-both X (and-right Y X (only-row (isCode Code.NotClosed) Code.NotClosed (is-self Code.NotClosed) (Y and X) Code.NotClosed rs (p .rest) b)) (current (p .failed))
-
 module _ (G : Geometry) (asked : Asked) (l : Lent) (s : Session) where
-  pub never-not-closed : verdict G asked l s ≡ Refused Code.NotClosed → ⊥
-  never-not-closed q =
-      let d = own-decides G asked l s (isCode Code.NotClosed) Code.NotClosed refl refl refl refl (refuses G asked l s Code.NotClosed q) .1 in
-      at-one (λ (n : ℕ). Decides Code.NotClosed (ownRows G (calling n asked) l s) → ⊥) (asked .number) (gives Code.NotClosed)
-      (own-given G asked l s Code.NotClosed d)
-      ((λ v. no-three _ _ (_ ∷ []) _ refl refl (λ h. h .0) v)
-      & (λ v. no-three _ _ (_ ∷ _ ∷ []) _ refl refl (λ h. h .0) v)
-      & (λ v. no-three _ _ (_ ∷ _ ∷ []) _ refl refl (λ h. h .1 .0) v)
-      & (λ v. no-three _ _ (_ ∷ _ ∷ _ ∷ []) _ refl refl (λ h. h .1 .0) v) & tt) d
-
   -- ---- code 6 comes out only where the random record is over 262,143
   pub random-over : verdict G asked l s ≡ Refused Code.BadRecord → lastRecord < randomOf (l .fcb)
   random-over q =

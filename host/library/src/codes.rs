@@ -91,8 +91,6 @@ codes! {
         "A file of the new name is there already.";
     DirectoryFull = 255, 0, [22],
         "The directory is full: none of its 64 entries is empty.";
-    NotClosed = 3, 0, [20, 21, 33, 34],
-        "The present extent can't be closed, so the move to another can't begin.";
     NoExtent = 4, 0, [33],
         "The file has no entry for the extent of this record.";
     NotThere = 1, 0, [20, 33],
@@ -106,6 +104,15 @@ codes! {
 }
 
 impl Code {
+    /// What the help card says of accepted calls, in lines of at most 80
+    /// characters.
+    pub const ACCEPTED_CALLS: &'static str = "\
+An accepted call has H 0, and A 0 but for these: the entry's number mod 4 in
+15, 16, 17, 18 and 22, and the user in 32 with argument 255. So 3, 0 is no
+refusal: these calls alone answer it, for an entry whose number mod 4 is 3, or
+for user 3.
+";
+
     /// Reads an answer: A where the call was accepted, or why it was refused.
     /// `before` is the session that the call was given.
     pub fn read(asked: Asked, before: &Session, answer: &Answer) -> Result<u8, Code> {
@@ -186,6 +193,10 @@ mod tests {
         assert_eq!(read(16, 0, 255, 2), Err(unknown));
         assert_eq!(unknown.numbers(), (255, 2));
         assert_eq!(read(33, 0, 200, 0), Err(Code::Unknown { a: 200, h: 0 }));
+        for number in [20, 21, 33, 34] {
+            let three = Code::Unknown { a: 3, h: 0 };
+            assert_eq!(read(number, 0, 3, 0), Err(three), "call {number}");
+        }
     }
 
     #[test]

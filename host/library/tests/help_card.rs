@@ -22,8 +22,15 @@ fn calls(code: Code, between: &str) -> String {
 }
 
 #[test]
-fn the_header_has_every_case_in_order() {
-    let header = flat(&read("include/benzokamuri.h"));
+fn the_header_has_every_case_in_order_and_no_other() {
+    let header = read("include/benzokamuri.h");
+    let begins_a_case = |line: &&str| {
+        let text = line.strip_prefix(" *   ").unwrap_or("");
+        text.starts_with(|first: char| first.is_ascii_digit())
+    };
+    let cases = header.lines().filter(begins_a_case).count();
+    assert_eq!(cases, Code::ALL.len());
+    let header = flat(&header);
     let mut rest = header.as_str();
     for &code in Code::ALL {
         let (a, h) = code.numbers();
@@ -55,6 +62,13 @@ fn the_help_card_has_every_case_in_order() {
         })
         .collect();
     assert_eq!(rows, expected);
+}
+
+#[test]
+fn header_and_help_card_say_what_accepted_calls_answer() {
+    for path in ["include/benzokamuri.h", "docs/HELP-CARD.md"] {
+        assert!(flat(&read(path)).contains(&flat(Code::ACCEPTED_CALLS)), "{path}");
+    }
 }
 
 #[test]

@@ -48,7 +48,7 @@ pub fn all(desk: &mut Desk) -> Result<(), Trouble> {
     )?;
     writeln!(
         out,
-        "`benzokamuri help VERB` says more about a verb, `help names` about names and\npatterns, `help codes` about the codes that refused calls give."
+        "`benzokamuri help VERB` says more about a verb, `help names` about names and\npatterns, `help codes` about what calls answer."
     )?;
     writeln!(
         out,
@@ -98,5 +98,6 @@ fn codes(desk: &mut Desk) -> Result<(), Trouble> {
         };
         writeln!(desk.out, "{:<10}  {calls:<19}  {code}", format!("{a}, {h}"))?;
     }
+    write!(desk.out, "\n{}", Code::ACCEPTED_CALLS)?;
     Ok(())
 }

@@ -490,7 +490,10 @@ fn help_for_everything() {
     assert!(names.contains("%25") && names.contains("%2F"), "{names}");
     assert!(names.lines().all(|line| line.len() <= 80), "{names}");
     let codes = folder.done("help codes");
-    assert_eq!(codes.lines().count(), 1 + 22, "a heading and the cases");
+    let (cases, accepted) = codes.split_once("\n\n").unwrap();
+    assert_eq!(cases.lines().count(), 1 + 21, "a heading and the cases");
+    assert_eq!(accepted, benzokamuri::Code::ACCEPTED_CALLS);
+    assert!(accepted.lines().all(|line| line.len() <= 80), "{accepted}");
     assert!(folder.done("--version").contains("interface 1"));
 }
 

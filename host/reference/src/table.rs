@@ -20,9 +20,6 @@ macro_rules! causes {
     ($($(#[$doc:meta])* $cause:ident => $a:literal, $h:literal;)*) => {
         /// Why a call is refused: every row of the table, by its causes, in
         /// the table's order. The number in a name is the call's.
-        ///
-        /// The row for code 3 is left out: a move only starts from a current
-        /// FCB, and closing a current FCB can't fail.
         #[derive(Clone, Copy, Debug, PartialEq, Eq, Hash)]
         pub enum Cause {
             $($(#[$doc])* $cause,)*

@@ -1,0 +1,161 @@
+-- Why no record call answers 3, 0: a move begins with a close, and that close is never refused. Where 20, 21, 33 or 34 has got past the codes
+-- that are tested up to "FCB not current" (a wrong parameter, a damaged disk, a random record that is too large), whatever it answers then, call
+-- 16 on the same disk, with the same FCB, is accepted; and the disk that it leaves is the one on which a move goes on.
+use mathlib.Core.Path.{_≡_, refl, ap, sym, _∙_}
+use mathlib.Core.Bool.{Bool, true, false, not}
+use mathlib.Core.List.{List, _∷_}
+use Prim.Native.Nat.{ℕ}
+use borrow.Author.Tests.{not-false}
+use Rattle.lists.specs.Cases.{split, bool-cases, not-both, cond-either}
+use Rattle.format.specs.Diskette.{Geometry}
+use Rattle.format.specs.Entries.{entryAt, withEntry}
+use Rattle.format.specs.Found.{isFound, numberOf}
+use Rattle.format.specs.declared.Found.{Found}
+use Rattle.format.specs.declared.Found.the-variants.{At, Nothing}
+use Rattle.model.specs.declared.Asked.{Asked}
+use Rattle.model.specs.declared.Session.{Session}
+use Rattle.model.specs.declared.Answer.{Answer}
+use Rattle.model.specs.declared.Code.{Code}
+use Rattle.model.specs.declared.Code.the-variants.{BadParameter, BadDisk, BadRecord, NotCurrent}
+use Rattle.model.specs.declared.Kind.the-variants.{Read, Write}
+use Rattle.model.specs.declared.Plan.{Plan}
+use Rattle.model.specs.declared.Plan.the-variants.{Stay, Move, Make}
+use Rattle.model.specs.Codes.{aOf, hOf}
+use Rattle.model.specs.Kinds.{kindOf, usesFcb, isCall, same, ofRecord}
+use Rattle.model.specs.Lent.{Lent}
+use Rattle.model.specs.Entering.{nextRow}
+use Rattle.model.specs.Target.{targetExtent, presentEntry, stays, targetEntry, planTo, planFrom, plan, moved, made}
+use Rattle.model.specs.Table.{Row, when, firstRow, ownRows, verdict}
+use Rattle.model.specs.Calls.{closedAt, closed}
+use Rattle.model.specs.Step.{effect, step}
+use Rattle.table.specs.First.{_&_, first-holds, first-passes}
+use Rattle.table.specs.Own.{calling, at-kind, same-is, verdict-rows}
+use Rattle.table.specs.Facts.{Ready}
+use Rattle.table.specs.Reflect.{ready-of}
+use Rattle.table.specs.Accept.{passes}
+use Rattle.table.specs.Total.{CarriedOut, total-refused, total-accepted}
+use Rattle.demands.specs.Accepted.{carried-says}
+use Rattle.demands.specs.Runs.{Request, Disk, lentTo, outcomeOf, accepts}
+
+-- an answer with this A and H
+abbrev pub IsAnswer : Answer → ℕ → ℕ → Type 0
+IsAnswer r a h = (r .a ≡ a) × (r .h ≡ h)
+
+-- an answer with none of the codes that are tested up to "FCB not current". (255, 255 is the first of those; no listed call answers it.)
+pub record PastCurrent (r : Answer) : Type 0 where
+  pub parameter : IsAnswer r 255 4 → ⊥
+  pub disk : IsAnswer r 255 1 → ⊥
+  pub random : IsAnswer r 6 0 → ⊥
+  pub current : IsAnswer r 9 0 → ⊥
+
+-- call 16 with the FCB, and all else, of another call
+abbrev pub toClose : Request → Request
+toClose q = record { asked = calling 16 (q .asked); fcb = q .fcb; buffer = q .buffer }
+
+-- what a record call plans, and the extent that it goes to
+abbrev pub planOf : Geometry → Disk → Request → Plan
+planOf G d q = plan G (q .asked .number) (d .session .user) (lentTo d q)
+
+abbrev pub goesTo : Request → ℕ
+goesTo q = targetExtent (q .asked .number) (q .fcb)
+
+-- the close that a move begins with: as a call by itself it is accepted; image and map after it are those of a move to an entry that is there
+-- and, once the new row is put in its place, those of a move that makes one
+pub record ClosesFirst (G : Geometry) (d : Disk) (q : Request) : Type 0 where
+  pub accepted : accepts G d (toClose q) ≡ true
+  pub moves : (e t b : ℕ) → planOf G d q ≡ Move e t b → moved G (goesTo q) (lentTo d q) e t .drive ≡ outcomeOf G d (toClose q) .lent .drive
+  pub makes : (e t b : ℕ) → planOf G d q ≡ Make e t b → made G (goesTo q) (lentTo d q) e t .drive
+      ≡ record {
+        image = withEntry G (outcomeOf G d (toClose q) .lent .drive .image) t (nextRow (entryAt G (outcomeOf G d (toClose q) .lent .drive .image) e) (goesTo q));
+        map = outcomeOf G d (toClose q) .lent .drive .map;
+      }
+
+module _ (G : Geometry) (asked : Asked) (l : Lent) (s : Session) where
+  -- a first row whose code is not the answer does not hold, and the rows behind it decide
+  past : (test : Bool) (code : Code) (rs : List Row) → verdict G asked l s ≡ firstRow (when test code ∷ rs)
+      → (IsAnswer (step G asked l s .answer) (aOf code) (hOf code) → ⊥) → (test ≡ false) × (verdict G asked l s ≡ firstRow rs)
+  past test code rs q w =
+      split (bool-cases test)
+      (λ t. let r = total-refused G asked l s code (q ∙ first-holds (when test code) rs t) in absurd (w (r .is-a, r .is-h)))
+      (λ f. (f, q ∙ first-passes (when test code) rs f))
+
+  -- past the rows of every call: the call is ready, and its own rows decide
+  record ByOwn : Type 0 where
+    ready : Ready G asked l s
+    rows : verdict G asked l s ≡ firstRow (ownRows G asked l s)
+
+  by-own : isCall (asked .number) ≡ true → PastCurrent (step G asked l s .answer) → ByOwn
+  by-own t w =
+      let p = past _ BadParameter _ (verdict-rows G asked l s t) (w .parameter) in
+      let d = past _ BadDisk _ (p .1) (w .disk) in
+      record { ready = ready-of G asked l s (not-false _ (p .0)) (not-false _ (d .0)); rows = d .1 }
+
+module _ (G : Geometry) (asked : Asked) (l : Lent) (s : Session) where
+  abbrev CloseFollows : ℕ → Type 0
+  CloseFollows n = PastCurrent (step G (calling n asked) l s .answer) → CarriedOut G (calling 16 asked) l s
+
+  -- 16 is ready where any call that uses the FCB is
+  close-ready : (n : ℕ) → usesFcb n ≡ true → Ready G (calling n asked) l s → Ready G (calling 16 asked) l s
+  unfolding usesFcb
+  close-ready n u r = record {
+    fits = r .fits;
+    drive = λ z. r .drive u;
+    image-right = r .image-right;
+    map-right = λ z. r .map-right (λ q. let login : usesFcb n ≡ false = rw q in not-both (usesFcb n) u login);
+  }
+
+  -- and its one row asks for a current FCB
+  close-carried : Ready G (calling 16 asked) l s → not (isFound (presentEntry G (s .user) l)) ≡ false → CarriedOut G (calling 16 asked) l s
+  unfolding isCall kindOf
+  close-carried r f = total-accepted G (calling 16 asked) l s (passes G (calling 16 asked) l s refl r (f & tt))
+
+  -- 20 and 21 test the FCB first
+  after-sequential : (n : ℕ) (rs : List Row) → isCall n ≡ true → usesFcb n ≡ true
+      → ownRows G (calling n asked) l s ≡ when (not (isFound (presentEntry G (s .user) l))) NotCurrent ∷ rs → CloseFollows n
+  after-sequential n rs t u own w =
+      let b = by-own G (calling n asked) l s t w in
+      close-carried (close-ready n u (b .ready)) (past G (calling n asked) l s _ NotCurrent rs (b .rows ∙ ap firstRow own) (w .current) .0)
+
+  -- 33 and 34 test the random record before it
+  after-random : (n : ℕ) (test : Bool) (rs : List Row) → isCall n ≡ true → usesFcb n ≡ true
+      → ownRows G (calling n asked) l s ≡ when test BadRecord ∷ when (not (isFound (presentEntry G (s .user) l))) NotCurrent ∷ rs → CloseFollows n
+  after-random n test rs t u own w =
+      let b = by-own G (calling n asked) l s t w in
+      let r = past G (calling n asked) l s test BadRecord _ (b .rows ∙ ap firstRow own) (w .random) in
+      close-carried (close-ready n u (b .ready)) (past G (calling n asked) l s _ NotCurrent rs (r .1) (w .current) .0)
+
+  close-follows : ofRecord (kindOf (asked .number)) ≡ true → CloseFollows (asked .number)
+  unfolding isCall usesFcb kindOf
+  close-follows h =
+      split (bool-cases (same (kindOf (asked .number)) Read))
+      (λ t. at-kind CloseFollows Read (asked .number) refl (after-sequential 20 _ refl refl refl & after-random 33 _ _ refl refl refl & tt) (same-is _ _ t))
+      (λ f. at-kind CloseFollows Write (asked .number) refl (after-sequential 21 _ refl refl refl & after-random 34 _ _ refl refl refl & tt)
+      (same-is (kindOf (asked .number)) Write (rw f at h)))
+
+-- ---- a plan closes the FCB's own entry
+abbrev closedBy : Plan → ℕ
+closedBy (Stay e b) = e
+closedBy (Move e t b) = e
+closedBy (Make e t b) = e
+
+module _ (G : Geometry) (n user : ℕ) (l : Lent) where
+  to-closes : (e : ℕ) (r : Found) → closedBy (planTo G n user l e r) ≡ e
+  to-closes e (At t) = refl
+  to-closes e Nothing = refl
+
+  plan-closes : closedBy (plan G n user l) ≡ numberOf (G .entries) (presentEntry G user l)
+  unfolding plan planFrom
+  plan-closes = cond-either (λ (p : Plan). closedBy p ≡ numberOf (G .entries) (presentEntry G user l)) (stays n (l .fcb)) (λ t. refl) (λ f. to-closes _ (targetEntry G n user l))
+
+-- ---- the theorem, on every disk
+pub closes-first : (G : Geometry) (d : Disk) (q : Request) → ofRecord (kindOf (q .asked .number)) ≡ true → PastCurrent (outcomeOf G d q .answer) → ClosesFirst G d q
+unfolding outcomeOf effect kindOf closed closedAt moved made
+closes-first G d q k w =
+    let c = close-follows G (q .asked) (lentTo d q) (d .session) k w in
+    let own : (p : Plan) → planOf G d q ≡ p → numberOf (G .entries) (presentEntry G (d .session .user) (lentTo d q)) ≡ closedBy p =
+    λ p z. sym (plan-closes G (q .asked .number) (d .session .user) (lentTo d q)) ∙ ap closedBy z in
+    record {
+      accepted = carried-says G (calling 16 (q .asked)) (lentTo d q) (d .session) c;
+      moves = λ e t b z. rw (c .is, own _ z);
+      makes = λ e t b z. rw (c .is, own _ z);
+    }
