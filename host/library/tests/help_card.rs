@@ -67,7 +67,10 @@ fn the_help_card_has_every_case_in_order() {
 #[test]
 fn header_and_help_card_say_what_accepted_calls_answer() {
     for path in ["include/benzokamuri.h", "docs/HELP-CARD.md"] {
-        assert!(flat(&read(path)).contains(&flat(Code::ACCEPTED_CALLS)), "{path}");
+        assert!(
+            flat(&read(path)).contains(&flat(Code::ACCEPTED_CALLS)),
+            "{path}"
+        );
     }
 }
 
