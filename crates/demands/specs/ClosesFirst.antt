@@ -1,6 +1,7 @@
--- Why no record call answers 3, 0: a move begins with a close, and that close is never refused. Where 20, 21, 33 or 34 has got past the codes
--- that are tested up to "FCB not current" (a wrong parameter, a damaged disk, a random record that is too large), whatever it answers then, call
--- 16 on the same disk, with the same FCB, is accepted; and the disk that it leaves is the one on which a move goes on.
+-- Why no record call answers 3, 0: a move begins with a close, and that close is never refused. Where 20, 21, 33 or 34 answers none of the codes
+-- that are tested up to and with "FCB not current" (a wrong parameter, a damaged disk, a random record that is too large, an FCB that is not
+-- current), whatever else it answers, call 16 on the same disk, with the same FCB, is accepted; and the disk that it leaves is the one on which
+-- a move goes on.
 use mathlib.Core.Path.{_≡_, refl, ap, sym, _∙_}
 use mathlib.Core.Bool.{Bool, true, false, not}
 use mathlib.Core.List.{List, _∷_}
@@ -41,7 +42,7 @@ use Rattle.demands.specs.Runs.{Request, Disk, lentTo, outcomeOf, accepts
 abbrev pub IsAnswer : Answer → ℕ → ℕ → Type 0
 IsAnswer r a h = (r .a ≡ a) × (r .h ≡ h)
 
--- an answer with none of the codes that are tested up to "FCB not current". (255, 255 is the first of those; no listed call answers it.)
+-- an answer with none of the codes that are tested up to and with "FCB not current". (255, 255 is the first of those; no listed call answers it.)
 pub record PastCurrent (r : Answer) : Type 0 where
   pub parameter : IsAnswer r 255 4 → ⊥
   pub disk : IsAnswer r 255 1 → ⊥
