@@ -4,7 +4,7 @@ use mathlib.Core.Path.{_≡_, refl, ap, sym, _∙_}
 use mathlib.Core.Bool.{Bool}
 use mathlib.Core.List.{List, [], _∷_}
 use mathlib.Core.Logic.{_⊎_}
-use Prim.Native.Nat.{ℕ, _+_, _-_, _*_, _%_, _≤_, _<_}
+use Prim.Native.Nat.{ℕ, _+_, _-_, _*_, _/_, _%_, _≤_, _<_}
 use native.Mathlib.Omega.{arith}
 use lib.Dec.{eqb, leb}
 use lib.ListN.{getD}
@@ -41,6 +41,17 @@ skewed-back s h = eqb-true (getD logical (skewed s - 1) 0) s (table-at back skew
 
 pub skewed-once : (s t : ℕ) → s < eightInch .sectors → t < eightInch .sectors → skewed s ≡ skewed t → s ≡ t
 skewed-once s t hs ht e = sym (skewed-back s hs) ∙ ap (λ (p : ℕ). getD logical (p - 1) 0) e ∙ skewed-back t ht
+
+-- request [3]: the physical sector, computed, and that at all 26 it is the published table's
+abbrev pub computed : ℕ → ℕ
+computed s = 6 * s % 26 + s / 13 + 1
+
+agrees : ℕ → ℕ → Bool
+agrees s p = eqb (computed s) p
+
+pub skewed-computed : (s : ℕ) → s < eightInch .sectors → computed s ≡ skewed s
+unfolding skew skewed agrees everyFrom _and_
+skewed-computed s h = eqb-true (computed s) (skewed s) (table-at agrees skew refl s h)
 
 eight-slots : extentRecords ≤ slotsOn eightInch * eightInch .perBlock
 unfolding slotsOn

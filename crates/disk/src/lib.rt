@@ -4,42 +4,13 @@ ghost use Prim.Native.Nat.{_+_, _*_, _≤_, _<_};
 ghost use lib.ListN.{length};
 ghost use Rattle.format.specs.Diskette.{eightInch, skewed, offsetOf, recordBytes, Long, imageBytes, recordAt, withRecord};
 
-// The physical sector, counted from 1, of each logical sector.
-const SKEW: [u8; format::SECTORS] = [
-    1,
-    7,
-    13,
-    19,
-    25,
-    5,
-    11,
-    17,
-    23,
-    3,
-    9,
-    15,
-    21,
-    2,
-    8,
-    14,
-    20,
-    26,
-    6,
-    12,
-    18,
-    24,
-    4,
-    10,
-    16,
-    22,
-];
-
-// The physical sector of a logical one. Only this function knows of the table.
+// The physical sector of a logical one, computed: each goes six on from the one before, around the track; after thirteen, which would
+// come back to where they began, one more. It is the published table's (`skewed-computed`). Only this function knows of the order.
 fn physical(s: usize) -> usize
     requires { ⌜ s < eightInch .sectors ⌝ }
     ensures { λ r. ⌜ (r ≡ skewed s) × (1 ≤ r) × (r ≤ eightInch .sectors) ⌝ }
 {
-    lists::wide(SKEW[s])
+    6 * s % format::SECTORS + s / 13 + 1
 }
 
 // The place in the image of a disk record.

@@ -1,14 +1,13 @@
--- The table lookup is the definition's; the bounds are those of the table's permutation fact.
+-- The formula is the published table's, and so are its bounds.
 use native.Mathlib.Omega.{arith}
-use Rattle.format.specs.Diskette.{skew, skewed}
-use Rattle.disk.specs.Eight.{skewed-low, skewed-high}
+use Rattle.disk.specs.Eight.{skewed-computed, skewed-low, skewed-high}
 use borrow.Author.Needs.{needs}
 use Rattle.disk.proofs.physical.Statement.{statement}
 use Rattle.disk.proofs.physical.Tie as tie
 
 returns : tie.Need-returns
-unfolding skew skewed
-returns c = let s = c .before .args .s in let l = c .wide .ensures in (l .0, omega (arith, skewed-low s (c .before .pre)), omega (arith, skewed-high s (c .before .pre)))
+returns c =
+    let s = c .args .s in let e = skewed-computed s (c .pre) in (e, omega (arith, e, skewed-low s (c .pre)), omega (arith, e, skewed-high s (c .pre)))
 
 pub physical-spec : {M : Type 1} → statement M
-physical-spec = tie.close (tie.spec (λ c. search needs) (λ c κs. search needs) returns)
+physical-spec = tie.close (tie.spec (λ c. search needs) (λ c. search needs) (λ c. search needs) returns)
