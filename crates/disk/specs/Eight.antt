@@ -1,5 +1,5 @@
 -- The 8-inch disk's sizes are what the laws ask of a disk. Its sector table holds each of 1 to 26 once: a second table takes every
--- physical sector back to its logical one.
+-- physical sector back to its logical one. A formula gives its numbers.
 use mathlib.Core.Path.{_≡_, refl, ap, sym, _∙_}
 use mathlib.Core.Bool.{Bool}
 use mathlib.Core.List.{List, [], _∷_}
@@ -42,7 +42,7 @@ skewed-back s h = eqb-true (getD logical (skewed s - 1) 0) s (table-at back skew
 pub skewed-once : (s t : ℕ) → s < eightInch .sectors → t < eightInch .sectors → skewed s ≡ skewed t → s ≡ t
 skewed-once s t hs ht e = sym (skewed-back s hs) ∙ ap (λ (p : ℕ). getD logical (p - 1) 0) e ∙ skewed-back t ht
 
--- request [3]: the physical sector, computed, and that at all 26 it is the published table's
+-- the physical sector as code computes it (request [3]), and that at all 26 this is the published table's
 abbrev pub computed : ℕ → ℕ
 computed s = 6 * s % 26 + s / 13 + 1
 

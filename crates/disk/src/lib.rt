@@ -4,8 +4,8 @@ ghost use Prim.Native.Nat.{_+_, _*_, _≤_, _<_};
 ghost use lib.ListN.{length};
 ghost use Rattle.format.specs.Diskette.{eightInch, skewed, offsetOf, recordBytes, Long, imageBytes, recordAt, withRecord};
 
-// The physical sector of a logical one, computed: each goes six on from the one before, around the track; after thirteen, which would
-// come back to where they began, one more. It is the published table's (`skewed-computed`). Only this function knows of the order.
+// The physical sector of a logical one, computed: each lies six on from the one before, around the track, and the second thirteen, which
+// would fall on the first, one further. The published table says the same (`skewed-computed`). Only this function knows of the order.
 fn physical(s: usize) -> usize
     requires { ⌜ s < eightInch .sectors ⌝ }
     ensures { λ r. ⌜ (r ≡ skewed s) × (1 ≤ r) × (r ≤ eightInch .sectors) ⌝ }

@@ -20,16 +20,16 @@ pub const BLOCK_RECORDS: usize = 8;
 const SECTORS: usize = 26;
 const SYSTEM_TRACKS: usize = 2;
 
-/// The physical sector, counted from 1, of each logical one.
-const PHYSICAL: [usize; SECTORS] = [
-    1, 7, 13, 19, 25, 5, 11, 17, 23, 3, 9, 15, 21, 2, 8, 14, 20, 26, 6, 12, 18, 24, 4, 10, 16, 22,
-];
+/// The physical sector, counted from 1, of a logical one (0 to 25).
+fn physical(logical: usize) -> usize {
+    6 * logical % SECTORS + logical / 13 + 1
+}
 
 /// Where a record (0 to 7) of a block (0 to 242) stands in the image.
 pub fn place(block: usize, record: usize) -> usize {
     let d = BLOCK_RECORDS * block + record;
     let track = SYSTEM_TRACKS + d / SECTORS;
-    (SECTORS * track + PHYSICAL[d % SECTORS] - 1) * BUFFER_LEN
+    (SECTORS * track + physical(d % SECTORS) - 1) * BUFFER_LEN
 }
 
 /// Where an entry (0 to 63) stands in the image.
@@ -43,7 +43,7 @@ pub fn entry_place(entry: usize) -> usize {
 pub fn record_at(place_in_image: usize) -> Option<(usize, usize)> {
     let sector = place_in_image / BUFFER_LEN;
     let track = (sector / SECTORS).checked_sub(SYSTEM_TRACKS)?;
-    let logical = PHYSICAL.iter().position(|&p| p == sector % SECTORS + 1)?;
+    let logical = (0..SECTORS).find(|&logical| physical(logical) == sector % SECTORS + 1)?;
     let d = SECTORS * track + logical;
     let block = d / BLOCK_RECORDS;
     (block < BLOCKS && place_in_image < IMAGE_LEN).then_some((block, d % BLOCK_RECORDS))
@@ -157,6 +157,15 @@ impl std::fmt::Display for Note {
 #[cfg(test)]
 mod tests {
     use super::*;
+
+    #[test]
+    fn the_published_sectors() {
+        let published = [
+            1, 7, 13, 19, 25, 5, 11, 17, 23, 3, 9, 15, 21, 2, 8, 14, 20, 26, 6, 12, 18, 24, 4, 10,
+            16, 22,
+        ];
+        assert_eq!(std::array::from_fn::<usize, SECTORS, _>(physical), published);
+    }
 
     #[test]
     fn checked_examples_a_to_d() {
