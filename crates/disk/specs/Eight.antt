@@ -1,5 +1,5 @@
 -- The 8-inch disk's sizes are what the laws ask of a disk. Its sector table holds each of 1 to 26 once: a second table takes every
--- physical sector back to its logical one. A formula gives its numbers.
+-- physical sector back to its logical one. A formula gives the sector table's numbers.
 use mathlib.Core.Path.{_≡_, refl, ap, sym, _∙_}
 use mathlib.Core.Bool.{Bool}
 use mathlib.Core.List.{List, [], _∷_}

@@ -164,7 +164,8 @@ mod tests {
             1, 7, 13, 19, 25, 5, 11, 17, 23, 3, 9, 15, 21, 2, 8, 14, 20, 26, 6, 12, 18, 24, 4, 10,
             16, 22,
         ];
-        assert_eq!(std::array::from_fn::<usize, SECTORS, _>(physical), published);
+        let computed: [usize; SECTORS] = std::array::from_fn(physical);
+        assert_eq!(computed, published);
     }
 
     #[test]

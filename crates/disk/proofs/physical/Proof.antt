@@ -1,4 +1,4 @@
--- The formula is the published table's, and so are its bounds.
+-- The formula gives the published table's number; the bounds are the table's.
 use native.Mathlib.Omega.{arith}
 use Rattle.disk.specs.Eight.{skewed-computed, skewed-low, skewed-high}
 use borrow.Author.Needs.{needs}
