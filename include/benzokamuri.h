@@ -122,6 +122,9 @@ typedef struct {
  *                                  the directory is full.
  *   2, 0       21 34               The disk is full: no block is free.
  *
+ * rc, in an entry or in an FCB, may be any byte: as a count of records, more than
+ * 128 is read as 128. No call refuses a disk or an FCB for it.
+ *
  * A refusal hands the session back as it came; only a 17 that finds nothing
  * and an 18 that finds no more end the search. */
 typedef struct {

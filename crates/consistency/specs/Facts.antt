@@ -5,13 +5,12 @@ use mathlib.Core.Bool.{true, false}
 use Prim.Native.Nat.{ℕ, _≤_, _<_}
 use Rattle.format.specs.Diskette.{Bytes, Geometry, slotCount}
 use Rattle.format.specs.Names.{nameRight, nameLike}
-use Rattle.format.specs.Entries.{Rows, userOf, exOf, s2Of, rcOf, slotOf, empty, used, extentOf, runOf}
+use Rattle.format.specs.Entries.{Rows, userOf, exOf, s2Of, slotOf, empty, used, extentOf, runOf}
 
--- the numbers of a row or an FCB are in range
+-- ex and s2 of a row or an FCB are in range
 pub record Numbers (r : Bytes) : Type 0 where
   pub ex : exOf r ≤ 31
   pub s2 : s2Of r ≤ 63
-  pub rc : rcOf r ≤ 128
 
 -- the fields of a used entry are in range
 pub record Fine (G : Geometry) (r : Bytes) : Type 0 where

@@ -11,7 +11,7 @@ use Rattle.lists.specs.Below.{allBelow, all-at, all-intro, any-never, any-empty
 use Rattle.lists.specs.Seen.{taken}
 use Rattle.format.specs.Diskette.{Bytes, Geometry, slotCount}
 use Rattle.format.specs.Entries.{Rows, entryAt, userOf, slotOf, empty, used, named, isFile, covers}
-use Rattle.format.specs.Consistent.{numbersRight, slotRight, slotsRight, entryRight, slotsInAll, listed, listedOnce, sameFile, alone, consistentRows, consistent}
+use Rattle.format.specs.Consistent.{extentRight, slotRight, slotsRight, entryRight, slotsInAll, listed, listedOnce, sameFile, alone, consistentRows, consistent}
 use Rattle.facts.specs.Names.{like-sym}
 use Rattle.consistency.specs.Facts.{Numbers, Fine, Stands, SameFile, Consistent}
 use Rattle.consistency.specs.Listed.{stands-at, stands-place, stands-listed}
@@ -37,17 +37,11 @@ empty-unused r h = split (bool-cases (used r)) (λ u. not-both (empty r) h (used
 pub empty-elsewhere : (d : Rows) (t e : ℕ) → empty (d t) ≡ true → used (d e) ≡ true → t ≡ e → ⊥
 empty-elsewhere d t e z u q = not-both (empty (d t)) z (ap (λ (x : ℕ). empty (d x)) q ∙ used-full (d e) u)
 
-pub numbers-elim : (r : Bytes) → numbersRight r ≡ true → Numbers r
-unfolding numbersRight
-numbers-elim r h = record {
-  ex = leb-true _ _ (and-left _ _ (and-left _ _ h));
-  s2 = leb-true _ _ (and-right _ _ (and-left _ _ h));
-  rc = leb-true _ _ (and-right _ _ h);
-}
+pub numbers-elim : (r : Bytes) → extentRight r ≡ true → Numbers r
+numbers-elim r h = record { ex = leb-true _ _ (and-left _ _ h); s2 = leb-true _ _ (and-right _ _ h) }
 
-pub numbers-intro : (r : Bytes) → Numbers r → numbersRight r ≡ true
-unfolding numbersRight
-numbers-intro r n = and-both _ _ (and-both _ _ (le-leb _ _ (n .ex)) (le-leb _ _ (n .s2))) (le-leb _ _ (n .rc))
+pub numbers-intro : (r : Bytes) → Numbers r → extentRight r ≡ true
+numbers-intro r n = and-both _ _ (le-leb _ _ (n .ex)) (le-leb _ _ (n .s2))
 
 module _ (G : Geometry) where
   -- a slot that is right and is not 0 holds the number of a block past the directory

@@ -76,7 +76,7 @@ module _ (f : Bytes) (r : ℕ) (hf : length f ≡ fcbBytes) where
   right-atRecord t =
       let k = fcb-says f t in
       right-like f (atRecord f r) name-atRecord (λ i a b. rest-atRecord i (omega arith) (omega arith))
-      (rw count-atRecord (k .numbers .rc)) (rw (rest-atRecord 32 (omega arith) (omega arith)) (k .cr)) t
+      (rw (rest-atRecord 32 (omega arith) (omega arith)) (k .cr)) t
 
   pub cur-atRecord : (G : Geometry) (s : View) (user e : ℕ) → Cur G s user f e → Cur G s user (atRecord f r) e
   cur-atRecord G s user e c = like-cur G s user f (atRecord f r) e (right-atRecord (c .right)) name-atRecord extent-atRecord (λ j h. slot-atRecord G j) c

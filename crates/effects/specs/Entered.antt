@@ -6,8 +6,8 @@ use Prim.Native.Nat.{ℕ, _≤_, _<_}
 use native.Mathlib.Omega.{arith}
 use lib.ListN.{length, set}
 use Rattle.lists.specs.Cases.{split, eq-or-ne}
-use Rattle.format.specs.Diskette.{Bytes, Geometry, Sound, entryBytes, slotCount, slotsOn, extents, extentRecords}
-use Rattle.format.specs.Entries.{entryAt, slotOf, userOf, rcOf, extentOf, runOf, isFile}
+use Rattle.format.specs.Diskette.{Bytes, Geometry, Sound, entryBytes, slotCount, slotsOn, extents}
+use Rattle.format.specs.Entries.{entryAt, slotOf, userOf, extentOf, runOf, isFile}
 use Rattle.format.specs.Fcb.{fcbBytes, fcbRight, crOf}
 use Rattle.facts.specs.Names.{like-intro, right-cong}
 use Rattle.consistency.specs.Facts.{Fine}
@@ -20,7 +20,7 @@ use Rattle.fields.specs.Agree.{Agree, SameName, isFile-asked, isFile-cong}
 use Rattle.facts.specs.Naming.{named-intro, file-intro, file-run}
 use Rattle.fields.specs.Closing.{slot-closed-old, slot-closed-new, file-closed, name-closedFcb, slot-closedFcb, extent-closedFcb, fcbRight-closedFcb}
 use Rattle.fields.specs.Entering.{name-entered, slot-entered, extent-entered, fcbRight-entered, name-copied, slot-copied, extent-copied, row-copied, rest-copied}
-use Rattle.fields.specs.Target.{name-read, slot-read, extent-read, head-read, cr-read, name-written, head-written, count-written, cr-written, count-written-high}
+use Rattle.fields.specs.Target.{name-read, slot-read, extent-read, head-read, cr-read, name-written, head-written, cr-written}
 use Rattle.invariant.specs.Close.{Held}
 use Rattle.fields.specs.Images.{row-closedImage}
 use Rattle.invariant.specs.Good.{Good}
@@ -28,16 +28,15 @@ use Rattle.effects.specs.View.{View, viewOf}
 use Rattle.effects.specs.Cur.{Cur}
 
 -- ---- the fields of an FCB
--- with the name, ex and s2 of a right FCB, and rc and cr in range
-pub right-like : (f g : Bytes) → SameName g 1 f 1 → Agree g f 12 15 → rcOf g ≤ 128 → crOf g ≤ 128 → fcbRight f ≡ true → fcbRight g ≡ true
-right-like f g name same rc cr h =
+-- with the name, ex and s2 of a right FCB, and cr in range
+pub right-like : (f g : Bytes) → SameName g 1 f 1 → Agree g f 12 15 → crOf g ≤ 128 → fcbRight f ≡ true → fcbRight g ≡ true
+right-like f g name same cr h =
     let r = fcb-says f h in
     fcb-is g record {
       name = right-cong false g 1 f 1 name ∙ r .name;
       numbers = record {
         ex = rw (same 12 (omega arith) (omega arith)) (r .numbers .ex);
         s2 = rw (same 14 (omega arith) (omega arith)) (r .numbers .s2);
-        rc = rc;
       };
       cr = cr;
     }
@@ -78,7 +77,6 @@ copied-cur G s user fcb row t low is mine hf hr fine cr =
       numbers = record {
         ex = rw (at 12 (omega arith) (omega arith)) (fine .numbers .ex);
         s2 = rw (at 14 (omega arith) (omega arith)) (fine .numbers .s2);
-        rc = rw (at 15 (omega arith) (omega arith)) (fine .numbers .rc);
       };
       cr = rw (rest-copied fcb row hf′ hr′ 36 32 (omega arith) (omega arith)) cr;
     })
@@ -99,16 +97,14 @@ module _ (G : Geometry) (s : View) (user : ℕ) (f g : Bytes) (e : ℕ) where
 pub set-cur : (G : Geometry) (s : View) (user : ℕ) (f : Bytes) (cr e : ℕ) → length f ≡ fcbBytes → cr ≤ 128 → Cur G s user f e → Cur G s user (set f 32 cr) e
 set-cur G s user f cr e hf h c =
     like-cur G s user f (set f 32 cr) e
-    (right-like f (set f 32 cr) (name-read f cr) (λ i a b. head-read f cr i (omega arith) (omega arith))
-    (rw (head-read f cr 15 (omega arith) (omega arith)) (fcb-says f (c .right) .numbers .rc)) (rw (cr-read f cr hf) h) (c .right))
+    (right-like f (set f 32 cr) (name-read f cr) (λ i a b. head-read f cr i (omega arith) (omega arith)) (rw (cr-read f cr hf) h) (c .right))
     (name-read f cr) (extent-read f cr) (λ j l. slot-read f cr G j) c
 
 -- a right FCB stays so when a record is written through it
-pub right-written : (G : Geometry) (f : Bytes) (count j b r cr : ℕ) → length f ≡ fcbBytes → j < slotsOn G → count ≤ extentRecords → r < extentRecords → cr ≤ 128
+pub right-written : (G : Geometry) (f : Bytes) (count j b r cr : ℕ) → length f ≡ fcbBytes → j < slotsOn G → cr ≤ 128
     → fcbRight f ≡ true → fcbRight (writtenFcb G f count j b r cr) ≡ true
-right-written G f count j b r cr hf hj n hr hc h =
+right-written G f count j b r cr hf hj hc h =
     right-like f (writtenFcb G f count j b r cr) (name-written G f count j b r cr hj) (λ i p q. head-written G f count j b r cr hj i (omega arith) q)
-    (rw (count-written G f count j b r cr hj hf) (count-written-high f count r 128 (fcb-says f h .numbers .rc) n hr))
     (rw (cr-written G f count j b r cr hj hf) hc) h
 
 -- one that was closed: its entry has all its blocks now

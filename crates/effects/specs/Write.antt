@@ -27,7 +27,7 @@ use Rattle.table.specs.Plans.{Block, There, Planned, stay, move, make, planned-
 use Rattle.table.specs.Plans as Plans
 use Rattle.invariant.specs.Good.{Good}
 use Rattle.effects.specs.View.{viewOf, mine-high}
-use Rattle.effects.specs.Cur.{Cur, cur-uses, cur-mine, Holds}
+use Rattle.effects.specs.Cur.{Cur, cur-mine, Holds}
 use Rattle.effects.specs.Where.{WritesNone, Theirs, was-free, OneRecord}
 use Rattle.effects.specs.Book.{Book, movedBook, entryAfter, writtenBook}
 use Rattle.effects.specs.Change.{Change, then-change, as-change}
@@ -126,12 +126,8 @@ module _ {G : Geometry} (S : Sound G) (n : ℕ) (l : Lent) (s : Session) (g : Go
     full = ap length (came .buffer) ∙ f .buffer-long
 
     right : fcbRight (writtenFcb G (there .fcb) count j b r (crAfter n (l .fcb))) ≡ true
-    unfolding count
     right =
-        right-written G (there .fcb) count j b r (crAfter n (l .fcb)) (came .long) j-real
-        (count-high (entryAt G (there .drive .image) t) (extentOf (there .fcb))
-        (here-good .inv .dir .fine t (came .cur .low) (cur-uses G (viewOf G (there .drive .image) (there .drive .map)) (s .user) (f .user-low) (there .fcb) t (came .cur)) .numbers .rc))
-        r-below (crAfter-high n (l .fcb) cr) (came .cur .right)
+        right-written G (there .fcb) count j b r (crAfter n (l .fcb)) (came .long) j-real (crAfter-high n (l .fcb) cr) (came .cur .right)
 
     One : ℕ → Type 0
     One = OneRecord G (l .drive .image) (l .drive .map) (byName (s .user) (l .fcb)) b (targetRecord n (l .fcb))
@@ -151,9 +147,10 @@ module _ {G : Geometry} (S : Sound G) (n : ℕ) (l : Lent) (s : Session) (g : Go
 
     held : Holds G (viewOf G (withRecord G (there .drive .image) (placeIn G b r) (there .buffer)) (writtenMap G (there .drive .map) (there .fcb) t j b)) (s .user)
         (writtenFcb G (there .fcb) count j b r (crAfter n (l .fcb))) t r (there .buffer)
+    unfolding count
     held =
         put-holds S (there .drive .image) (there .drive .map) here-good (s .user) (f .user-low) (there .fcb) (came .long) t (came .cur) r r-below j slot-is b for-slot
-        (there .buffer) full count (crAfter n (l .fcb)) right
+        (there .buffer) full count (crAfter n (l .fcb)) right (count-high (entryAt G (there .drive .image) t) (extentOf (there .fcb)))
 
     new-slot : slotOf G (writtenFcb G (there .fcb) count j b r (crAfter n (l .fcb))) j ≡ b
     new-slot = slot-written G (there .fcb) count j b r (crAfter n (l .fcb)) j-real (came .long)

@@ -47,11 +47,14 @@ pub fn covers_extent(r: &[u8], ext: usize) -> bool
     run_of(extent(r)) == run_of(ext)
 }
 
-// How many records a row or an FCB counts, in the extent that its ex and s2 give.
+// How many records a row or an FCB counts, in the extent that its ex and s2 give: rc, but 128 where rc is more.
 pub fn count_of(r: &[u8]) -> u8
     requires { ⌜ entryBytes ≤ length (now r) ⌝ }
     ensures { λ n. ⌜ n ≡ countOf (now (r .entry)) ⌝ }
 {
+    if 128 < r[15] {
+        return 128;
+    }
     r[15]
 }
 

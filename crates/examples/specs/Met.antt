@@ -1,5 +1,5 @@
 -- The examples speak of something: disks, straight after a log-in, and FCBs on which what each of them asks for holds.
-use mathlib.Core.Path.{_≡_, refl, sym, _∙_}
+use mathlib.Core.Path.{_≡_, refl, ap, sym, _∙_, subst}
 use mathlib.Core.Bool.{true, false}
 use mathlib.Core.List.{[], _∷_, _++_}
 use Prim.Native.Nat.{ℕ, _+_, _≤_, _<_}
@@ -11,7 +11,7 @@ use Rattle.lists.specs.Tests.{_and_}
 use Rattle.lists.specs.Below.{allBelow, all-at}
 use Rattle.format.specs.Diskette.{Bytes, eightInch, slotCount, Long}
 use Rattle.format.specs.Names.{nameRight}
-use Rattle.format.specs.Entries.{entryAt, used, extentOf}
+use Rattle.format.specs.Entries.{entryAt, rcOf, used, extentOf}
 use Rattle.format.specs.Consistent.{consistent}
 use Rattle.format.specs.Notes.{isListed, freshMap}
 use Rattle.format.specs.Fcb.{fcbBytes, crOf}
@@ -25,15 +25,16 @@ use Rattle.examples.specs.Erased.{start, blank, notes, fitting, logged-r
 use Rattle.examples.specs.Numbers.{Gives, HasEntry, size-largest}
 use Rattle.examples.specs.Random.{RandomIs}
 use Rattle.examples.specs.Pattern.{AllAny}
-use Rattle.examples.specs.OneFile.{InRange, entryOf, oneFile, fileFcb, length-fileFcb, fcb-name, one-long, one-consistent, one-only, one-uses, rest-unlisted, oneLent, one-ready, one-entry}
+use Rattle.examples.specs.OneFile.{InRange, entryOf, fileCount, oneFile, fileFcb, length-fileFcb, fcb-name, one-long, one-rc, one-consistent, one-only, one-uses, rest-unlisted, oneLent, one-ready, one-entry}
 
--- a disk of one entry, of extent 2,047 with rc 128, on which 35 gives 00H 00H 04H
-pub record Largest (asked : Asked) : Type 0 where
+-- a disk of one entry, of extent 2,047 with this rc, on which 35 gives 00H 00H 04H
+pub record Largest (rc : ℕ) (asked : Asked) : Type 0 where
   pub lent : Lent
   pub session : Session
   pub ready : Ready eightInch (calling 35 asked) lent session
   pub name : nameRight false (lent .fcb) 1 ≡ true
   pub has : HasEntry eightInch lent session 2047 128
+  pub byte : (e : ℕ) → e < eightInch .entries → used (rowsOf eightInch lent e) ≡ true → rcOf (rowsOf eightInch lent e) ≡ rc
   pub only : (e f : ℕ) → e < eightInch .entries → f < eightInch .entries → used (rowsOf eightInch lent e) ≡ true → used (rowsOf eightInch lent f) ≡ true → e ≡ f
   pub gives : Gives eightInch (calling 35 asked) lent session (0 ∷ 0 ∷ 4 ∷ [])
 
@@ -77,19 +78,23 @@ module _ (img : Bytes) (erased : ErasedDisk eightInch img) where
   unfolding extentOf
   position-met asked = with-fcb _ asked atEnd refl (omega arith) (refl, refl)
 
-  pub largest-met : (asked : Asked) → Largest asked
-  largest-met asked =
-      let f = entryOf 2047 128 2 in
-      let range : InRange f = record { extent = omega arith; count = omega arith; low = omega arith; high = omega arith } in
+  pub largest-met : (rc : ℕ) → 128 ≤ rc → (asked : Asked) → Largest rc asked
+  largest-met rc high asked =
+      let f = entryOf 2047 rc 2 in
+      let full : fileCount f ≡ 128 = omega arith in
+      let range : InRange f = record { extent = omega arith; low = omega arith; high = omega arith } in
       let fit = fitting fileFcb length-fileFcb in
       let ready = one-ready img erased f range notes blank start refl fit asked in
-      let has = one-entry img erased f range notes blank start refl fit asked in
+      let own = one-entry img erased f range notes blank start refl fit asked in
+      let l = oneLent img erased f range notes blank start refl fit asked in
+      let has = subst (HasEntry eightInch l (ended start) 2047) full own in
       record {
-        lent = oneLent img erased f range notes blank start refl fit asked;
+        lent = l;
         session = ended start;
         ready = ready;
         name = fcb-name;
         has = has;
+        byte = λ e h u. ap (λ (x : ℕ). rcOf (entryAt eightInch (oneFile img f) x)) (one-only img erased f range e h u) ∙ one-rc img erased f range;
         only = λ e g h k u v. one-only img erased f range e h u ∙ sym (one-only img erased f range g k v);
         gives = size-largest eightInch asked _ (ended start) ready fcb-name has;
       }
@@ -98,7 +103,7 @@ module _ (img : Bytes) (erased : ErasedDisk eightInch img) where
   pub slot-met : (i : Bytes) × SlotOf i 0 0 × (isListed eightInch (entryAt eightInch i) 2 ≡ false) × (isListed eightInch (entryAt eightInch i) 242 ≡ false)
   slot-met =
       let f = entryOf 0 1 3 in
-      let range : InRange f = record { extent = omega arith; count = omega arith; low = omega arith; high = omega arith } in (
+      let range : InRange f = record { extent = omega arith; low = omega arith; high = omega arith } in (
         oneFile img f,
         record {
           long = one-long img erased f range;

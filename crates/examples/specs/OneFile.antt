@@ -1,8 +1,8 @@
--- A disk with one entry: entry 0 of an erased disk is an extent of user 0's file A, with its count, and lists one block.
+-- A disk with one entry: entry 0 of an erased disk is an extent of user 0's file A, with its rc, and lists one block.
 use mathlib.Core.Path.{_≡_, refl, sym, ap, _∙_}
 use mathlib.Core.Bool.{true, false}
 use mathlib.Core.List.{[], _∷_, _++_}
-use Prim.Native.Nat.{ℕ, zero, suc, _+_, _*_, _/_, _%_, _≤_, _<_}
+use Prim.Native.Nat.{ℕ, zero, suc, _+_, _*_, _/_, _%_, _≤_, _<_, min}
 use native.Mathlib.Omega.{arith}
 use lib.ListN.{length, getD, replicate, getD-replicate}
 use borrow.Author.Tests.{eqb-true, le-leb}
@@ -10,9 +10,9 @@ use Rattle.lists.specs.Cases.{split, eq-or-ne, bool-cases, not-both}
 use Rattle.lists.specs.Tests.{_and_, _or_, and-left}
 use Rattle.lists.specs.Below.{allBelow}
 use Rattle.lists.specs.Splice.{part, splice}
-use Rattle.format.specs.Diskette.{Bytes, eightInch, extents, slotCount, Long}
+use Rattle.format.specs.Diskette.{Bytes, eightInch, extents, extentRecords, slotCount, Long}
 use Rattle.format.specs.Names.{nameByte, nameRight, byteLike, nameLike}
-use Rattle.format.specs.Entries.{Rows, entryAt, withEntry, slotOf, userOf, countOf, empty, used, extentOf, endOf, slotIn, slotsOf, named}
+use Rattle.format.specs.Entries.{Rows, entryAt, withEntry, slotOf, userOf, rcOf, countOf, empty, used, extentOf, endOf, slotIn, slotsOf, named}
 use Rattle.format.specs.Consistent.{consistent}
 use Rattle.format.specs.Notes.{isListed, freshMap, freeCount}
 use Rattle.format.specs.Fcb.{fcbBytes}
@@ -37,22 +37,25 @@ use Rattle.examples.specs.Numbers.{size-step, HasEntry, some-entry}
 
 pub record Entry : Type 0 where
   pub extent : ℕ
-  pub count : ℕ
+  pub rc : ℕ
   pub block : ℕ
 
 abbrev pub entryOf : ℕ → ℕ → ℕ → Entry
-entryOf extent count block = record { extent = extent; count = count; block = block }
+entryOf extent rc block = record { extent = extent; rc = rc; block = block }
 
--- its numbers are in range
+-- the records that it counts there
+abbrev pub fileCount : Entry → ℕ
+fileCount f = min (f .rc) extentRecords
+
+-- its extent and its block are in range
 pub record InRange (f : Entry) : Type 0 where
   pub extent : f .extent < extents
-  pub count : f .count ≤ 128
   pub low : 2 ≤ f .block
   pub high : f .block ≤ 242
 
 -- the bytes before the slots
 abbrev fileHead : Entry → Bytes
-fileHead f = 0 ∷ 65 ∷ 32 ∷ 32 ∷ 32 ∷ 32 ∷ 32 ∷ 32 ∷ 32 ∷ 32 ∷ 32 ∷ 32 ∷ f .extent % 32 ∷ 0 ∷ f .extent / 32 ∷ f .count ∷ []
+fileHead f = 0 ∷ 65 ∷ 32 ∷ 32 ∷ 32 ∷ 32 ∷ 32 ∷ 32 ∷ 32 ∷ 32 ∷ 32 ∷ 32 ∷ f .extent % 32 ∷ 0 ∷ f .extent / 32 ∷ f .rc ∷ []
 
 abbrev fileSlots : Entry → Bytes
 fileSlots f = f .block ∷ replicate 15 0
@@ -109,8 +112,12 @@ module _ (f : Entry) where
   unfolding extentOf fileRow
   file-extent = omega arith
 
-  file-count : countOf (fileRow f) ≡ f .count
+  file-rc : rcOf (fileRow f) ≡ f .rc
   unfolding fileRow
+  file-rc = refl
+
+  file-count : countOf (fileRow f) ≡ fileCount f
+  unfolding countOf fileRow
   file-count = refl
 
   file-fine : InRange f → Fine eightInch (fileRow f)
@@ -118,7 +125,7 @@ module _ (f : Entry) where
   file-fine r = record {
     user = omega arith;
     name = file-name;
-    numbers = record { ex = omega arith; s2 = omega (arith, r .extent); rc = r .count };
+    numbers = record { ex = omega arith; s2 = omega (arith, r .extent) };
     low = λ j l real. let q : j ≡ 0 = slot-first j l (λ z. real (file-slot j ∙ z)) in rw (file-slot j, q) (r .low);
     high = λ j l real. let q : j ≡ 0 = slot-first j l (λ z. real (file-slot j ∙ z)) in rw (file-slot j, q) (omega (arith, r .high));
   }
@@ -138,6 +145,10 @@ module _ (img : Bytes) (erased : ErasedDisk eightInch img) (f : Entry) (range : 
   one-left : (e : ℕ) → e < 64 → (e ≡ 0 → ⊥) → rows e ≡ entryAt eightInch img e
   unfolding rows oneFile
   one-left e h ne = entry-left eight-sound img (erased .long) 0 (omega arith) (fileRow f) (length-file f) e h (λ q. ne (sym q))
+
+  pub one-rc : rcOf (entryAt eightInch (oneFile img f) 0) ≡ f .rc
+  unfolding rows
+  one-rc = rw one-row (file-rc f)
 
   -- no other entry is used
   only : (e : ℕ) → e < 64 → used (rows e) ≡ true → e ≡ 0
@@ -209,12 +220,12 @@ module _ (img : Bytes) (erased : ErasedDisk eightInch img) (f : Entry) (range : 
   one-mine : named false 0 fileFcb 1 (rows 0) ≡ true
   one-mine = rw one-row (file-asked f)
 
-  one-size : fileSize eightInch rows (named false 0 fileFcb 1) ≡ 128 * f .extent + f .count
+  one-size : fileSize eightInch rows (named false 0 fileFcb 1) ≡ 128 * f .extent + fileCount f
   unfolding endOf
   one-size =
-      let is : endOf (rows 0) ≡ 128 * f .extent + f .count = rw (one-row, file-extent f, file-count f) in
+      let is : endOf (rows 0) ≡ 128 * f .extent + fileCount f = rw (one-row, file-extent f, file-count f) in
       let least = size-covers eightInch rows (named false 0 fileFcb 1) 0 (omega arith) one-mine in
-      let most = size-high eightInch rows (named false 0 fileFcb 1) (128 * f .extent + f .count) (λ e h t. let q : e ≡ 0 = only-named e h t in rw q (omega arith)) in
+      let most = size-high eightInch rows (named false 0 fileFcb 1) (128 * f .extent + fileCount f) (λ e h t. let q : e ≡ 0 = only-named e h t in rw q (omega arith)) in
       omega arith
 
   -- file A after a log-in, with what fits
@@ -225,14 +236,14 @@ module _ (img : Bytes) (erased : ErasedDisk eightInch img) (f : Entry) (range : 
     pub one-ready : Ready eightInch (calling 35 x) oneLent (ended s)
     one-ready = logged-ready eightInch (oneFile img f) one-long one-consistent map fileFcb buffer s fit (calling 35 x) (λ u. drive-low)
 
-    pub one-entry : HasEntry eightInch oneLent (ended s) (f .extent) (f .count)
+    pub one-entry : HasEntry eightInch oneLent (ended s) (f .extent) (fileCount f)
     unfolding rows
     one-entry = record { entry = 0; below = omega arith; mine = rw zero-user one-mine; extent = rw one-row (file-extent f); counted = rw one-row (file-count f) }
 
     pub one-sized : step eightInch (calling 35 x) oneLent (ended s)
-        ≡ done 0 s (lend (oneFile img f) (oneLent .drive .map) (splice fileFcb 33 (threeBytes (128 * f .extent + f .count))) buffer)
+        ≡ done 0 s (lend (oneFile img f) (oneLent .drive .map) (splice fileFcb 33 (threeBytes (128 * f .extent + fileCount f))) buffer)
     unfolding rows
     one-sized =
-        let size : fileSize eightInch (rowsOf eightInch oneLent) (named false (s .user) fileFcb 1) ≡ 128 * f .extent + f .count = rw zero-user one-size in
-        size-step eightInch x oneLent (ended s) one-ready record { name = fcb-name; some = some-entry eightInch oneLent (ended s) (f .extent) (f .count) one-entry }
+        let size : fileSize eightInch (rowsOf eightInch oneLent) (named false (s .user) fileFcb 1) ≡ 128 * f .extent + fileCount f = rw zero-user one-size in
+        size-step eightInch x oneLent (ended s) one-ready record { name = fcb-name; some = some-entry eightInch oneLent (ended s) (f .extent) (fileCount f) one-entry }
         ∙ ap (λ (k : ℕ). done 0 s (lend (oneFile img f) (oneLent .drive .map) (splice fileFcb 33 (threeBytes k)) buffer)) size

@@ -64,7 +64,7 @@ module _ (G : Geometry) (d t : Rows) (e j v : ℕ) (p : Put G d t e j v) where
         record {
           user = omega (arith, same-user f h, old .user);
           name = right-cong false (t f) 1 (d f) 1 (name-cong (t f) (d f) (λ i a b. p .head f h i (omega arith) (omega arith))) ∙ old .name;
-          numbers = numbers-elim (t f) (numbers-cong (t f) (d f) (λ i a b. p .head f h i (omega arith) b) ∙ numbers-intro (d f) (old .numbers));
+          numbers = numbers-elim (t f) (numbers-cong (t f) (d f) (λ i a b. p .head f h i (omega arith) (omega arith)) ∙ numbers-intro (d f) (old .numbers));
           low = λ k l real. split (put-slot f k h l) (λ q. omega arith) (λ q. omega (arith, old .low k l (λ z. real (q ∙ z))));
           high = λ k l real. split (put-slot f k h l) (λ q. omega arith) (λ q. omega (arith, old .high k l (λ z. real (q ∙ z))));
         }

@@ -114,8 +114,8 @@ module _ (img : Bytes) (long : Long eightInch img) (right : consistent eightInch
 abbrev small : ℕ → Entry
 small r = entryOf 0 r 2
 
-in-range : (r : ℕ) → r ≤ 128 → InRange (small r)
-in-range r h = record { extent = omega arith; count = h; low = omega arith; high = omega arith }
+in-range : (r : ℕ) → InRange (small r)
+in-range r = record { extent = omega arith; low = omega arith; high = omega arith }
 
 module _ (img : Bytes) (erased : ErasedDisk eightInch img) where
   -- the erased disk: 46 answers 0, 0, and the first byte is 88H
@@ -126,14 +126,14 @@ module _ (img : Bytes) (erased : ErasedDisk eightInch img) where
   erased-byte = space-byte img (erased .long) (erased-consistent eightInch img erased) 241 (erased-count eight-sound img erased)
 
   -- with a file of r records: the first byte is 80H, and file A has r records
-  one-byte : (r : ℕ) → r ≤ 128 → getD (onLogged 46 (oneFile img (small r)) .lent .buffer) 0 0 ≡ 128
-  one-byte r h =
-      space-byte (oneFile img (small r)) (one-long img erased (small r) (in-range r h)) (one-consistent img erased (small r) (in-range r h)) 240
-      (one-count img erased (small r) (in-range r h) refl)
+  one-byte : (r : ℕ) → getD (onLogged 46 (oneFile img (small r)) .lent .buffer) 0 0 ≡ 128
+  one-byte r =
+      space-byte (oneFile img (small r)) (one-long img erased (small r) (in-range r)) (one-consistent img erased (small r) (in-range r)) 240
+      (one-count img erased (small r) (in-range r) refl)
 
   one-size : (r : ℕ) → r ≤ 128 → getD (onLogged 35 (oneFile img (small r)) .lent .fcb) 33 0 ≡ r
   unfolding splice fileFcb
-  one-size r h = let two = one-sized img erased (small r) (in-range r h) notes blank start refl (fitting fileFcb length-fileFcb) (ask 0) in rw two (omega arith)
+  one-size r h = let two = one-sized img erased (small r) (in-range r) notes blank start refl (fitting fileFcb length-fileFcb) (ask 0) in rw two (omega arith)
 
 -- ---- a write that `step` accepts: the first one to a file made on an erased disk that is logged in
 abbrev asking : ℕ → Bytes → Bytes → Request
@@ -275,7 +275,7 @@ module _ (img : Bytes) (erased : ErasedDisk eightInch img) where
   space-falls b f =
       one-of-two b (ask 46) (lentAfter img) (lentAfter (oneFile img (small 1))) (ended start) (λ (o : Outcome). getD (o .lent .buffer) 0 0)
       (ap (λ (l : Bytes). getD l 0 0) (f 1 (lentAfter img) (lentAfter (oneFile img (small 1))) (ended start) record { same-fcb = refl; same-buffer = refl }))
-      (λ q. omega (arith, erased-byte img erased, one-byte img erased 1 (omega arith)))
+      (λ q. omega (arith, erased-byte img erased, one-byte img erased 1))
 
   pub sizes-fall : (b : Build) → MakesUpSizes b → Falls b
   sizes-fall b f =

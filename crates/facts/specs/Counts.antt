@@ -1,4 +1,4 @@
--- The end of a row or an FCB, and what it counts in an extent.
+-- The count of a row or an FCB, its end, and what it counts in an extent.
 use mathlib.Core.Path.{_≡_}
 use Prim.Native.Nat.{ℕ, _-_, _*_, _≤_, _<_, min, max}
 use native.Mathlib.Omega.{arith}
@@ -6,8 +6,18 @@ use lib.Dec.{eqb}
 use borrow.Author.Tests.{lt-ltb, le-ltb, eqb-true, eq-eqb, ne-eqb}
 use Rattle.lists.specs.Cases.{split, bool-cases, lt-or-le, eq-or-ne}
 use Rattle.format.specs.Diskette.{Bytes, extentRecords}
-use Rattle.format.specs.Entries.{countOf, extentOf, countIn, endOf}
+use Rattle.format.specs.Entries.{rcOf, countOf, extentOf, countIn, endOf}
 use Rattle.format.specs.Fcb.{fcbCountIn, fcbEnd}
+
+-- ---- the count is at most 128, whatever rc is; and it is rc where that is no more
+module _ (r : Bytes) where
+  pub count-most : countOf r ≤ extentRecords
+  unfolding countOf
+  count-most = omega arith
+
+  pub count-is : rcOf r ≤ extentRecords → countOf r ≡ rcOf r
+  unfolding countOf
+  count-is h = omega arith
 
 module _ (r : Bytes) (ext : ℕ) where
   pub count-before : ext < extentOf r → countIn r ext ≡ extentRecords
@@ -23,14 +33,15 @@ module _ (r : Bytes) (ext : ℕ) where
   count-past h = rw (le-ltb ext (extentOf r) (omega arith), ne-eqb ext (extentOf r) (λ q. omega arith))
 
   -- what lies before the end, as far as the extent goes
-  pub count-by-end : countOf r ≤ extentRecords → countIn r ext ≡ min extentRecords (endOf r - extentRecords * ext)
+  pub count-by-end : countIn r ext ≡ min extentRecords (endOf r - extentRecords * ext)
   unfolding endOf
-  count-by-end h =
+  count-by-end =
+      let h = count-most r in
       split (lt-or-le ext (extentOf r)) (λ l. rw (count-before l) (omega arith))
       (λ l. split (eq-or-ne ext (extentOf r)) (λ q. rw (count-there q) (omega arith)) (λ n. rw (count-past (omega arith)) (omega arith)))
 
-  pub count-high : countOf r ≤ extentRecords → countIn r ext ≤ extentRecords
-  count-high h = rw (count-by-end h) (omega arith)
+  pub count-high : countIn r ext ≤ extentRecords
+  count-high = rw count-by-end (omega arith)
 
 -- ---- an FCB
 module _ (fcb : Bytes) where
@@ -49,9 +60,9 @@ module _ (fcb : Bytes) (ext : ℕ) where
   fcb-count-there q =
       split (bool-cases (eqb (countOf fcb) 0)) (λ z. let n : countOf fcb ≡ 0 = eqb-true _ _ z in rw (z, n)) (λ z. rw (z, count-there fcb ext q))
 
-  pub fcb-count-by-end : countOf fcb ≤ extentRecords → fcbCountIn fcb ext ≡ min extentRecords (fcbEnd fcb - extentRecords * ext)
+  pub fcb-count-by-end : fcbCountIn fcb ext ≡ min extentRecords (fcbEnd fcb - extentRecords * ext)
   unfolding fcbCountIn fcbEnd
-  fcb-count-by-end h = split (bool-cases (eqb (countOf fcb) 0)) (λ z. rw z (omega arith)) (λ z. rw (z, count-by-end fcb ext h))
+  fcb-count-by-end = split (bool-cases (eqb (countOf fcb) 0)) (λ z. rw z (omega arith)) (λ z. rw (z, count-by-end fcb ext))
 
 -- ---- of two ends, the later counts the larger number
 larger-right : (x y : ℕ) → x ≤ y → y ≡ max x y

@@ -4,8 +4,9 @@ use Prim.Native.Nat.{ℕ, _≤_}
 use native.Mathlib.Omega.{arith}
 use lib.ListN.{length, getD, set, length-set}
 use lib.Seq.{getD-set-same, getD-set-other}
-use Rattle.format.specs.Diskette.{Bytes}
-use Rattle.format.specs.Entries.{exOf, s2Of, countOf, withNumbers}
+use Rattle.format.specs.Diskette.{Bytes, extentRecords}
+use Rattle.format.specs.Entries.{exOf, s2Of, rcOf, countOf, withNumbers}
+use Rattle.facts.specs.Counts.{count-is}
 
 module _ (r : Bytes) (ex s2 count : ℕ) where
   pub length-withNumbers : length (withNumbers r ex s2 count) ≡ length r
@@ -29,6 +30,9 @@ module _ (r : Bytes) (ex s2 count : ℕ) where
     s2-withNumbers =
         getD-set-other (set (set r 12 ex) 14 s2) 15 14 count 0 (λ q. omega arith) ∙ getD-set-same (set r 12 ex) 14 s2 0 (omega (arith, length-set r 12 ex))
 
-    pub count-withNumbers : countOf (withNumbers r ex s2 count) ≡ count
+    rc-withNumbers : rcOf (withNumbers r ex s2 count) ≡ count
     unfolding withNumbers
-    count-withNumbers = getD-set-same (set (set r 12 ex) 14 s2) 15 count 0 (omega (arith, length-set (set r 12 ex) 14 s2, length-set r 12 ex))
+    rc-withNumbers = getD-set-same (set (set r 12 ex) 14 s2) 15 count 0 (omega (arith, length-set (set r 12 ex) 14 s2, length-set r 12 ex))
+
+    pub count-withNumbers : count ≤ extentRecords → countOf (withNumbers r ex s2 count) ≡ count
+    count-withNumbers h = count-is (withNumbers r ex s2 count) (rw rc-withNumbers h) ∙ rc-withNumbers

@@ -14,13 +14,13 @@ use Rattle.faults.specs.Faults.{headBytes, faultOf}
 -- ---- the tables, one number a byte: the bits that count, the lowest and the highest that they may make, and one between that they
 -- may not. 255 is barred where none is: it is too high anyway, or nothing counts
 unfoldable pub counted : List ℕ
-counted = 255 ∷ 127 ∷ 127 ∷ 127 ∷ 127 ∷ 127 ∷ 127 ∷ 127 ∷ 127 ∷ 127 ∷ 127 ∷ 127 ∷ 255 ∷ 0 ∷ 255 ∷ 255 ∷ []
+counted = 255 ∷ 127 ∷ 127 ∷ 127 ∷ 127 ∷ 127 ∷ 127 ∷ 127 ∷ 127 ∷ 127 ∷ 127 ∷ 127 ∷ 255 ∷ 0 ∷ 255 ∷ 0 ∷ []
 
 unfoldable pub lowest : List ℕ
 lowest = 0 ∷ 33 ∷ 32 ∷ 32 ∷ 32 ∷ 32 ∷ 32 ∷ 32 ∷ 32 ∷ 32 ∷ 32 ∷ 32 ∷ 0 ∷ 0 ∷ 0 ∷ 0 ∷ []
 
 unfoldable pub highest : List ℕ
-highest = 15 ∷ 126 ∷ 126 ∷ 126 ∷ 126 ∷ 126 ∷ 126 ∷ 126 ∷ 126 ∷ 126 ∷ 126 ∷ 126 ∷ 31 ∷ 255 ∷ 63 ∷ 128 ∷ []
+highest = 15 ∷ 126 ∷ 126 ∷ 126 ∷ 126 ∷ 126 ∷ 126 ∷ 126 ∷ 126 ∷ 126 ∷ 126 ∷ 126 ∷ 31 ∷ 255 ∷ 63 ∷ 255 ∷ []
 
 unfoldable pub barred : List ℕ
 barred = 255 ∷ 63 ∷ 63 ∷ 63 ∷ 63 ∷ 63 ∷ 63 ∷ 63 ∷ 63 ∷ 63 ∷ 63 ∷ 63 ∷ 255 ∷ 255 ∷ 255 ∷ 255 ∷ []
@@ -29,11 +29,11 @@ barred = 255 ∷ 63 ∷ 63 ∷ 63 ∷ 63 ∷ 63 ∷ 63 ∷ 63 ∷ 63 ∷ 63 ∷ 
 unfoldable pub byteFault : ℕ → ℕ → ℕ
 byteFault i b = faultOf (bitAnd b (getD counted i 0)) (getD lowest i 0) (getD highest i 0) (getD barred i 0)
 
--- ---- what byte i may be: a user, a name without a space first, ex, s1, s2, rc
+-- ---- what byte i may be: a user, a name without a space first, ex, s2; s1 and rc may be anything
 unfoldable pub byteOk : ℕ → ℕ → Bool
 byteOk i b =
     cond (eqb i 0) (leb b 15) (cond (ltb i 12) (nameByte false b and not (eqb i 1 and eqb (sevenBits b) 32))
-    (cond (eqb i 12) (leb b 31) (cond (eqb i 14) (leb b 63) (cond (eqb i 15) (leb b 128) true))))
+    (cond (eqb i 12) (leb b 31) (cond (eqb i 14) (leb b 63) true)))
 
 told : ℕ → ℕ → Bool
 told i b = agree (eqb (byteFault i b) 0) (byteOk i b)

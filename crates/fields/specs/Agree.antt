@@ -7,7 +7,7 @@ use lib.ListN.{getD}
 use Rattle.format.specs.Diskette.{Bytes, Geometry}
 use Rattle.format.specs.Names.{nameBytes, sevenBits}
 use Rattle.format.specs.Entries.{userOf, slotOf, empty, used, readOnly, countOf, extentOf, runOf, covers, named, isFile}
-use Rattle.format.specs.Consistent.{numbersRight}
+use Rattle.format.specs.Consistent.{extentRight}
 use Rattle.format.specs.Fcb.{randomOf, fcbRight}
 use Rattle.consistency.specs.Facts.{SameFile}
 use Rattle.facts.specs.Slots.{slot-bytes}
@@ -31,11 +31,11 @@ module _ (r t : Bytes) where
   extent-cong h = rw (h 12 (omega arith) (omega arith), h 14 (omega arith) (omega arith))
 
   pub count-cong : Agree r t 15 16 → countOf r ≡ countOf t
-  count-cong h = h 15 (omega arith) (omega arith)
+  unfolding countOf
+  count-cong h = rw (h 15 (omega arith) (omega arith))
 
-  pub numbers-cong : Agree r t 12 16 → numbersRight r ≡ numbersRight t
-  unfolding numbersRight
-  numbers-cong h = rw (h 12 (omega arith) (omega arith), h 14 (omega arith) (omega arith), h 15 (omega arith) (omega arith))
+  pub numbers-cong : Agree r t 12 15 → extentRight r ≡ extentRight t
+  numbers-cong h = rw (h 12 (omega arith) (omega arith), h 14 (omega arith) (omega arith))
 
   pub name-cong : Agree r t 1 12 → SameName r 1 t 1
   name-cong h i l = ap sevenBits (h (1 + i) (omega arith) (omega arith))

@@ -18,14 +18,14 @@ use Rattle.format.specs.Diskette.{Bytes, Geometry, slotCount, slotBytes, extent
 use Rattle.format.specs.Names.{sevenBits, nameRight}
 use Rattle.format.specs.Entries.{exOf, s2Of, countOf, withNumbers, slotOf, slotIn, slotAt, slotsOf, readOnly, extentOf, runOf, endOf, countIn}
 use Rattle.facts.specs.Slots.{slotIn-slotsOf, past-slotsOf}
-use Rattle.facts.specs.Counts.{count-by-end, fcb-count-by-end, end-none, end-some, later-larger}
+use Rattle.facts.specs.Counts.{count-most, count-by-end, fcb-count-by-end, end-none, end-some, later-larger}
 use Rattle.facts.specs.Numbers.{length-withNumbers, byte-withNumbers, ex-withNumbers, s2-withNumbers, count-withNumbers}
 use Rattle.format.specs.Notes.{noteAt, withNote, recordedNote}
 use Rattle.format.specs.Fcb.{fcbCountIn, fcbEnd, fcbRight}
 use Rattle.model.specs.Closing.{takesSlot, mergedByte, mergedSlots, endsLater, laterEnd, closedRow, closedNote, closedMap, closeChanges, closedFcb}
 use Rattle.consistency.specs.Facts.{Numbers, SameFile}
 use Rattle.facts.specs.Names.{right-cong, like-intro}
-use Rattle.fields.specs.Agree.{Agree, SameName, name-cong, slot-cong, readOnly-cong, extent-cong, fcbRight-cong}
+use Rattle.fields.specs.Agree.{Agree, SameName, name-cong, slot-cong, readOnly-cong, extent-cong, count-cong, fcbRight-cong}
 
 -- ---- the slots taken
 -- slot j after it, as a number
@@ -146,7 +146,7 @@ module _ (row fcb : Bytes) where
         rw (later-is t) (record {
           ex = ex-withNumbers row (exOf fcb) (s2Of fcb) (countOf fcb) long;
           s2 = s2-withNumbers row (exOf fcb) (s2Of fcb) (countOf fcb) long;
-          count = count-withNumbers row (exOf fcb) (s2Of fcb) (countOf fcb) long;
+          count = count-withNumbers row (exOf fcb) (s2Of fcb) (countOf fcb) long (count-most fcb);
         }),
       ))
       (λ f. inr (ltb-false (endOf row) (fcbEnd fcb) f, rw (later-stays f) (record { ex = refl; s2 = refl; count = refl })))
@@ -169,7 +169,7 @@ module _ (G : Geometry) (row fcb : Bytes) (hr : length row ≡ 32) where
   head-closed i a h = below-slots i (omega arith) ∙ byte-later row fcb i (λ q. omega arith) (λ q. omega arith) (λ q. omega arith)
 
   closed-same : SameEnd (closedRow G row fcb) (laterEnd row fcb)
-  closed-same = record { ex = below-slots 12 (omega arith); s2 = below-slots 14 (omega arith); count = below-slots 15 (omega arith) }
+  closed-same = record { ex = below-slots 12 (omega arith); s2 = below-slots 14 (omega arith); count = count-cong _ _ (λ i a b. below-slots i b) }
 
   closed-then : (t : Bytes) → SameEnd (laterEnd row fcb) t → SameEnd (closedRow G row fcb) t
   closed-then t s = record { ex = closed-same .ex ∙ s .ex; s2 = closed-same .s2 ∙ s .s2; count = closed-same .count ∙ s .count }
@@ -189,13 +189,13 @@ module _ (G : Geometry) (row fcb : Bytes) (hr : length row ≡ 32) where
   pub numbers-closed : Numbers row → Numbers fcb → Numbers (closedRow G row fcb)
   numbers-closed n m =
       split end-closed-cases
-      (λ p. record { ex = rw (p .1 .ex) (m .ex); s2 = rw (p .1 .s2) (m .s2); rc = rw (p .1 .count) (m .rc) })
-      (λ p. record { ex = rw (p .1 .ex) (n .ex); s2 = rw (p .1 .s2) (n .s2); rc = rw (p .1 .count) (n .rc) })
+      (λ p. record { ex = rw (p .1 .ex) (m .ex); s2 = rw (p .1 .s2) (m .s2) })
+      (λ p. record { ex = rw (p .1 .ex) (n .ex); s2 = rw (p .1 .s2) (n .s2) })
 
   -- it counts the larger number of records, in each extent
-  pub count-closed : Numbers row → Numbers fcb → (ext : ℕ) → countIn (closedRow G row fcb) ext ≡ max (countIn row ext) (fcbCountIn fcb ext)
-  count-closed n m ext =
-      rw (count-by-end (closedRow G row fcb) ext (numbers-closed n m .rc), count-by-end row ext (n .rc), fcb-count-by-end fcb ext (m .rc), end-closed)
+  pub count-closed : (ext : ℕ) → countIn (closedRow G row fcb) ext ≡ max (countIn row ext) (fcbCountIn fcb ext)
+  count-closed ext =
+      rw (count-by-end (closedRow G row fcb) ext, count-by-end row ext, fcb-count-by-end fcb ext, end-closed)
       (later-larger extentRecords (extentRecords * ext) (endOf row) (fcbEnd fcb))
 
   pub slots-closed : slotsOf (closedRow G row fcb) ≡ mergedSlots G (slotsOf row) (slotsOf fcb)

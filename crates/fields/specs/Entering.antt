@@ -21,7 +21,7 @@ use Rattle.facts.specs.Counts.{count-there, count-high}
 use Rattle.consistency.specs.Facts.{Numbers}
 use Rattle.consistency.specs.Reflect.{numbers-intro}
 use Rattle.model.specs.Entering.{copied, interfaceByte, interfaceCleared, asExtent, entered}
-use Rattle.fields.specs.Agree.{Agree, SameName, slot-cong, extent-cong, name-cong, numbers-cong}
+use Rattle.fields.specs.Agree.{Agree, SameName, slot-cong, extent-cong, count-cong, name-cong, numbers-cong}
 
 -- ---- an FCB whose bytes 1 to 31 become the row's: byte 0 and those from 32 on stay
 module _ (fcb row : Bytes) (hf : 32 ≤ length fcb) (hr : 32 ≤ length row) where
@@ -105,7 +105,7 @@ module _ (row : Bytes) (ext : ℕ) where
     s2-other = s2-withNumbers row (ext % 32) (ext / 32) (countIn row ext) hr
 
     count-other : countOf (withNumbers row (ext % 32) (ext / 32) (countIn row ext)) ≡ countIn row ext
-    count-other = count-withNumbers row (ext % 32) (ext / 32) (countIn row ext) hr
+    count-other = count-withNumbers row (ext % 32) (ext / 32) (countIn row ext) hr (count-high row ext)
 
     -- it speaks of that extent
     extent-asExtent : extentOf (asExtent row ext) ≡ ext
@@ -117,11 +117,11 @@ module _ (row : Bytes) (ext : ℕ) where
     count-asExtent =
         split (eq-or-ne ext (extentOf row)) (λ q. rw (asExtent-own row ext q) (sym (count-there row ext q))) (λ n. rw (asExtent-other n) count-other)
 
-    -- and its numbers are in range, where the row's are
+    -- and its ex and s2 are in range, where the row's are
     numbers-asExtent : Numbers row → ext < extents → Numbers (asExtent row ext)
     numbers-asExtent m x =
         split (eq-or-ne ext (extentOf row)) (λ q. rw (asExtent-own row ext q) m)
-        (λ n. rw (asExtent-other n) record { ex = rw ex-other (omega arith); s2 = rw s2-other (omega arith); rc = rw count-other (count-high row ext (m .rc)) })
+        (λ n. rw (asExtent-other n) record { ex = rw ex-other (omega arith); s2 = rw s2-other (omega arith) })
 
 -- ---- an FCB that takes an entry, as of an extent
 module _ (fcb row : Bytes) (ext : ℕ) (hf : 32 ≤ length fcb) where
@@ -166,7 +166,7 @@ module _ (fcb row : Bytes) (ext : ℕ) (hf : 32 ≤ length fcb) where
     extent-entered = extent-cong (entered fcb row ext) (asExtent row ext) (λ i a b. row-entered i (omega arith) (omega arith)) ∙ extent-asExtent row ext hr
 
     pub count-entered : countOf (entered fcb row ext) ≡ countIn row ext
-    count-entered = row-entered 15 (omega arith) (omega arith) ∙ count-asExtent row ext hr
+    count-entered = count-cong (entered fcb row ext) (asExtent row ext) (λ i a b. row-entered i (omega arith) (omega arith)) ∙ count-asExtent row ext hr
 
     -- it is right where the row, the extent and cr are
     pub fcbRight-entered : nameRight false row 1 ≡ true → Numbers row → ext < extents → crOf fcb ≤ 128 → fcbRight (entered fcb row ext) ≡ true

@@ -10,7 +10,7 @@ use Rattle.format.specs.Entries.{exOf}
 use Rattle.consistency.specs.Facts.{Fine}
 use Rattle.facts.specs.Names.{right-cong}
 use Rattle.model.specs.Entering.{madeRow, nextRow, renamedRow}
-use Rattle.fields.specs.Making.{user-made, name-made, ex-made, s2-made, rc-made, slot-made, user-next, name-next, ex-next, s2-next, rc-next, slot-next, user-renamed, name-renamed, rest-renamed, slot-renamed}
+use Rattle.fields.specs.Making.{user-made, name-made, ex-made, s2-made, slot-made, user-next, name-next, ex-next, s2-next, slot-next, user-renamed, name-renamed, rest-renamed, slot-renamed}
 
 module _ (G : Geometry) (row fcb : Bytes) (hr : length row ≡ 32) (fine : Fine G row) where
   -- a new name
@@ -21,7 +21,6 @@ module _ (G : Geometry) (row fcb : Bytes) (hr : length row ≡ 32) (fine : Fine 
     numbers = record {
       ex = rw (rest-renamed fcb row hr 32 12 (omega arith) (omega arith)) (fine .numbers .ex);
       s2 = rw (rest-renamed fcb row hr 32 14 (omega arith) (omega arith)) (fine .numbers .s2);
-      rc = rw (rest-renamed fcb row hr 32 15 (omega arith) (omega arith)) (fine .numbers .rc);
     };
     low = λ j h n. rw (slot-renamed fcb row hr G j) (fine .low j h (λ z. n (slot-renamed fcb row hr G j ∙ z)));
     high = λ j h n. rw (slot-renamed fcb row hr G j) (fine .high j h (λ z. n (slot-renamed fcb row hr G j ∙ z)));
@@ -35,7 +34,6 @@ fine-next G row ext hr fine h = record {
   numbers = record {
     ex = rw (ex-next row ext hr) (omega arith);
     s2 = rw (s2-next row ext hr) (omega arith);
-    rc = rw (rc-next row ext hr) (omega arith);
   };
   low = λ j l n. absurd (n (slot-next row ext hr G j));
   high = λ j l n. absurd (n (slot-next row ext hr G j));
@@ -49,7 +47,6 @@ fine-made G user fcb hu n x = record {
   numbers = record {
     ex = rw (ex-made user fcb) x;
     s2 = rw (s2-made user fcb) (omega arith);
-    rc = rw (rc-made user fcb) (omega arith);
   };
   low = λ j l n. absurd (n (slot-made user fcb G j));
   high = λ j l n. absurd (n (slot-made user fcb G j));

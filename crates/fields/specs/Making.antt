@@ -12,7 +12,7 @@ use Rattle.lists.specs.Splice.{length-splice, getD-splice-in, getD-splice-out, 
 use Rattle.lists.specs.Tab.{tab, length-tab, getD-tab, getD-zeros}
 use Rattle.format.specs.Diskette.{Bytes, Geometry, slotBytes}
 use Rattle.format.specs.Names.{sevenBits, nameBytes}
-use Rattle.format.specs.Entries.{userOf, exOf, s2Of, rcOf, slotOf, readOnly, extentOf}
+use Rattle.format.specs.Entries.{userOf, exOf, s2Of, slotOf, readOnly, extentOf}
 use Rattle.facts.specs.Slots.{slot-zero}
 use Rattle.model.specs.Entering.{madeRow, nextRow, renamedByte, renamedRow}
 use Rattle.fields.specs.Agree.{Agree, SameName, name-cong, slot-cong, extent-cong}
@@ -58,9 +58,6 @@ module _ (user : ℕ) (fcb : Bytes) where
 
   pub s2-made : s2Of (madeRow user fcb) ≡ 0
   s2-made = zero-made 14 (omega arith)
-
-  pub rc-made : rcOf (madeRow user fcb) ≡ 0
-  rc-made = zero-made 15 (omega arith)
 
   pub slot-made : (G : Geometry) (j : ℕ) → slotOf G (madeRow user fcb) j ≡ 0
   slot-made G = slot-zero G (madeRow user fcb) (λ i h. zero-made (16 + i) (omega arith))
@@ -120,9 +117,6 @@ module _ (row : Bytes) (ext : ℕ) (hr : length row ≡ 32) where
   zero-next i h =
       let q : i ≡ 12 + suc (suc (suc (i - 15))) = omega arith in
       ap (λ (k : ℕ). getD (nextRow row ext) k 0) q ∙ past-head (suc (suc (suc (i - 15)))) ∙ getD-zeros 17 (i - 15)
-
-  pub rc-next : rcOf (nextRow row ext) ≡ 0
-  rc-next = zero-next 15 (omega arith)
 
   pub slot-next : (G : Geometry) (j : ℕ) → slotOf G (nextRow row ext) j ≡ 0
   slot-next G = slot-zero G (nextRow row ext) (λ i h. zero-next (16 + i) (omega arith))

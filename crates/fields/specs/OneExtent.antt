@@ -3,7 +3,7 @@
 -- `hits/Hits: extent-by-bytes` (the extent that byte 12 of a search asks for).
 use mathlib.Core.Path.{_≡_, refl, ap, sym, _∙_}
 use mathlib.Core.Bool.{true, cond, not}
-use Prim.Native.Nat.{ℕ, _%_, _<_}
+use Prim.Native.Nat.{ℕ, _+_, _%_, _≤_, _<_, max}
 use native.Mathlib.Omega.{arith}
 use lib.Dec.{eqb, ltb}
 use lib.ListN.{length, getD, set}
@@ -12,10 +12,11 @@ use Rattle.lists.specs.Cases.{split, bool-cases, not-both}
 use Rattle.lists.specs.Tests.{_and_, and-first}
 use Rattle.lists.specs.Splice.{splice, set-own}
 use Rattle.lists.specs.Tab.{tab}
-use Rattle.format.specs.Diskette.{Bytes, Geometry, eightInch, Long, slotCount, slotsOn}
-use Rattle.format.specs.Entries.{Rows, withEntry, exOf, s2Of, rcOf, countOf, withNumbers, slotsOf, slotIn, slotAt, used, extentOf, runOf, covers, endOf}
+use Rattle.format.specs.Diskette.{Bytes, Geometry, eightInch, Long, slotCount, slotsOn, extentRecords}
+use Rattle.format.specs.Entries.{Rows, withEntry, exOf, s2Of, rcOf, countOf, withNumbers, slotsOf, slotIn, slotAt, used, extentOf, runOf, covers, countIn, endOf}
 use Rattle.format.specs.Notes.{isPending, pendingEntry, pendingSlot, heldByUsed}
 use Rattle.format.specs.Fcb.{fcbEnd}
+use Rattle.facts.specs.Counts.{count-most, count-there}
 use Rattle.facts.specs.Naming.{covers-own}
 use Rattle.consistency.specs.Facts.{Numbers}
 use Rattle.disk.specs.Eight.{eight-sound}
@@ -23,10 +24,11 @@ use Rattle.rows.specs.Entries.{length-entryAt}
 use Rattle.model.specs.Lent.{Lent, lend, rowsOf}
 use Rattle.model.specs.Closing.{takesSlot, mergedByte, mergedSlots, endsLater, laterEnd, closedRow, closedMap, closedImage}
 use Rattle.model.specs.Entering.{copied, interfaceCleared, entered, nextRow}
-use Rattle.model.specs.Target.{targetExtent, stays, within, moved, made}
+use Rattle.model.specs.Target.{targetExtent, stays, within, moved, made, writtenCount, haveWritten}
 use Rattle.fields.specs.Entering.{asExtent-own}
 use Rattle.fields.specs.Making.{extent-next}
 use Rattle.fields.specs.Images.{row-closedImage-other, next-closed}
+use Rattle.fields.specs.Target.{rc-written}
 
 -- a note is pending for a used entry: each of the sixteen places is a slot
 pub held-own : (d : Rows) (n : ℕ) → heldByUsed eightInch d n ≡ (isPending n and ltb (pendingEntry n) (eightInch .entries) and used (d (pendingEntry n)))
@@ -89,7 +91,7 @@ module _ (row fcb : Bytes) (long : length row ≡ 32) (n : Numbers row) (m : Num
       (λ t. lt-ltb (endOf row) (endOf fcb) (omega (arith, ltb-true (countOf row) (countOf fcb) t)) ∙ sym t)
       (λ f. le-ltb (endOf row) (endOf fcb) (omega (arith, ltb-false (countOf row) (countOf fcb) f)) ∙ sym f)))
 
-  -- the entry's rc becomes the larger of the two
+  -- the entry's rc becomes the FCB's count where that is the larger of the two counts, and else stays the byte that it is
   larger-count : laterEnd row fcb ≡ set row 15 (cond (ltb (countOf row) (countOf fcb)) (countOf fcb) (rcOf row))
   unfolding laterEnd withNumbers extentOf
   larger-count =
@@ -103,3 +105,17 @@ module _ (row fcb : Bytes) (long : length row ≡ 32) (n : Numbers row) (m : Num
       ≡ splice (set row 15 (cond (ltb (countOf row) (countOf fcb)) (countOf fcb) (rcOf row))) 16 (tab slotCount (slotAfter (slotsOf row) (slotsOf fcb)))
   unfolding closedRow mergedSlots mergedByte takesSlot slotIn slotAt
   closed-own = rw larger-count
+
+-- ---- a write
+-- the FCB's rc becomes the largest of its own count, the entry's and target + 1: at most 128, whatever the two bytes were
+pub written-own : (l : Lent) (t j b r cr : ℕ) → length (l .fcb) ≡ 36 → j < slotsOn eightInch → r < extentRecords → extentOf (l .fcb) ≡ extentOf (rowsOf eightInch l t)
+    → (rcOf (haveWritten eightInch t j b r cr l .fcb) ≡ max (max (countOf (l .fcb)) (countOf (rowsOf eightInch l t))) (r + 1))
+    × (rcOf (haveWritten eightInch t j b r cr l .fcb) ≤ extentRecords)
+unfolding haveWritten writtenCount
+written-own l t j b r cr long hj hr same =
+    let row : Bytes = rowsOf eightInch l t in
+    let is = rc-written eightInch (l .fcb) (countIn row (extentOf (l .fcb))) j b r cr hj long in
+    let own = count-there row (extentOf (l .fcb)) same in
+    let a = count-most (l .fcb) in
+    let b = count-most row in
+    (omega arith, omega arith)

@@ -11,13 +11,12 @@ use Rattle.format.specs.Diskette.{Bytes, Geometry}
 use Rattle.format.specs.Entries.{countOf, slotsOf, slotOf, endOf}
 use Rattle.format.specs.Fcb.{fcbEnd}
 use Rattle.facts.specs.Counts.{count-by-end, end-none, end-some}
-use Rattle.consistency.specs.Facts.{Numbers}
 use Rattle.model.specs.Closing.{endsLater, closedRow, closeChanges}
 use Rattle.model.specs.Entering.{entered}
 use Rattle.fields.specs.Entering.{slot-entered, extent-entered, count-entered}
 use Rattle.fields.specs.Closing.{takes-none, keeps-intro, row-kept}
 
-module _ (G : Geometry) (fcb row : Bytes) (ext : ℕ) (hf : 32 ≤ length fcb) (hr : length row ≡ 32) (m : Numbers row) where
+module _ (G : Geometry) (fcb row : Bytes) (ext : ℕ) (hf : 32 ≤ length fcb) (hr : length row ≡ 32) where
   -- an FCB that has taken an entry ends no later than the entry
   pub entered-ends : fcbEnd (entered fcb row ext) ≤ endOf row
   unfolding endOf
@@ -25,7 +24,7 @@ module _ (G : Geometry) (fcb row : Bytes) (ext : ℕ) (hf : 32 ≤ length fcb) (
       let f : Bytes = entered fcb row ext in
       let x = extent-entered fcb row ext hf (omega arith) in
       let c = count-entered fcb row ext hf (omega arith) in
-      let b = count-by-end row ext (m .rc) in
+      let b = count-by-end row ext in
       split (eq-or-ne (countOf f) 0) (λ z. let e = end-none f z in omega arith) (λ n. let e = end-some f n in omega arith)
 
   pub opened-keeps : closeChanges G row (entered fcb row ext) ≡ false

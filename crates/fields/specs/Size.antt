@@ -9,8 +9,9 @@ use Rattle.lists.specs.Cases.{split, bool-cases, lt-or-le, not-both}
 use Rattle.lists.specs.Tests.{and-left, and-right}
 use Rattle.lists.specs.Fold.{foldBelow}
 use Rattle.format.specs.Diskette.{Bytes, Geometry}
-use Rattle.format.specs.Entries.{Rows, exOf, s2Of, rcOf, extentOf, endOf}
-use Rattle.format.specs.Consistent.{numbersRight}
+use Rattle.format.specs.Entries.{Rows, exOf, s2Of, extentOf, endOf}
+use Rattle.format.specs.Consistent.{extentRight}
+use Rattle.facts.specs.Counts.{count-most}
 use Rattle.model.specs.Calls.{largerSize, fileSize}
 
 module _ (d : Rows) (picks : Bytes → Bool) where
@@ -88,8 +89,7 @@ module _ (G : Geometry) (d : Rows) (picks : Bytes → Bool) where
   unfolding fileSize upTo
   size-high m f = up-high d picks (G .entries) m f
 
--- an entry whose numbers are in range has at most 262,144 records
-pub end-high : (row : Bytes) → numbersRight row ≡ true → endOf row ≤ 262144
-unfolding numbersRight extentOf endOf
-end-high row h =
-    omega (arith, leb-true (exOf row) 31 (and-left _ _ (and-left _ _ h)), leb-true (s2Of row) 63 (and-right _ _ (and-left _ _ h)), leb-true (rcOf row) 128 (and-right _ _ h))
+-- an entry whose extent is in range has at most 262,144 records, whatever its rc is
+pub end-high : (row : Bytes) → extentRight row ≡ true → endOf row ≤ 262144
+unfolding extentOf endOf
+end-high row h = omega (arith, leb-true (exOf row) 31 (and-left _ _ h), leb-true (s2Of row) 63 (and-right _ _ h), count-most row)

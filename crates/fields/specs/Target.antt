@@ -9,11 +9,12 @@ use lib.ListN.{length, getD, set, length-set}
 use lib.Seq.{getD-set-same, getD-set-other}
 use borrow.Author.Tests.{eqb-true, eq-eqb, ne-eqb}
 use Rattle.lists.specs.Cases.{split, bool-cases, eq-or-ne}
-use Rattle.format.specs.Diskette.{Bytes, Geometry, Sound, slotsOn}
-use Rattle.format.specs.Entries.{countOf, slotOf, withSlot, extentOf}
+use Rattle.format.specs.Diskette.{Bytes, Geometry, Sound, slotsOn, extentRecords}
+use Rattle.format.specs.Entries.{rcOf, countOf, slotOf, withSlot, extentOf}
 use Rattle.format.specs.Notes.{noteAt, pendingFor, withNote}
 use Rattle.format.specs.Fcb.{crOf, randomOf}
 use Rattle.disk.specs.Places.{blockRecords, block-record}
+use Rattle.facts.specs.Counts.{count-most, count-is}
 use Rattle.facts.specs.Slots.{slot-for-below, slot-bytes, length-withSlot, byte-withSlot, slot-withSlot, slot-withSlot-other}
 use Rattle.model.specs.Kinds.{isRandom}
 use Rattle.model.specs.Target.{targetExtent, targetRecord, crAfter, stays, targetSlot, placeIn, writtenCount, writtenFcb, writtenMap}
@@ -119,9 +120,9 @@ module _ (fcb : Bytes) (count r : ℕ) where
   unfolding writtenCount
   count-written-row = omega arith
 
-  pub count-written-high : (n : ℕ) → countOf fcb ≤ n → count ≤ n → r < n → writtenCount fcb count r ≤ n
+  pub count-written-high : count ≤ extentRecords → r < extentRecords → writtenCount fcb count r ≤ extentRecords
   unfolding writtenCount
-  count-written-high n a b c = omega arith
+  count-written-high b c = omega (arith, count-most fcb)
 
 module _ (G : Geometry) (fcb : Bytes) (count j b r cr : ℕ) where
   -- the FCB with its block and its count
@@ -168,11 +169,14 @@ module _ (G : Geometry) (fcb : Bytes) (count j b r cr : ℕ) where
       pub slot-written : slotOf G (writtenFcb G fcb count j b r cr) j ≡ b
       slot-written = slot-past j ∙ slot-withSlot G fcb j b hj (omega arith)
 
-      pub count-written : countOf (writtenFcb G fcb count j b r cr) ≡ writtenCount fcb count r
+      pub rc-written : rcOf (writtenFcb G fcb count j b r cr) ≡ writtenCount fcb count r
       unfolding writtenFcb counted
-      count-written =
+      rc-written =
           getD-set-other counted 32 15 cr 0 (λ z. omega arith)
           ∙ getD-set-same (withSlot G fcb j b) 15 (writtenCount fcb count r) 0 (omega (arith, length-withSlot G fcb j b))
+
+      pub count-written : count ≤ extentRecords → r < extentRecords → countOf (writtenFcb G fcb count j b r cr) ≡ writtenCount fcb count r
+      count-written n h = count-is (writtenFcb G fcb count j b r cr) (rw rc-written (count-written-high fcb count r n h)) ∙ rc-written
 
       pub cr-written : crOf (writtenFcb G fcb count j b r cr) ≡ cr
       unfolding writtenFcb counted

@@ -7,15 +7,11 @@ use Rattle.lists.specs.Below.{allBelow, anyBelow}
 use Rattle.lists.specs.Seen.{taken}
 use Rattle.format.specs.Diskette.{Bytes, Geometry, slotCount}
 use Rattle.format.specs.Names.{nameRight}
-use Rattle.format.specs.Entries.{Rows, entryAt, userOf, exOf, s2Of, rcOf, slotOf, empty, used, isFile, extentOf}
+use Rattle.format.specs.Entries.{Rows, entryAt, userOf, exOf, s2Of, slotOf, empty, used, isFile, extentOf}
 
--- ex 0 to 31 and s2 0 to 63, of a row or an FCB
+-- ex 0 to 31 and s2 0 to 63, of a row or an FCB; rc may be any byte
 abbrev pub extentRight : Bytes → Bool
 extentRight r = leb (exOf r) 31 and leb (s2Of r) 63
-
--- and rc 0 to 128
-unfoldable pub numbersRight : Bytes → Bool
-numbersRight r = extentRight r and leb (rcOf r) 128
 
 -- 0, or the number of a block past the directory
 unfoldable pub slotRight : Geometry → ℕ → Bool
@@ -24,9 +20,9 @@ slotRight G b = eqb b 0 or (leb (G .area) b and ltb b (G .blocks))
 unfoldable pub slotsRight : Geometry → Bytes → Bool
 slotsRight G r = allBelow (λ (j : ℕ). slotRight G (slotOf G r j)) slotCount
 
--- each entry is empty, or has a user, a name, numbers and slots in range
+-- each entry is empty, or has a user, a name, ex, s2 and slots in range
 unfoldable pub entryRight : Geometry → Bytes → Bool
-entryRight G r = empty r or (used r and nameRight false r 1 and numbersRight r and slotsRight G r)
+entryRight G r = empty r or (used r and nameRight false r 1 and extentRight r and slotsRight G r)
 
 -- the slots of all entries, counted through
 abbrev pub slotsInAll : Geometry → ℕ

@@ -1,6 +1,6 @@
 -- Document 01, "Directory entries": a row is the 32 bytes of an entry. Bytes 1 to 31 of an FCB are laid out the same way.
 use mathlib.Core.Bool.{Bool, false, cond}
-use Prim.Native.Nat.{ℕ, _+_, _*_, _/_, _%_}
+use Prim.Native.Nat.{ℕ, _+_, _*_, _/_, _%_, min}
 use lib.Dec.{eqb, leb, ltb}
 use lib.ListN.{getD, set}
 use Rattle.lists.specs.Tests.{_and_}
@@ -32,12 +32,13 @@ exOf r = getD r 12 0
 abbrev pub s2Of : Bytes → ℕ
 s2Of r = getD r 14 0
 
+-- the byte, whatever it is
 abbrev pub rcOf : Bytes → ℕ
 rcOf r = getD r 15 0
 
--- the count of records that a row or an FCB carries
-abbrev pub countOf : Bytes → ℕ
-countOf r = rcOf r
+-- the count of records that a row or an FCB carries: the smaller of rc and 128
+unfoldable pub countOf : Bytes → ℕ
+countOf r = min (rcOf r) extentRecords
 
 -- a row with other numbers
 unfoldable pub withNumbers : Bytes → ℕ → ℕ → ℕ → Bytes

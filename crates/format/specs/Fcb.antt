@@ -8,7 +8,7 @@ use Rattle.lists.specs.Below.{allBelow}
 use Rattle.format.specs.Diskette.{Bytes, Geometry, slotCount}
 use Rattle.format.specs.Names.{nameRight}
 use Rattle.format.specs.Entries.{Rows, slotsOf, slotIn, extentOf, countOf, countIn, endOf, findFile}
-use Rattle.format.specs.Consistent.{numbersRight}
+use Rattle.format.specs.Consistent.{extentRight}
 use Rattle.format.specs.Notes.{pendingFor, noteAt}
 use Rattle.format.specs.declared.Found.{Found}
 use Rattle.format.specs.declared.Found.the-variants.{At, Nothing}
@@ -36,9 +36,9 @@ fcbCountIn fcb ext = cond (eqb (countOf fcb) 0) 0 (countIn fcb ext)
 unfoldable pub fcbEnd : Bytes → ℕ
 fcbEnd fcb = cond (eqb (countOf fcb) 0) 0 (endOf fcb)
 
--- its name obeys the name rule; ex, s2, rc and cr are in range
+-- its name obeys the name rule; ex, s2 and cr are in range
 unfoldable pub fcbRight : Bytes → Bool
-fcbRight fcb = nameRight false fcb 1 and numbersRight fcb and crRight fcb
+fcbRight fcb = nameRight false fcb 1 and extentRight fcb and crRight fcb
 
 -- slot j of the FCB (fs) equals the entry's (es), or the entry's is 0 and the FCB's block is noted pending for e, j
 unfoldable pub slotFits : Geometry → Bytes → ℕ → Bytes → Bytes → ℕ → Bool

@@ -1,4 +1,4 @@
--- The head of a row: none of its sixteen bytes shows a fault exactly where the row has a user, a name and numbers in range.
+-- The head of a row: none of its sixteen bytes shows a fault exactly where the row has a user, a name, ex and s2 in range.
 use mathlib.Core.Path.{_≡_, refl, ap, sym, _∙_}
 use mathlib.Core.Bool.{Bool, true, false, not}
 use Prim.Native.Nat.{ℕ, suc, _+_, _-_, _/_, _≤_, _<_}
@@ -15,14 +15,14 @@ use Rattle.lanes.specs.Lanes.{wordAt, bytes-zero, zero-bytes, word-rest, rest-z
 use Rattle.format.specs.Diskette.{Bytes}
 use Rattle.format.specs.Names.{nameBytes, sevenBits, nameByte, nameRight}
 use Rattle.format.specs.Entries.{used}
-use Rattle.format.specs.Consistent.{numbersRight}
+use Rattle.format.specs.Consistent.{extentRight}
 use Rattle.facts.specs.Names.{Named, right-elim, right-intro}
 use Rattle.faults.specs.Faults.{headBytes}
 use Rattle.faults.specs.Bytes.{byteFault, byteOk, fault-tells}
 
--- the name and the numbers of a row or an FCB
+-- the name, ex and s2 of a row or an FCB
 unfoldable pub fieldsRight : Bytes → Bool
-fieldsRight r = nameRight false r 1 and numbersRight r
+fieldsRight r = nameRight false r 1 and extentRight r
 
 -- a used entry, but for its slots
 unfoldable pub rowRight : Bytes → Bool
@@ -72,10 +72,10 @@ module _ (r : Bytes) (bytes : (i : ℕ) → i < headBytes → getD r i 0 < 256) 
         eqb-false _ _ (sym (and-then _ _ refl) ∙ not-true _ (and-right _ _ (name-ok 1 (getD r 1 0) (omega arith) (omega arith) (fine 0 (omega arith)))))
 
     pub clear-fields : fieldsRight r ≡ true
-    unfolding fieldsRight numbersRight byteOk
+    unfolding fieldsRight byteOk
     clear-fields =
         and-both _ _ (right-intro false r 1 (record { bytes = name-bytes; first = name-first }))
-        (and-both _ _ (and-both _ _ (fine 11 (omega arith)) (fine 13 (omega arith))) (fine 14 (omega arith)))
+        (and-both _ _ (fine 11 (omega arith)) (fine 13 (omega arith)))
 
   -- ---- the fields are right: no fault from byte 1 on
   module _ (right : fieldsRight r ≡ true) where
@@ -83,17 +83,17 @@ module _ (r : Bytes) (bytes : (i : ℕ) → i < headBytes → getD r i 0 < 256) 
     unfolding fieldsRight
     name = right-elim false r 1 (and-left _ _ right)
 
-    numbers : numbersRight r ≡ true
+    numbers : extentRight r ≡ true
     unfolding fieldsRight
     numbers = and-right _ _ right
 
     later : (i : ℕ) → 12 ≤ i → i < headBytes → byteOk i (getD r i 0) ≡ true
-    unfolding byteOk numbersRight
+    unfolding byteOk
     later i h l =
-        split (eq-or-ne i 12) (λ q. rw q (and-left _ _ (and-left _ _ numbers)))
+        split (eq-or-ne i 12) (λ q. rw q (and-left _ _ numbers))
         (λ a. split (eq-or-ne i 13) (λ q. rw q refl)
-        (λ b. split (eq-or-ne i 14) (λ q. rw q (and-right _ _ (and-left _ _ numbers)))
-        (λ c. let q : i ≡ 15 = omega arith in rw q (and-right _ _ numbers))))
+        (λ b. split (eq-or-ne i 14) (λ q. rw q (and-right _ _ numbers))
+        (λ c. let q : i ≡ 15 = omega arith in rw q refl)))
 
     pub fields-clear : (i : ℕ) → i < 15 → headFault r (1 + i) ≡ 0
     fields-clear i h =

@@ -27,7 +27,7 @@ const COUNTED: [u8; HEAD_BYTES] = [
     255,
     0,
     255,
-    255,
+    0,
 ];
 
 const LOWEST: [u8; HEAD_BYTES] = [0, 33, 32, 32, 32, 32, 32, 32, 32, 32, 32, 32, 0, 0, 0, 0];
@@ -48,7 +48,7 @@ const HIGHEST: [u8; HEAD_BYTES] = [
     31,
     255,
     63,
-    128,
+    255,
 ];
 
 const BARRED: [u8; HEAD_BYTES] = [
@@ -84,7 +84,7 @@ fn head_faults(r: &[u8]) -> [u8; HEAD_BYTES]
     faults
 }
 
-// Whether a row has a user, a name and numbers in range.
+// Whether a row has a user, a name, ex and s2 in range.
 pub fn row_right(r: &[u8]) -> bool
     requires { ⌜ entryBytes ≤ length (now r) ⌝ }
     ensures { λ b. ⌜ b ≡ rowRight (now (r .entry)) ⌝ }
@@ -93,7 +93,7 @@ pub fn row_right(r: &[u8]) -> bool
     lanes::word(&faults, 0) | lanes::word(&faults, 8) == 0
 }
 
-// Whether a row or an FCB has a name and numbers in range, whatever its byte 0 is.
+// Whether a row or an FCB has a name, ex and s2 in range, whatever its byte 0 is.
 pub fn fields_right(r: &[u8]) -> bool
     requires { ⌜ entryBytes ≤ length (now r) ⌝ }
     ensures { λ b. ⌜ b ≡ fieldsRight (now (r .entry)) ⌝ }

@@ -84,7 +84,7 @@ module _ {G : Geometry} (S : Sound G) (n : ℕ) (l : Lent) (s : Session) (g : Go
         split (bool-cases (within G n (l .fcb)))
         (λ w. let q = same-entry G n (s .user) l e at t target w in
         let long = length-entryAt S (l .drive .image) (g .image-long) e present-below in
-        let c = count-closed G (rowsOf G l e) (l .fcb) long (g .inv .dir .fine e present-below present-used .numbers) (fcb-says (l .fcb) (present-current .right) .numbers) ext in
+        let c = count-closed G (rowsOf G l e) (l .fcb) long ext in
         rw (w, target, q, here S (l .drive .image) (l .drive .map) g (s .user) (f .user-low) (l .fcb) e present-current, c) (omega arith))
         (λ w. rw (w, target, row-closedImage-other S (l .drive .image) (g .image-long) e present-below (l .fcb) t target-below (other-entry G n (s .user) l e at t target w)))
 

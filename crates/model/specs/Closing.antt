@@ -29,7 +29,8 @@ mergedSlots G es fs = tab slotBytes (mergedByte G es fs)
 unfoldable pub endsLater : Bytes → Bytes → Bool
 endsLater row fcb = ltb (endOf row) (fcbEnd fcb)
 
--- the entry's rc becomes the larger of the two: its end becomes the FCB's where that is later, and else stays as it is
+-- the entry's end becomes the FCB's where that is later: its rc becomes the FCB's count where that is the larger of the two counts, and else
+-- stays the byte that it is
 unfoldable pub laterEnd : Bytes → Bytes → Bytes
 laterEnd row fcb = cond (endsLater row fcb) (withNumbers row (exOf fcb) (s2Of fcb) (countOf fcb)) row
 

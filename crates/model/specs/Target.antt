@@ -117,7 +117,7 @@ placeIn G b r = diskRecord G b (r % G .perBlock)
 unfoldable pub haveRead : Geometry → ℕ → ℕ → ℕ → Lent → Lent
 haveRead G b r cr l = lend (l .drive .image) (l .drive .map) (set (l .fcb) 32 cr) (recordAt G (l .drive .image) (placeIn G b r))
 
--- the FCB's rc becomes the largest of its own, the entry's and target + 1; the entry's is handed in
+-- the FCB's rc becomes the largest of its own count, the entry's and target + 1; the entry's is handed in
 unfoldable pub writtenCount : Bytes → ℕ → ℕ → ℕ
 writtenCount fcb count r = max (max (countOf fcb) count) (r + 1)
 

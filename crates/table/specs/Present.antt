@@ -11,7 +11,7 @@ use Rattle.lists.specs.Tests.{and-left, and-right, or-then}
 use Rattle.lists.specs.Below.{all-at}
 use Rattle.format.specs.Diskette.{Bytes, Geometry, extents}
 use Rattle.format.specs.Entries.{entryAt, userOf, exOf, s2Of, slotOf, empty, extentOf, runOf, covers, findFile}
-use Rattle.format.specs.Consistent.{numbersRight, entryRight, consistentRows, consistent}
+use Rattle.format.specs.Consistent.{extentRight, entryRight, consistentRows, consistent}
 use Rattle.facts.specs.Found.{FoundAt, at-once, at-not-nothing}
 use Rattle.facts.specs.Find.{file-says, find-run}
 use Rattle.facts.specs.Naming.{run-s2, file-user, file-run}
@@ -21,18 +21,18 @@ use Rattle.format.specs.declared.Found.the-variants.{At, Nothing}
 use Rattle.model.specs.Lent.{Lent, rowsOf}
 use Rattle.model.specs.Target.{targetExtent, targetRecord, targetSlot, presentEntry, stays, within, targetEntry, blockThere, countAt, countThere, recordThere}
 
--- a row that is right and whose byte 0 is a user has its numbers in range
-pub user-numbers : (G : Geometry) (r : Bytes) → entryRight G r ≡ true → userOf r ≤ 15 → numbersRight r ≡ true
+-- a row that is right and whose byte 0 is a user has ex and s2 in range
+pub user-numbers : (G : Geometry) (r : Bytes) → entryRight G r ≡ true → userOf r ≤ 15 → extentRight r ≡ true
 unfolding entryRight empty
 user-numbers G r h low =
     let full : eqb (userOf r) 229 ≡ false = ne-eqb (userOf r) 229 (λ q. omega arith) in
     and-left _ _ (and-right _ _ (and-right _ _ (sym (or-then _ _ full) ∙ h)))
 
-pub numbers-extent : (r : Bytes) → numbersRight r ≡ true → extentOf r < extents
-unfolding numbersRight extentOf
+pub numbers-extent : (r : Bytes) → extentRight r ≡ true → extentOf r < extents
+unfolding extentOf
 numbers-extent r h =
-    let x : exOf r ≤ 31 = leb-true _ _ (and-left _ _ (and-left _ _ h)) in
-    let y : s2Of r ≤ 63 = leb-true _ _ (and-right _ _ (and-left _ _ h)) in omega arith
+    let x : exOf r ≤ 31 = leb-true _ _ (and-left _ _ h) in
+    let y : s2Of r ≤ 63 = leb-true _ _ (and-right _ _ h) in omega arith
 
 pub file-extent-below : (G : Geometry) (img : Bytes) (user : ℕ) (s : Bytes) (q ext e : ℕ) → consistent G img ≡ true → user ≤ 15
     → findFile G (entryAt G img) user s q ext ≡ At e → ext < extents

@@ -1,7 +1,8 @@
 //! Chooses what happens next, steered so that every cause of the table comes
 //! up and most calls still have something to work on.
 
-use crate::disks::{nearly, plain_name, some_disk, Cast, Name};
+use crate::disks::{nearly, plain_name, some_disk, some_rc, Cast, Name};
+use crate::laws::count;
 use crate::random::Random;
 use crate::sequence::{Ask, Step};
 use crate::world::{World, FCBS, MOST_OVER};
@@ -369,7 +370,11 @@ impl Chooser {
         fcb[1..32].copy_from_slice(&row[1..]);
         self.add_attributes(&mut fcb[1..12]);
         if self.random.chance(25) {
-            fcb[15] = self.random.from_to(0, 128) as u8;
+            fcb[15] = some_rc(&mut self.random);
+        }
+        // A larger count than the entry's, which a close writes down.
+        if row[15] < 128 && self.random.chance(15) {
+            fcb[15] = self.random.from_to(129, 255) as u8;
         }
         // Blocks pending for the entry, as the FCB that took them has them.
         if self.random.chance(50) {
@@ -404,8 +409,8 @@ impl Chooser {
             0..=5 => fcb[32],
             6..=9 => 128,
             10 => 127,
-            11 => fcb[15].wrapping_sub(1),
-            12 => fcb[15],
+            11 => count(fcb[15]).wrapping_sub(1),
+            12 => count(fcb[15]),
             13 => 0,
             14 => self.random.one_of(&[7, 8, 63, 64, 120]),
             _ => self.random.from_to(0, 128) as u8,
@@ -439,11 +444,12 @@ impl Chooser {
         128 * extent + record
     }
 
-    /// A record of an entry that is below rc and has a block, if there is one.
+    /// A record of an entry that it counts and that has a block, if there is
+    /// one.
     fn record_there(&mut self, world: &World, entry: usize) -> u32 {
         let row = world.entry(entry);
         let is_there = |&record: &u8| row[16 + usize::from(record / 8)] != 0;
-        let there: Vec<u8> = (0..row[15]).filter(is_there).collect();
+        let there: Vec<u8> = (0..count(row[15])).filter(is_there).collect();
         match there.is_empty() {
             true => 0,
             false => self.random.one_of(&there).into(),
@@ -618,7 +624,7 @@ impl Chooser {
         let at = self.random.from_to(1, 11);
         let high = u8::from(self.random.chance(30)) << 7;
         let slot = self.random.from_to(16, 31);
-        match self.random.below(13) {
+        match self.random.below(12) {
             0 => vec![(0, self.random.one_of(&[16, 17, 31, 127, 0xE4, 0xE6, 255]))],
             1 => vec![(1, 0x20 | high)],
             2 => vec![(at, self.random.one_of(&[0x1F, 0, 0x0D]) | high)],
@@ -626,11 +632,10 @@ impl Chooser {
             4 => vec![(at, 0x3F | high)],
             5 => vec![(12, self.random.one_of(&[32, 33, 64, 255]))],
             6 => vec![(14, self.random.one_of(&[64, 65, 128, 255]))],
-            7 => vec![(15, self.random.one_of(&[129, 130, 255]))],
-            8 => vec![(slot, self.random.one_of(&[243, 244, 255]))],
-            9 => self.block_again(world, entry, &[entry], slot),
-            10 => self.block_again(world, entry, used, slot),
-            11 => {
+            7 => vec![(slot, self.random.one_of(&[243, 244, 255]))],
+            8 => self.block_again(world, entry, &[entry], slot),
+            9 => self.block_again(world, entry, used, slot),
+            10 => {
                 // All that tells another entry apart.
                 let other = self.random.one_of(used);
                 if other == entry {
@@ -800,7 +805,6 @@ impl Chooser {
         if self.random.chance(50) {
             fcb[12] %= 34;
             fcb[14] %= 66;
-            fcb[15] %= 130;
             fcb[32] %= 130;
         }
         let number = self.listed();

@@ -13,7 +13,7 @@ pub mod enough {
     /// Every call, accepted.
     pub const ACCEPTED: usize = 1_000;
     /// Moves by each call, entries made by a move, deletes that free pending
-    /// blocks.
+    /// blocks, and each call that reads a count with one over 128.
     pub const EVENT: usize = 300;
     /// Every fault of a disk.
     pub const FAULT: usize = 100;
@@ -66,6 +66,36 @@ events! {
     LogInThatChanges;
     /// A call other than 17 and 18 that ended a search.
     EndOfSearch;
+    /// A 15 that copied an rc over 128.
+    Over128By15;
+    /// A 35 whose size an entry with rc over 128 decides.
+    Over128By35;
+    /// A 16 with rc over 128 in the entry, which it left.
+    EntryOver128By16;
+    /// A 20 of an entry with rc over 128.
+    EntryOver128By20;
+    /// A 21 to an entry with rc over 128.
+    EntryOver128By21;
+    /// A 33 of an entry with rc over 128.
+    EntryOver128By33;
+    /// A 34 to an entry with rc over 128.
+    EntryOver128By34;
+    /// A 16 with rc over 128 in the FCB.
+    FcbOver128By16;
+    /// A 20 with rc over 128 in the FCB.
+    FcbOver128By20;
+    /// A 21 with rc over 128 in the FCB.
+    FcbOver128By21;
+    /// A 33 with rc over 128 in the FCB.
+    FcbOver128By33;
+    /// A 34 with rc over 128 in the FCB.
+    FcbOver128By34;
+    /// A close of an FCB with rc over 128 that wrote 128 into the entry.
+    CloseThatWrites128;
+    /// A move that did the same.
+    MoveThatWrites128;
+    /// A move to an entry with rc over 128.
+    MoveToOver128;
 }
 
 /// What came up so far.
@@ -93,6 +123,27 @@ impl Default for Counts {
 
 fn pending(world: &World) -> usize {
     world.map.cells().iter().filter(|&&note| note >= 16).count()
+}
+
+/// The entry that an FCB speaks of, if the session's user has it.
+fn entry_of(world: &World, fcb: &[u8]) -> Option<usize> {
+    let alike = |row: &[u8]| {
+        let name = |bytes: &[u8]| -> Vec<u8> { bytes[1..12].iter().map(|b| b & 0x7F).collect() };
+        row[0] == world.session.user
+            && name(row) == name(fcb)
+            && (row[12], row[14]) == (fcb[12], fcb[14])
+    };
+    world.used().find(|&entry| alike(world.entry(entry)))
+}
+
+/// The entry at whose end, 128 records on, the size in an FCB is.
+fn last_of(world: &World, fcb: &[u8]) -> Option<usize> {
+    let size = u32::from_le_bytes([fcb[33], fcb[34], fcb[35], 0]);
+    let extent = (size / 128).checked_sub(1).filter(|_| size % 128 == 0)?;
+    let mut at = [0; 36];
+    at.copy_from_slice(fcb);
+    (at[12], at[14]) = ((extent % 32) as u8, (extent / 32) as u8);
+    entry_of(world, &at)
 }
 
 fn recorded(world: &World) -> usize {
@@ -171,6 +222,51 @@ impl Counts {
         }
         let ended = before.session.on != 0 && answer.session.on == 0;
         add(Event::EndOfSearch, ended);
+        self.add_counts(before, after, ask);
+    }
+
+    /// The same for counts over 128, in an entry or in the FCB.
+    fn add_counts(&mut self, before: &World, after: &World, ask: &Ask) {
+        let (was, is) = (before.fcb(ask.fcb), after.fcb(ask.fcb));
+        let over = |entry: Option<usize>| entry.is_some_and(|e| before.entry(e)[15] > 128);
+        let present = entry_of(before, &was);
+        let moved = (was[12], was[14]) != (is[12], is[14]);
+        // Where a record call came to, and where it came from.
+        let there = over(entry_of(before, &is));
+        let here = was[15] > 128;
+        let wrote = |entry: usize| before.entry(entry)[15] < 128 && after.entry(entry)[15] == 128;
+        let wrote = here && present.is_some_and(wrote);
+        let mut add = |event: Event, is: bool| self.events[event as usize] += usize::from(is);
+        match ask.asked.number {
+            15 => add(Event::Over128By15, is[15] > 128),
+            16 => {
+                add(Event::EntryOver128By16, over(present));
+                add(Event::FcbOver128By16, here);
+                add(Event::CloseThatWrites128, wrote);
+            }
+            20 => {
+                add(Event::EntryOver128By20, there);
+                add(Event::FcbOver128By20, here);
+            }
+            21 => {
+                add(Event::EntryOver128By21, there);
+                add(Event::FcbOver128By21, here);
+            }
+            33 => {
+                add(Event::EntryOver128By33, there);
+                add(Event::FcbOver128By33, here);
+            }
+            34 => {
+                add(Event::EntryOver128By34, there);
+                add(Event::FcbOver128By34, here);
+            }
+            35 => add(Event::Over128By35, over(last_of(before, &is))),
+            _ => {}
+        }
+        if matches!(ask.asked.number, 20 | 21 | 33 | 34) {
+            add(Event::MoveThatWrites128, moved && wrote);
+            add(Event::MoveToOver128, moved && there);
+        }
     }
 
     /// Every line of the table: what, how often, how often at least.

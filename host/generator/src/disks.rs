@@ -193,12 +193,19 @@ fn used_row(random: &mut Random, cast: &Cast, read_only: usize, taken: &[(u8, Na
     row[12] = (extent % 32) as u8;
     row[13] = if random.chance(20) { random.byte() } else { 0 };
     row[14] = (extent / 32) as u8;
-    row[15] = match random.below(10) {
-        0..=4 => 128,
-        5 => 0,
-        _ => random.from_to(0, 128) as u8,
-    };
+    row[15] = some_rc(random);
     row
+}
+
+/// Any rc, full counts and those over 128 more than their share.
+pub fn some_rc(random: &mut Random) -> u8 {
+    match random.below(10) {
+        0..=3 => 128,
+        4 => 0,
+        5 | 6 => random.from_to(129, 255) as u8,
+        7 => random.one_of(&[127, 129, 130, 255]),
+        _ => random.from_to(0, 128) as u8,
+    }
 }
 
 /// Puts blocks into the slots of used entries and gives those left free.

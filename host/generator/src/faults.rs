@@ -34,8 +34,6 @@ faults! {
     Ex;
     /// An s2 over 63.
     S2;
-    /// An rc over 128.
-    Rc;
     /// A slot of 1.
     SlotOf1;
     /// A slot over 242.
@@ -106,7 +104,6 @@ pub fn in_image(world: &World) -> Option<Fault> {
         (name_byte(&|byte| byte == 0x3F), Fault::NameByte3F),
         (any(&|row| row[12] > 31), Fault::Ex),
         (any(&|row| row[14] > 63), Fault::S2),
-        (any(&|row| row[15] > 128), Fault::Rc),
         (any(&|row| row[16..].contains(&1)), Fault::SlotOf1),
         (
             any(&|row| row[16..].iter().any(|&b| b > 242)),

@@ -8,6 +8,11 @@ use crate::world::{World, FCBS, RIGHT_LENGTHS};
 use reference::diskette::{self, DIRECTORY_PLACES, RECORD_BYTES};
 use reference::{Answer, Cause, Session, LISTED};
 
+/// The records that an rc counts: "the smaller of rc and 128".
+pub fn count(rc: u8) -> u8 {
+    rc.min(128)
+}
+
 /// Calls that don't use the FCB.
 const WITHOUT_FCB: [u8; 5] = [13, 18, 32, 46, 98];
 
@@ -115,6 +120,7 @@ impl Laws {
         self.check_session(number, answer)?;
         self.check_fcbs(after, ask)?;
         self.check_image(after, ask)?;
+        self.check_counts(after, ask)?;
         let takes_buffer = matches!(number, 17 | 18 | 20 | 33 | 46);
         if !takes_buffer && after.buffer != self.before.buffer {
             return Err("a call changed the buffer");
@@ -187,6 +193,26 @@ impl Laws {
             };
             if !fine {
                 return Err("a record changed that was not written");
+            }
+        }
+        Ok(())
+    }
+
+    /// rc over 128 is read as 128 and left as it is: a write leaves a count in
+    /// the FCB, and only a close or a move writes one into an entry, where it
+    /// is larger than the one that stood there.
+    fn check_counts(&self, after: &World, ask: &Ask) -> Result<(), &'static str> {
+        let number = ask.asked.number;
+        let rc = after.fcb(ask.fcb)[15];
+        if matches!(number, 21 | 34) && !(1..=128).contains(&rc) {
+            return Err("a write left no count");
+        }
+        let closes = matches!(number, 16 | 20 | 21 | 33 | 34);
+        for entry in self.before.used() {
+            let (was, is) = (self.before.entry(entry)[15], after.entry(entry)[15]);
+            let fine = was == is || (closes && is > count(was) && is == count(is));
+            if !fine {
+                return Err("an entry's rc is neither as it was nor a larger count");
             }
         }
         Ok(())

@@ -2,6 +2,7 @@
 //! found out, and its failing call has to fail again when replayed from text.
 
 use generator::{replay, run, Counts, Implementation, Sequence};
+use reference::diskette::DIRECTORY_PLACES;
 use reference::{call, refusal, Answer, Asked, Cause, Session};
 
 /// Calls in which a wrong implementation has to be found out.
@@ -52,6 +53,22 @@ impl Lent<'_> {
     fn number(&self) -> u8 {
         self.asked.number
     }
+}
+
+/// The entries of an image.
+fn rows(image: &[u8]) -> impl Iterator<Item = &[u8]> {
+    DIRECTORY_PLACES
+        .iter()
+        .flat_map(|&place| image[place..][..128].chunks(32))
+}
+
+/// The entries of an image, to be changed, in the order of their sectors.
+fn rows_mut(image: &mut [u8]) -> impl Iterator<Item = &mut [u8]> {
+    let mut places = DIRECTORY_PLACES.to_vec();
+    places.sort_unstable();
+    let sectors = image.chunks_mut(128).enumerate();
+    let directory = sectors.filter(move |(i, _)| places.binary_search(&(128 * i)).is_ok());
+    directory.flat_map(|(_, sector)| sector.chunks_mut(32))
 }
 
 /// Runs a wrong implementation until it is found out.
@@ -367,6 +384,76 @@ mutants! {
             return lent.refuse(1, 0);
         }
         lent.call()
+    };
+
+    /// rc over 128 counts as it is.
+    sizes_by_rc_as_it_is: |lent| {
+        let answer = lent.call();
+        if lent.number() == 35 && (answer.a, answer.h) == (0, 0) {
+            let size = u32::from_le_bytes([lent.fcb[33], lent.fcb[34], lent.fcb[35], 0]);
+            let ends = |row: &[u8]| {
+                let named = (1..12).all(|i| (row[i] ^ lent.fcb[i]) & 0x7F == 0);
+                let extent = 32 * u32::from(row[14]) + u32::from(row[12]);
+                let over = row[0] == lent.session.user && named && row[15] > 128;
+                (over && 128 * extent + 128 == size).then(|| 128 * extent + u32::from(row[15]))
+            };
+            if let Some(size) = rows(lent.image).find_map(ends) {
+                lent.fcb[33..].copy_from_slice(&size.to_le_bytes()[..3]);
+            }
+        }
+        answer
+    };
+
+    /// Open stores the count in place of the byte.
+    opens_with_the_count: |lent| {
+        let answer = lent.call();
+        if lent.number() == 15 && answer.h == 0 {
+            lent.fcb[15] = lent.fcb[15].min(128);
+        }
+        answer
+    };
+
+    /// "Else leaves rc": an entry's rc over 128 is not written as its count.
+    closes_tidy_up_rc: |lent| {
+        let answer = lent.call();
+        if lent.number() == 16 && answer.h == 0 && lent.fcb[15] >= 128 {
+            for row in rows_mut(lent.image) {
+                let own = row[0] == lent.session.user
+                    && (1..12).all(|i| (row[i] ^ lent.fcb[i]) & 0x7F == 0)
+                    && (row[12], row[14]) == (lent.fcb[12], lent.fcb[14]);
+                if own {
+                    row[15] = row[15].min(128);
+                }
+            }
+        }
+        answer
+    };
+
+    /// "The FCB's count so read", not its byte.
+    closes_write_the_byte: |lent| {
+        let before: Vec<u8> = rows_mut(lent.image).map(|row| row[15]).collect();
+        let answer = lent.call();
+        if lent.number() == 16 && answer.h == 0 && lent.fcb[15] > 128 {
+            for (row, was) in rows_mut(lent.image).zip(before) {
+                if row[15] != was {
+                    row[15] = lent.fcb[15];
+                }
+            }
+        }
+        answer
+    };
+
+    /// A write leaves 128 at most.
+    writes_keep_the_byte: |lent| {
+        let rc = lent.fcb.get(15).copied();
+        let extent = |fcb: &[u8]| fcb.get(12).zip(fcb.get(14)).map(|(ex, s2)| (*ex, *s2));
+        let was = extent(lent.fcb);
+        let answer = lent.call();
+        let wrote = matches!(lent.number(), 21 | 34) && (answer.a, answer.h) == (0, 0);
+        if wrote && extent(lent.fcb) == was {
+            lent.fcb[15] = lent.fcb[15].max(rc.unwrap_or(0));
+        }
+        answer
     };
 
     new_name_before_read_only: |lent| {

@@ -113,6 +113,13 @@ refusal: these calls alone answer it, for an entry whose number mod 4 is 3, or
 for user 3.
 ";
 
+    /// What the help card says of record counts, in lines of at most 80
+    /// characters.
+    pub const RECORD_COUNTS: &'static str = "\
+rc, in an entry or in an FCB, may be any byte: as a count of records, more than
+128 is read as 128. No call refuses a disk or an FCB for it.
+";
+
     /// Reads an answer: A where the call was accepted, or why it was refused.
     /// `before` is the session that the call was given.
     pub fn read(asked: Asked, before: &Session, answer: &Answer) -> Result<u8, Code> {

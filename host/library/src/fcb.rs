@@ -73,7 +73,8 @@ impl Fcb {
         self.0[at::S1]
     }
 
-    /// The record count of the extent.
+    /// The byte rc. As the record count of the extent, more than 128 is read as
+    /// 128; open and moves copy the byte as it stands in the entry.
     pub fn rc(&self) -> u8 {
         self.0[at::RC]
     }

@@ -65,12 +65,11 @@ fn the_help_card_has_every_case_in_order() {
 }
 
 #[test]
-fn header_and_help_card_say_what_accepted_calls_answer() {
+fn header_and_help_card_say_what_accepted_calls_answer_and_what_rc_counts() {
     for path in ["include/benzokamuri.h", "docs/HELP-CARD.md"] {
-        assert!(
-            flat(&read(path)).contains(&flat(Code::ACCEPTED_CALLS)),
-            "{path}"
-        );
+        for said in [Code::ACCEPTED_CALLS, Code::RECORD_COUNTS] {
+            assert!(flat(&read(path)).contains(&flat(said)), "{path}: {said}");
+        }
     }
 }
 

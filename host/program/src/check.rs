@@ -18,8 +18,6 @@ pub enum Rule {
     Ex,
     /// s2.
     S2,
-    /// rc.
-    Rc,
     /// A slot.
     Slot,
 }
@@ -33,7 +31,6 @@ impl Rule {
             Rule::NameBegins => ("name", "21H to 7EH without 3FH, the high bit aside,"),
             Rule::Ex => ("ex", "0 to 31"),
             Rule::S2 => ("s2", "0 to 63"),
-            Rule::Rc => ("rc", "0 to 128"),
             Rule::Slot => ("slot", "0 or a block from 2 to 242"),
         }
     }
@@ -194,7 +191,7 @@ fn byte_faults(row: Row, entry: usize) -> Vec<Fault> {
             faults.push(fault(byte, Rule::Name));
         }
     }
-    for (byte, highest, rule) in [(12, 31, Rule::Ex), (14, 63, Rule::S2), (15, 128, Rule::Rc)] {
+    for (byte, highest, rule) in [(12, 31, Rule::Ex), (14, 63, Rule::S2)] {
         if row.0[byte] > highest {
             faults.push(fault(byte, rule));
         }
@@ -296,7 +293,7 @@ mod tests {
     #[test]
     fn bytes_are_named_with_their_place() {
         let mut bad = row(b"A\x1F?      TX", &[1, 243]);
-        (bad[12], bad[14], bad[15]) = (32, 64, 129);
+        (bad[12], bad[14], bad[15]) = (32, 64, 255);
         bad[1] = 0xA0;
         let said = said(&with(&[(5, bad)]));
         let expected = [
@@ -305,7 +302,6 @@ mod tests {
             "entry 5, byte 3 (name) is 3FH: 20H to 7EH without 3FH, the high bit aside, is due (byte 7459 of the image)",
             "entry 5, byte 12 (ex) is 20H: 0 to 31 is due (byte 7468 of the image)",
             "entry 5, byte 14 (s2) is 40H: 0 to 63 is due (byte 7470 of the image)",
-            "entry 5, byte 15 (rc) is 81H: 0 to 128 is due (byte 7471 of the image)",
             "entry 5, byte 16 (slot) is 01H: 0 or a block from 2 to 242 is due (byte 7472 of the image)",
             "entry 5, byte 17 (slot) is F3H: 0 or a block from 2 to 242 is due (byte 7473 of the image)",
         ];

@@ -99,5 +99,6 @@ fn codes(desk: &mut Desk) -> Result<(), Trouble> {
         writeln!(desk.out, "{:<10}  {calls:<19}  {code}", format!("{a}, {h}"))?;
     }
     write!(desk.out, "\n{}", Code::ACCEPTED_CALLS)?;
+    write!(desk.out, "\n{}", Code::RECORD_COUNTS)?;
     Ok(())
 }

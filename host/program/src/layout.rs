@@ -84,9 +84,14 @@ impl<'a> Row<'a> {
         self.0[13]
     }
 
-    /// The record count.
+    /// The byte rc, whatever it is.
     pub fn rc(self) -> u8 {
         self.0[15]
+    }
+
+    /// The records that it counts: the smaller of rc and 128.
+    pub fn count(self) -> u8 {
+        self.rc().min(128)
     }
 
     /// The slots.

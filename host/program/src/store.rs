@@ -194,7 +194,7 @@ fn directory_end() -> usize {
 fn listed_end(image: &Image) -> usize {
     let counted = (0..ENTRIES).flat_map(|entry| {
         let row = Row::of(image, entry);
-        let count = if row.is_used() { row.rc().min(128) } else { 0 };
+        let count = if row.is_used() { row.count() } else { 0 };
         (0..usize::from(count)).filter_map(move |record| {
             let block = usize::from(row.slots()[record / BLOCK_RECORDS]);
             let listed = (AREA..BLOCKS).contains(&block);

@@ -69,7 +69,7 @@ fn damage(random: &mut Random, image: &mut Image) {
 fn on_images() {
     let mut random = Random::new(1);
     let (mut sound, mut bad, mut twice, mut alike) = (0, 0, 0, 0);
-    let mut rules = [0; 7];
+    let mut rules = [0; 6];
     for seed in 0..DISKS {
         let (whole, _) = sound_disk(seed);
         assert_eq!(image_faults(&whole), []);

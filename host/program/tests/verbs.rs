@@ -2,7 +2,9 @@
 
 mod common;
 
+use benzokamuri::Code;
 use common::{bytes, Folder, Ran};
+use program::layout::entry_place;
 use std::io::Write;
 use std::process::Stdio;
 
@@ -168,6 +170,57 @@ user  name          attributes  records      size
     let said = folder.refused("ls disk.img *.com");
     assert!(said.ends_with("255, 0: This user has no such file.\n"));
     assert!(folder.done("ls -u 9 disk.img").contains("0 files"));
+}
+
+/// Old disks have record counts over 128. They are read as 128, and left where
+/// nothing larger comes.
+#[test]
+fn record_counts_over_128() {
+    let folder = with_files();
+    let whole = folder.read("disk.img");
+    let rc_of = |entry: usize| entry_place(entry) + 15;
+    let mut image = whole.clone();
+    (image[rc_of(1)], image[rc_of(2)]) = (200, 255);
+    folder.write("disk.img", &image);
+    assert_eq!(
+        folder.done("check disk.img"),
+        "disk.img: consistent; 4 of 64 entries are used, 3 files, 21 blocks\n"
+    );
+    let listed = folder.done("ls -u 5 -l disk.img two.dat");
+    let expected = "\
+user  name          attributes  records      size
+   5  TWO.DAT                       256     32768
+      entry  1, extent    0: rc 200, which counts as 128, blocks 3-18
+      entry  2, extent    1: rc 255, which counts as 128, blocks 19-22
+1 file, 256 records; 1760 records are free
+";
+    assert_eq!(listed, expected);
+
+    // 157 records were written, three more stand in the last block, and the
+    // rest of the second extent has no blocks.
+    let got = folder.run("get -u 5 disk.img two.dat -");
+    assert_eq!(got.status, Some(0));
+    assert_eq!(got.out[..20_000], bytes(20_000, 7));
+    assert_eq!(got.out.len(), 32_768);
+    assert!(got.out[160 * 128..].iter().all(|&byte| byte == 0));
+    assert!(got.err.contains("96 records"), "{}", got.err);
+
+    // Renamed, opened and closed, the entries keep the bytes.
+    folder.done("mv -u 5 disk.img two.dat three.dat");
+    let opened = folder.done("call -u 5 --state now disk.img 15 --name three.dat");
+    assert!(
+        opened.contains("FCB byte 15 (rc): was 00H, is C8H"),
+        "{opened}"
+    );
+    folder.done("call --state now disk.img 16");
+    let after = folder.read("disk.img");
+    assert_eq!((after[rc_of(1)], after[rc_of(2)]), (200, 255));
+
+    // Deleted and put again, it is what it was.
+    folder.done("rm -u 5 disk.img three.dat");
+    folder.done("put -u 5 disk.img two.dat");
+    let again = folder.done("ls -u 5 -l disk.img two.dat");
+    assert!(again.contains("rc 128, blocks") && !again.contains("counts as"));
 }
 
 #[test]
@@ -490,10 +543,11 @@ fn help_for_everything() {
     assert!(names.contains("%25") && names.contains("%2F"), "{names}");
     assert!(names.lines().all(|line| line.len() <= 80), "{names}");
     let codes = folder.done("help codes");
-    let (cases, accepted) = codes.split_once("\n\n").unwrap();
+    let (cases, below) = codes.split_once("\n\n").unwrap();
     assert_eq!(cases.lines().count(), 1 + 21, "a heading and the cases");
-    assert_eq!(accepted, benzokamuri::Code::ACCEPTED_CALLS);
-    assert!(accepted.lines().all(|line| line.len() <= 80), "{accepted}");
+    let (accepted, counts) = (Code::ACCEPTED_CALLS, Code::RECORD_COUNTS);
+    assert_eq!(below, format!("{accepted}\n{counts}"));
+    assert!(below.lines().all(|line| line.len() <= 80), "{below}");
     assert!(folder.done("--version").contains("interface 1"));
 }
 

@@ -1,7 +1,7 @@
 //! The calls: which are listed, and what each does once nothing refuses it.
 
 use crate::directory::{
-    self, at as entry_at, extent_number, record_holding, row, row_mut, seven_bits, slots,
+    self, at as entry_at, count, extent_number, record_holding, row, row_mut, seven_bits, slots,
     Directory, Entries, ATTRIBUTE, EMPTY, ROW_BYTES,
 };
 use crate::diskette::{record, record_mut};
@@ -262,9 +262,9 @@ fn directory_code(entry: usize) -> u8 {
 }
 
 /// "Each slot where the entry has 0 and the FCB doesn't takes the FCB's block,
-/// whose note becomes 2; the entry's rc becomes the larger of the two. f5' and
-/// f6' in the FCB are cleared." The FCB is current, so its block is held for
-/// that very slot.
+/// whose note becomes 2; .. f5' and f6' in the FCB are cleared." "Close writes
+/// the FCB's count so read where it is the larger, and else leaves rc." The FCB
+/// is current, so its block is held for that very slot.
 fn close(lent: LentMut, entry: usize) {
     let row = row_mut(lent.image, entry);
     let blocks = fcb::slots(lent.fcb);
@@ -274,7 +274,10 @@ fn close(lent: LentMut, entry: usize) {
             lent.map[usize::from(block)] = RECORDED;
         }
     }
-    row[entry_at::RC] = row[entry_at::RC].max(lent.fcb[entry_at::RC]);
+    let records = count(lent.fcb[entry_at::RC]);
+    if records > count(row[entry_at::RC]) {
+        row[entry_at::RC] = records;
+    }
     lent.fcb[5] &= !ATTRIBUTE;
     lent.fcb[6] &= !ATTRIBUTE;
 }
@@ -324,12 +327,12 @@ fn rename(lent: LentMut, entries: Entries) {
     }
 }
 
-/// "The largest of 128 × extent + rc over the name's entries".
+/// "The largest of 128 × extent + rc over the name's entries", rc as a count.
 fn size(lent: &LentMut, entries: Entries) -> u32 {
     let end = |entry| {
         let row = row(lent.image, entry);
         let extent = extent_number(row[entry_at::EX], row[entry_at::S2]);
-        128 * u32::from(extent) + u32::from(row[entry_at::RC])
+        128 * u32::from(extent) + u32::from(count(row[entry_at::RC]))
     };
     entries.each().map(end).max().unwrap_or(0)
 }
@@ -367,7 +370,7 @@ fn read(mut lent: LentMut, transfer: Transfer) {
 
 /// "A slot of 0 takes the first free block, noted pending. The buffer's 128
 /// bytes go to record target mod 8 of the slot's block ... The FCB's rc becomes
-/// the largest of its own, the entry's and target + 1."
+/// the largest of its own, the entry's and target + 1", the two read as counts.
 fn write(mut lent: LentMut, transfer: Transfer, block: Option<u8>) {
     let entry = go(lent.again(), transfer.present, transfer.going);
     let slot = slot_of(transfer.record);
@@ -376,8 +379,9 @@ fn write(mut lent: LentMut, transfer: Transfer, block: Option<u8>) {
         lent.map[usize::from(block)] = pending(entry, slot - entry_at::SLOTS);
     }
     record_mut(lent.image, lent.fcb[slot], transfer.record).copy_from_slice(lent.buffer);
-    let count = row(lent.image, entry)[entry_at::RC].max(transfer.record + 1);
-    lent.fcb[entry_at::RC] = lent.fcb[entry_at::RC].max(count);
+    let counted = count(row(lent.image, entry)[entry_at::RC]);
+    let own = count(lent.fcb[entry_at::RC]);
+    lent.fcb[entry_at::RC] = own.max(counted).max(transfer.record + 1);
     lent.fcb[fcb::at::CR] = transfer.cr;
 }
 

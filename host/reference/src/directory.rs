@@ -21,12 +21,13 @@ pub const EMPTY: u8 = 0xE5;
 /// The highest user number.
 pub const LAST_USER: u8 = 15;
 
-/// The highest ex, s2 and rc.
+/// The highest ex and s2.
 pub const LAST_EX: u8 = 31;
 /// See [`LAST_EX`].
 pub const LAST_S2: u8 = 63;
-/// See [`LAST_EX`]. It is also the highest cr.
-pub const LAST_RC: u8 = 128;
+
+/// The records of an extent: what an rc can count, and the highest cr.
+pub const EXTENT_RECORDS: u8 = 128;
 
 /// In a pattern, 3FH stands for anything.
 pub const ANY: u8 = 0x3F;
@@ -50,7 +51,7 @@ pub mod at {
     pub const EX: usize = 12;
     /// The high six bits of the extent number.
     pub const S2: usize = 14;
-    /// The record count.
+    /// rc, which [`count`](super::count) makes a record count of.
     pub const RC: usize = 15;
     /// The first of sixteen slots.
     pub const SLOTS: usize = 16;
@@ -72,6 +73,12 @@ pub type Slots = [u8; 16];
 /// "The extent number is 32 × s2 + ex."
 pub fn extent_number(ex: u8, s2: u8) -> u16 {
     32 * u16::from(s2) + u16::from(ex)
+}
+
+/// The records that an entry or FCB counts by its rc: "the smaller of rc and
+/// 128 for every byte value".
+pub fn count(rc: u8) -> u8 {
+    rc.min(EXTENT_RECORDS)
 }
 
 // ---------------------------------------------------------------------------
@@ -248,14 +255,14 @@ type Half = [u8; 16];
 /// The first half of an entry as it has to be when used. The byte under `MASK`
 /// has to be in `LOW` to `LOW + SPAN` and must not be `BARRED`.
 mod allowed {
-    use super::{Half, ANY, LAST_EX, LAST_RC, LAST_S2, LAST_USER};
+    use super::{Half, ANY, LAST_EX, LAST_S2, LAST_USER};
 
-    /// Attributes are no part of a name, and s1 may be anything.
-    pub const MASK: Half = half(0xFF, 0x7F, 0x7F, [0xFF, 0, 0xFF, 0xFF]);
+    /// Attributes are no part of a name, and s1 and rc may be anything.
+    pub const MASK: Half = half(0xFF, 0x7F, 0x7F, [0xFF, 0, 0xFF, 0]);
     /// "20H to 7EH", "the first not 20H".
     pub const LOW: Half = half(0, 0x21, 0x20, [0; 4]);
     /// How far up from `LOW`.
-    pub const SPAN: Half = half(LAST_USER, 0x5D, 0x5E, [LAST_EX, 0, LAST_S2, LAST_RC]);
+    pub const SPAN: Half = half(LAST_USER, 0x5D, 0x5E, [LAST_EX, 0, LAST_S2, 0]);
     /// "Not 3FH" in the name; elsewhere FFH, which is out of range anyway.
     pub const BARRED: Half = half(0xFF, ANY, ANY, [0xFF; 4]);
 
@@ -552,7 +559,7 @@ mod tests {
         assert!(values_allowed_at(at::EX).into_iter().eq(0..=31));
         assert_eq!(values_allowed_at(at::EX + 1).len(), 256, "s1 is free");
         assert!(values_allowed_at(at::S2).into_iter().eq(0..=63));
-        assert!(values_allowed_at(at::RC).into_iter().eq(0..=128));
+        assert!(values_allowed_at(at::RC).into_iter().eq(0..=255));
     }
 
     #[test]

@@ -7,8 +7,8 @@
 use crate::calls::{Call, Going, Plan, Transfer};
 use crate::current::{current, numbers_in_range};
 use crate::directory::{
-    at as entry_at, is_read_only, name_is_plain, pattern_is_plain, row, Directory, Entries, Name,
-    Wanted, ANY, LAST_EX, LAST_RC, LAST_USER,
+    at as entry_at, count, is_read_only, name_is_plain, pattern_is_plain, row, Directory, Entries,
+    Name, Wanted, ANY, EXTENT_RECORDS, LAST_EX, LAST_USER,
 };
 use crate::fcb;
 use crate::lent::Lent;
@@ -149,11 +149,11 @@ causes! {
     NoExtent20 => 1, 0;
     /// There is no extent after 2,047.
     LastExtent20 => 1, 0;
-    /// The record is not below rc.
+    /// The record is not below the count.
     PastCount20 => 1, 0;
     /// The record's slot is 0.
     NoBlock20 => 1, 0;
-    /// The record is not below rc.
+    /// The record is not below the count.
     PastCount33 => 1, 0;
     /// The record's slot is 0.
     NoBlock33 => 1, 0;
@@ -190,9 +190,6 @@ const LAST_RANDOM_RECORD: u32 = 262_143;
 
 /// The highest extent number.
 const LAST_EXTENT: u16 = 2_047;
-
-/// Records in an extent.
-const EXTENT_RECORDS: u8 = 128;
 
 /// Refuses, or says what to do. Rows 1 and 2 up to the lengths are behind us:
 /// the call is listed and the buffers have their lengths. `directory` comes
@@ -568,8 +565,8 @@ impl State<'_> {
     }
 
     /// "There exactly when the target is below the larger of the FCB's and
-    /// entry's rc and its FCB slot (target/8) isn't 0." After a move the FCB
-    /// is the entry's copy.
+    /// entry's rc and its FCB slot (target/8) isn't 0", each rc as a count.
+    /// After a move the FCB is the entry's copy.
     fn check_there(
         self,
         present: usize,
@@ -577,12 +574,12 @@ impl State<'_> {
         target: Target,
         (past_count, no_block): (Cause, Cause),
     ) -> Result<(), Cause> {
-        let rc = |entry| row(self.lent.image, entry)[entry_at::RC];
-        let count = match going {
-            Going::Stay => rc(present).max(self.lent.fcb[entry_at::RC]),
-            Going::Move { entry } | Going::Make { entry, .. } => rc(entry),
+        let counted = |entry| count(row(self.lent.image, entry)[entry_at::RC]);
+        let records = match going {
+            Going::Stay => counted(present).max(count(self.lent.fcb[entry_at::RC])),
+            Going::Move { entry } | Going::Make { entry, .. } => counted(entry),
         };
-        if target.record >= count {
+        if target.record >= records {
             Err(past_count)
         } else if self.slot(going, target) == 0 {
             Err(no_block)
@@ -600,9 +597,6 @@ impl State<'_> {
         map::first_free(self.lent.map).map(Some).ok_or(cause)
     }
 }
-
-// A transfer adds one to a record below 128, so cr never passes 128.
-const _: () = assert!(EXTENT_RECORDS == LAST_RC);
 
 #[cfg(test)]
 mod tests {

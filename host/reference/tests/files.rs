@@ -104,6 +104,29 @@ fn close_records_what_is_pending_and_keeps_the_larger_count() {
     assert_eq!(desk.entry(6)[15], 128);
 }
 
+/// "The smaller of rc and 128 for every byte value", and "Close writes the FCB's
+/// count so read where it is the larger, and else leaves rc", for every rc of
+/// an entry and of an FCB.
+#[test]
+fn close_writes_the_larger_count_and_else_leaves_rc() {
+    for entry in 0..=255u8 {
+        for fcb in 0..=255u8 {
+            let mut desk = Desk::with(&[(6, row(0, "A", 0, entry, &[2]))]);
+            let mut file = desk.open("A");
+            assert_eq!(file[15], entry, "open copies the byte");
+            file[15] = fcb;
+            assert_eq!(desk.ask(16, &mut file), (2, 0));
+            let counts = [entry, fcb].map(|rc| rc.min(128));
+            let expected = if counts[1] > counts[0] {
+                counts[1]
+            } else {
+                entry
+            };
+            assert_eq!((desk.entry(6)[15], file[15]), (expected, fcb));
+        }
+    }
+}
+
 #[test]
 fn closing_a_read_only_file_is_allowed() {
     let mut desk = Desk::with(&[(0, row(0, "A", 0, 1, &[2]))]);
@@ -191,7 +214,7 @@ fn every_way_of_not_being_current() {
     );
     assert!(!changed(1, b'B') && !changed(1, b'a') && !changed(1, b'?'));
     assert!(!changed(12, 0) && !changed(14, 2));
-    assert!(changed(15, 128) && !changed(15, 129));
+    assert!((0..=255).all(|rc| changed(15, rc)), "rc may be anything");
     assert!(changed(32, 128) && !changed(32, 129));
     assert!(!changed(16, 0) && !changed(16, 3) && !changed(18, 0));
     assert!(changed(17, 9), "pending for this entry and slot");
@@ -305,6 +328,69 @@ fn size_is_the_largest_end() {
     assert_eq!(file[32], 0xFF);
     let pattern = fcb("?");
     desk.refuses(35, &pattern, Cause::BadName35);
+}
+
+#[test]
+fn size_reads_a_count_over_128_as_128() {
+    for rc in 0..=255 {
+        let mut desk = Desk::with(&[
+            (0, row(0, "A", 0, 255, &[])),
+            (1, row(0, "A", 3, rc, &[])),
+            (2, row(0, "A", 2, 255, &[])),
+        ]);
+        let mut file = fcb("A");
+        assert_eq!(desk.ask(35, &mut file), DONE);
+        assert_eq!(random(&file), 384 + u32::from(rc).min(128));
+    }
+}
+
+/// A write leaves the largest of the FCB's count, the entry's and target + 1,
+/// which is at most 128 whatever the bytes were; and every record below the
+/// larger count can be read.
+#[test]
+fn counts_over_128_are_read_and_written_as_128() {
+    for (entry, own) in [
+        (200, 0),
+        (0, 200),
+        (129, 255),
+        (255, 128),
+        (128, 129),
+        (9, 130),
+    ] {
+        let blocks: Vec<u8> = (2..18).collect();
+        let mut desk = Desk::with(&[(0, row(0, "A", 0, entry, &blocks))]);
+        let mut file = desk.open("A");
+        file[15] = own;
+        for record in 0..128 {
+            set_random(&mut file, record);
+            assert_eq!(desk.ask(33, &mut file), DONE, "{entry}, {own}: {record}");
+            assert_eq!(file[15], own, "reading leaves rc");
+        }
+        assert_eq!(desk.write_at(&mut file, 5, 0xEE), DONE);
+        assert_eq!((file[15], desk.entry(0)[15]), (128, entry));
+    }
+}
+
+/// A move copies the byte as open does, and closes as 16 does.
+#[test]
+fn a_move_copies_rc_as_it_is() {
+    let mut desk = Desk::with(&[
+        (0, row(0, "A", 0, 250, &[2])),
+        (1, row(0, "A", 1, 200, &[3])),
+        (2, row(0, "A", 2, 7, &[4])),
+    ]);
+    let mut file = desk.open("A");
+    file[32] = 128;
+    assert_eq!(desk.ask(20, &mut file), DONE);
+    assert_eq!((file[12], file[15], desk.entry(0)[15]), (1, 200, 250));
+    // An FCB with a count over 128 leaves 128 behind where that is the larger.
+    set_random(&mut file, 256);
+    assert_eq!(desk.ask(33, &mut file), DONE);
+    file[15] = 131;
+    set_random(&mut file, 128);
+    assert_eq!(desk.ask(33, &mut file), DONE);
+    assert_eq!((file[12], file[15]), (1, 200));
+    assert_eq!([0, 1, 2].map(|e| desk.entry(e)[15]), [250, 200, 128]);
 }
 
 #[test]

@@ -17,7 +17,6 @@ fn consistent(desk: &Desk) -> bool {
             && name().next() != Some(0x20)
             && row[12] <= 31
             && row[14] <= 63
-            && row[15] <= 128
             && row[16..].iter().all(|&b| b == 0 || (2..=242).contains(&b))
     };
     let identity = |row: &[u8]| {
@@ -87,7 +86,7 @@ fn some_disk(dice: &mut Dice) -> Desk {
         }
         let name = ["A", "B.A", "AA", "A.A"][dice.below(4) as usize];
         let user = [0, 1, 15][dice.below(3) as usize];
-        let mut row = row(user, name, entry as u16, dice.below(129) as u8, &[]);
+        let mut row = row(user, name, entry as u16, dice.below(256) as u8, &[]);
         for slot in &mut row[16..] {
             if dice.below(4) == 0 && block < 243 {
                 *slot = block as u8;

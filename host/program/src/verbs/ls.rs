@@ -20,7 +20,8 @@ used (its byte s1, as CP/M Plus and cpmtools keep it), the size counts those.
 
   -u USER   the files of this user; 0 where it is left out
   -a        the files of all users
-  -l        also each extent: its entry, records and blocks
+  -l        also each extent: its entry, records (rc, which counts as 128
+            where it is more) and blocks
 
 Files that match one of the patterns are listed; see `benzokamuri help names`.",
     shape: Shape {
@@ -112,6 +113,9 @@ fn extents(file: &File) -> String {
             row.extent(),
             row.rc()
         );
+        if row.rc() != row.count() {
+            let _ = write!(text, "which counts as {}, ", row.count());
+        }
         if row.s1() != 0 {
             let _ = write!(text, "s1 {:>3}, ", row.s1());
         }
