@@ -35,7 +35,7 @@ pub fcb-is : (fcb : Bytes) → FcbOk fcb → fcbRight fcb ≡ true
 unfolding fcbRight
 fcb-is fcb f = and-both _ _ (f .name) (and-both _ _ (numbers-intro fcb (f .numbers)) (le-leb _ _ (f .cr)))
 
--- the name and the numbers first, and then cr
+-- the name, ex and s2 first, and then cr
 pub fcb-fields : (fcb : Bytes) → fcbRight fcb ≡ (fieldsRight fcb and crRight fcb)
 unfolding fcbRight fieldsRight
 fcb-fields fcb = sym (and-assoc _ _ _)

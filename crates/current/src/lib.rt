@@ -9,7 +9,7 @@ ghost use Rattle.slots.specs.Slots.{slotsSame};
 ghost use Rattle.chains.specs.Chain.{Findable};
 use format::Found;
 
-// Whether an FCB's name, numbers and cr are in range.
+// Whether an FCB's name, ex, s2 and cr are in range.
 fn fcb_right(fcb: &[u8]) -> bool
     requires { ⌜ length (now fcb) ≡ fcbBytes ⌝ }
     ensures { λ r. ⌜ r ≡ fcbRight (now (fcb .entry)) ⌝ }

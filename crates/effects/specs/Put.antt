@@ -19,7 +19,7 @@ use Rattle.rows.specs.Entries.{block-past, entry-kept}
 use Rattle.facts.specs.Slots.{slot-for-below, slots-on-high}
 use Rattle.model.specs.Target.{placeIn, writtenMap, writtenFcb}
 use Rattle.fields.specs.Agree.{isFile-asked}
-use Rattle.fields.specs.Target.{place-below, name-written, extent-written, slot-written, slot-written-other, count-written, count-written-target, map-written-kept, note-written, note-written-other}
+use Rattle.fields.specs.Target.{place-below, name-written, extent-written, slot-written, slot-written-other, target-counted, map-written-kept, note-written, note-written-other}
 use Rattle.invariant.specs.Close.{Held}
 use Rattle.invariant.specs.Good.{Good}
 use Rattle.invariant.specs.Updates.{good-record, good-taken}
@@ -168,8 +168,8 @@ module _ {G : Geometry} (S : Sound G) (img map : Bytes) (g : Good G img map) (us
               (λ q. stays-fit i l (slot-written-other G f count j b r cr put-real i q));
         }
 
-    pub put-holds : count ≤ extentRecords → Holds G (viewOf G (withRecord G img (placeIn G b r) buf) (writtenMap G map f t j b)) user (writtenFcb G f count j b r cr) t r buf
-    put-holds n =
+    pub put-holds : Holds G (viewOf G (withRecord G img (placeIn G b r) buf) (writtenMap G map f t j b)) user (writtenFcb G f count j b r cr) t r buf
+    put-holds =
         let w : Bytes = writtenFcb G f count j b r cr in
         let i : slotFor G (extentOf w) r ≡ j = ap (λ (x : ℕ). slotFor G x r) (extent-written G f count j b r cr put-real) ∙ sym hj in
         let q : recSlot G w r ≡ b = ap (slotOf G w) i ∙ slot-written G f count j b r cr put-real hf in
@@ -177,7 +177,7 @@ module _ {G : Geometry} (S : Sound G) (img map : Bytes) (g : Good G img map) (us
           cur = put-cur;
           inside = hr;
           real = λ z. omega (arith, put-low, S .area-some);
-          counted = rw (count-written G f count j b r cr put-real hf n hr) (count-written-target f count r);
+          counted = target-counted G f count j b r cr put-real hf hr;
           dat = ap (λ (x : ℕ). recordAt G (withRecord G img (placeIn G b r) buf) (placeIn G x r)) q
               ∙ record-written S img (g .image-long) (placeIn G b r) place buf hb;
         }

@@ -18,7 +18,6 @@ use Rattle.model.specs.Lent.{Lent}
 use Rattle.model.specs.Target.{targetExtent, targetRecord, targetSlot, crAfter, presentEntry, plan, moved, made, placeIn, haveRead, haveWritten, writtenFcb, writtenMap}
 use Rattle.model.specs.Calls.{readAt, reading, read, writtenAt, writing, written}
 use Rattle.facts.specs.Slots.{slots-on-high}
-use Rattle.facts.specs.Counts.{count-high}
 use Rattle.fields.specs.Agree.{SameName}
 use Rattle.consistency.specs.Naming.{file-found}
 use Rattle.fields.specs.Target.{record-below, crAfter-high, targetSlot-below, length-writtenFcb, head-written, name-written, extent-written, slot-written, name-read, extent-read, head-read}
@@ -147,10 +146,9 @@ module _ {G : Geometry} (S : Sound G) (n : ℕ) (l : Lent) (s : Session) (g : Go
 
     held : Holds G (viewOf G (withRecord G (there .drive .image) (placeIn G b r) (there .buffer)) (writtenMap G (there .drive .map) (there .fcb) t j b)) (s .user)
         (writtenFcb G (there .fcb) count j b r (crAfter n (l .fcb))) t r (there .buffer)
-    unfolding count
     held =
         put-holds S (there .drive .image) (there .drive .map) here-good (s .user) (f .user-low) (there .fcb) (came .long) t (came .cur) r r-below j slot-is b for-slot
-        (there .buffer) full count (crAfter n (l .fcb)) right (count-high (entryAt G (there .drive .image) t) (extentOf (there .fcb)))
+        (there .buffer) full count (crAfter n (l .fcb)) right
 
     new-slot : slotOf G (writtenFcb G (there .fcb) count j b r (crAfter n (l .fcb))) j ≡ b
     new-slot = slot-written G (there .fcb) count j b r (crAfter n (l .fcb)) j-real (came .long)

@@ -25,7 +25,7 @@ use Rattle.examples.specs.Erased.{start, blank, notes, fitting, logged-r
 use Rattle.examples.specs.Numbers.{Gives, HasEntry, size-largest}
 use Rattle.examples.specs.Random.{RandomIs}
 use Rattle.examples.specs.Pattern.{AllAny}
-use Rattle.examples.specs.OneFile.{InRange, entryOf, fileCount, oneFile, fileFcb, length-fileFcb, fcb-name, one-long, one-rc, one-consistent, one-only, one-uses, rest-unlisted, oneLent, one-ready, one-entry}
+use Rattle.examples.specs.OneFile.{InRange, entryOf, oneFile, fileFcb, length-fileFcb, file-full, fcb-name, one-long, one-rc, one-consistent, one-only, one-uses, rest-unlisted, oneLent, one-ready, one-entry}
 
 -- a disk of one entry, of extent 2,047 with this rc, on which 35 gives 00H 00H 04H
 pub record Largest (rc : ℕ) (asked : Asked) : Type 0 where
@@ -81,7 +81,7 @@ module _ (img : Bytes) (erased : ErasedDisk eightInch img) where
   pub largest-met : (rc : ℕ) → 128 ≤ rc → (asked : Asked) → Largest rc asked
   largest-met rc high asked =
       let f = entryOf 2047 rc 2 in
-      let full : fileCount f ≡ 128 = omega arith in
+      let full = file-full f high in
       let range : InRange f = record { extent = omega arith; low = omega arith; high = omega arith } in
       let fit = fitting fileFcb length-fileFcb in
       let ready = one-ready img erased f range notes blank start refl fit asked in

@@ -60,7 +60,7 @@ position-256 G asked l s ready ext cr =
     subst (λ (k : ℕ). Gives G (calling 36 asked) l s (threeBytes k)) q
     (position-gives G asked l s ready record { ex = omega arith; s2 = omega arith; cr = omega arith })
 
--- ---- 35: the largest of 128 × extent + rc over the name's entries
+-- ---- 35: the largest of 128 × extent + count over the name's entries
 pub size-step : (G : Geometry) (asked : Asked) (l : Lent) (s : Session) → Ready G (calling 35 asked) l s → Sizes G l s
     → step G (calling 35 asked) l s
     ≡ done 0 s (lend (l .drive .image) (l .drive .map) (splice (l .fcb) 33 (threeBytes (fileSize G (rowsOf G l) (named false (s .user) (l .fcb) 1)))) (l .buffer))
@@ -93,7 +93,7 @@ entry-high G l s right low e below mine =
     let is : userOf (rowsOf G l e) ≡ s .user = eqb-true _ _ (and-left _ _ mine) in
     end-high (rowsOf G l e) (user-numbers G (rowsOf G l e) (all-at _ (G .entries) (and-left _ _ right) e below) (omega arith))
 
--- extent 2,047 with rc 128
+-- extent 2,047, of which 128 records are counted
 pub size-largest : (G : Geometry) (asked : Asked) (l : Lent) (s : Session) → Ready G (calling 35 asked) l s → nameRight false (l .fcb) 1 ≡ true
     → HasEntry G l s 2047 128 → Gives G (calling 35 asked) l s (0 ∷ 0 ∷ 4 ∷ [])
 size-largest G asked l s ready name h =

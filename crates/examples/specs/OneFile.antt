@@ -2,7 +2,7 @@
 use mathlib.Core.Path.{_≡_, refl, sym, ap, _∙_}
 use mathlib.Core.Bool.{true, false}
 use mathlib.Core.List.{[], _∷_, _++_}
-use Prim.Native.Nat.{ℕ, zero, suc, _+_, _*_, _/_, _%_, _≤_, _<_, min}
+use Prim.Native.Nat.{ℕ, zero, suc, _+_, _*_, _/_, _%_, _≤_, _<_}
 use native.Mathlib.Omega.{arith}
 use lib.ListN.{length, getD, replicate, getD-replicate}
 use borrow.Author.Tests.{eqb-true, le-leb}
@@ -17,6 +17,7 @@ use Rattle.format.specs.Consistent.{consistent}
 use Rattle.format.specs.Notes.{isListed, freshMap, freeCount}
 use Rattle.format.specs.Fcb.{fcbBytes}
 use Rattle.disk.specs.Eight.{eight-sound}
+use Rattle.facts.specs.Counts.{count-is, count-full}
 use Rattle.facts.specs.Long.{long-on}
 use Rattle.rows.specs.Entries.{length-withEntry, entry-stored, entry-left}
 use Rattle.consistency.specs.Facts.{Fine, Stands, Consistent}
@@ -42,10 +43,6 @@ pub record Entry : Type 0 where
 
 abbrev pub entryOf : ℕ → ℕ → ℕ → Entry
 entryOf extent rc block = record { extent = extent; rc = rc; block = block }
-
--- the records that it counts there
-abbrev pub fileCount : Entry → ℕ
-fileCount f = min (f .rc) extentRecords
 
 -- its extent and its block are in range
 pub record InRange (f : Entry) : Type 0 where
@@ -116,9 +113,11 @@ module _ (f : Entry) where
   unfolding fileRow
   file-rc = refl
 
-  file-count : countOf (fileRow f) ≡ fileCount f
-  unfolding countOf fileRow
-  file-count = refl
+  pub file-count : f .rc ≤ extentRecords → countOf (fileRow f) ≡ f .rc
+  file-count h = count-is (fileRow f) (rw file-rc h) ∙ file-rc
+
+  pub file-full : extentRecords ≤ f .rc → countOf (fileRow f) ≡ extentRecords
+  file-full h = count-full (fileRow f) (rw file-rc h)
 
   file-fine : InRange f → Fine eightInch (fileRow f)
   unfolding fileRow
@@ -220,12 +219,12 @@ module _ (img : Bytes) (erased : ErasedDisk eightInch img) (f : Entry) (range : 
   one-mine : named false 0 fileFcb 1 (rows 0) ≡ true
   one-mine = rw one-row (file-asked f)
 
-  one-size : fileSize eightInch rows (named false 0 fileFcb 1) ≡ 128 * f .extent + fileCount f
+  one-size : fileSize eightInch rows (named false 0 fileFcb 1) ≡ 128 * f .extent + countOf (fileRow f)
   unfolding endOf
   one-size =
-      let is : endOf (rows 0) ≡ 128 * f .extent + fileCount f = rw (one-row, file-extent f, file-count f) in
+      let is : endOf (rows 0) ≡ 128 * f .extent + countOf (fileRow f) = rw (one-row, file-extent f) in
       let least = size-covers eightInch rows (named false 0 fileFcb 1) 0 (omega arith) one-mine in
-      let most = size-high eightInch rows (named false 0 fileFcb 1) (128 * f .extent + fileCount f) (λ e h t. let q : e ≡ 0 = only-named e h t in rw q (omega arith)) in
+      let most = size-high eightInch rows (named false 0 fileFcb 1) (128 * f .extent + countOf (fileRow f)) (λ e h t. let q : e ≡ 0 = only-named e h t in rw q (omega arith)) in
       omega arith
 
   -- file A after a log-in, with what fits
@@ -236,14 +235,14 @@ module _ (img : Bytes) (erased : ErasedDisk eightInch img) (f : Entry) (range : 
     pub one-ready : Ready eightInch (calling 35 x) oneLent (ended s)
     one-ready = logged-ready eightInch (oneFile img f) one-long one-consistent map fileFcb buffer s fit (calling 35 x) (λ u. drive-low)
 
-    pub one-entry : HasEntry eightInch oneLent (ended s) (f .extent) (fileCount f)
+    pub one-entry : HasEntry eightInch oneLent (ended s) (f .extent) (countOf (fileRow f))
     unfolding rows
-    one-entry = record { entry = 0; below = omega arith; mine = rw zero-user one-mine; extent = rw one-row (file-extent f); counted = rw one-row (file-count f) }
+    one-entry = record { entry = 0; below = omega arith; mine = rw zero-user one-mine; extent = rw one-row (file-extent f); counted = rw one-row }
 
     pub one-sized : step eightInch (calling 35 x) oneLent (ended s)
-        ≡ done 0 s (lend (oneFile img f) (oneLent .drive .map) (splice fileFcb 33 (threeBytes (128 * f .extent + fileCount f))) buffer)
+        ≡ done 0 s (lend (oneFile img f) (oneLent .drive .map) (splice fileFcb 33 (threeBytes (128 * f .extent + countOf (fileRow f)))) buffer)
     unfolding rows
     one-sized =
-        let size : fileSize eightInch (rowsOf eightInch oneLent) (named false (s .user) fileFcb 1) ≡ 128 * f .extent + fileCount f = rw zero-user one-size in
-        size-step eightInch x oneLent (ended s) one-ready record { name = fcb-name; some = some-entry eightInch oneLent (ended s) (f .extent) (fileCount f) one-entry }
+        let size : fileSize eightInch (rowsOf eightInch oneLent) (named false (s .user) fileFcb 1) ≡ 128 * f .extent + countOf (fileRow f) = rw zero-user one-size in
+        size-step eightInch x oneLent (ended s) one-ready record { name = fcb-name; some = some-entry eightInch oneLent (ended s) (f .extent) (countOf (fileRow f)) one-entry }
         ∙ ap (λ (k : ℕ). done 0 s (lend (oneFile img f) (oneLent .drive .map) (splice fileFcb 33 (threeBytes k)) buffer)) size

@@ -37,7 +37,7 @@ use Rattle.demands.specs.ReadBack.{readFcb}
 use Rattle.demands.specs.Begins.{Asks}
 use Rattle.demands.specs.Eight.{eight-read-back, eight-begins}
 use Rattle.examples.specs.Erased.{start, blank, notes, fitting, space-step, erased-count}
-use Rattle.examples.specs.OneFile.{oneFile, fileFcb, length-fileFcb, InRange, Entry, entryOf, drive-low, fcb-name, one-long, one-consistent, one-count, one-sized}
+use Rattle.examples.specs.OneFile.{oneFile, fileFcb, length-fileFcb, file-count, InRange, Entry, entryOf, drive-low, fcb-name, one-long, one-consistent, one-count, one-sized}
 
 -- a build answers a call by its place in a run, counted from 0, and by what is asked, lent and handed on
 abbrev pub Build : Type 0
@@ -133,7 +133,7 @@ module _ (img : Bytes) (erased : ErasedDisk eightInch img) where
 
   one-size : (r : ℕ) → r ≤ 128 → getD (onLogged 35 (oneFile img (small r)) .lent .fcb) 33 0 ≡ r
   unfolding splice fileFcb
-  one-size r h = let two = one-sized img erased (small r) (in-range r) notes blank start refl (fitting fileFcb length-fileFcb) (ask 0) in rw two (omega arith)
+  one-size r h = let two = one-sized img erased (small r) (in-range r) notes blank start refl (fitting fileFcb length-fileFcb) (ask 0) in rw (two, file-count (small r) h) (omega arith)
 
 -- ---- a write that `step` accepts: the first one to a file made on an erased disk that is logged in
 abbrev asking : ℕ → Bytes → Bytes → Request

@@ -9,7 +9,7 @@ use Rattle.format.specs.Diskette.{Bytes, extentRecords}
 use Rattle.format.specs.Entries.{rcOf, countOf, extentOf, countIn, endOf}
 use Rattle.format.specs.Fcb.{fcbCountIn, fcbEnd}
 
--- ---- the count is at most 128, whatever rc is; and it is rc where that is no more
+-- ---- the count is at most 128, whatever rc is: rc where that is no more, and else 128
 module _ (r : Bytes) where
   pub count-most : countOf r ≤ extentRecords
   unfolding countOf
@@ -18,6 +18,10 @@ module _ (r : Bytes) where
   pub count-is : rcOf r ≤ extentRecords → countOf r ≡ rcOf r
   unfolding countOf
   count-is h = omega arith
+
+  pub count-full : extentRecords ≤ rcOf r → countOf r ≡ extentRecords
+  unfolding countOf
+  count-full h = omega arith
 
 module _ (r : Bytes) (ext : ℕ) where
   pub count-before : ext < extentOf r → countIn r ext ≡ extentRecords

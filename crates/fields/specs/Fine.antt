@@ -1,4 +1,4 @@
--- Rows that calls make are fine entries: a user, a name, numbers and blocks in range.
+-- Rows that calls make are fine entries: a user, a name, ex, s2 and blocks in range.
 use mathlib.Core.Path.{_≡_, _∙_}
 use mathlib.Core.Bool.{true, false}
 use Prim.Native.Nat.{ℕ, _≤_, _<_}

@@ -16,7 +16,7 @@ use Rattle.format.specs.Diskette.{Bytes, Geometry, eightInch, Long, slotCount, 
 use Rattle.format.specs.Entries.{Rows, withEntry, exOf, s2Of, rcOf, countOf, withNumbers, slotsOf, slotIn, slotAt, used, extentOf, runOf, covers, countIn, endOf}
 use Rattle.format.specs.Notes.{isPending, pendingEntry, pendingSlot, heldByUsed}
 use Rattle.format.specs.Fcb.{fcbEnd}
-use Rattle.facts.specs.Counts.{count-most, count-there}
+use Rattle.facts.specs.Counts.{count-there, count-high}
 use Rattle.facts.specs.Naming.{covers-own}
 use Rattle.consistency.specs.Facts.{Numbers}
 use Rattle.disk.specs.Eight.{eight-sound}
@@ -28,7 +28,7 @@ use Rattle.model.specs.Target.{targetExtent, stays, within, moved, made, writte
 use Rattle.fields.specs.Entering.{asExtent-own}
 use Rattle.fields.specs.Making.{extent-next}
 use Rattle.fields.specs.Images.{row-closedImage-other, next-closed}
-use Rattle.fields.specs.Target.{rc-written}
+use Rattle.fields.specs.Target.{rc-written, count-written-high}
 
 -- a note is pending for a used entry: each of the sixteen places is a slot
 pub held-own : (d : Rows) (n : ℕ) → heldByUsed eightInch d n ≡ (isPending n and ltb (pendingEntry n) (eightInch .entries) and used (d (pendingEntry n)))
@@ -114,8 +114,6 @@ pub written-own : (l : Lent) (t j b r cr : ℕ) → length (l .fcb) ≡ 36 → j
 unfolding haveWritten writtenCount
 written-own l t j b r cr long hj hr same =
     let row : Bytes = rowsOf eightInch l t in
-    let is = rc-written eightInch (l .fcb) (countIn row (extentOf (l .fcb))) j b r cr hj long in
-    let own = count-there row (extentOf (l .fcb)) same in
-    let a = count-most (l .fcb) in
-    let b = count-most row in
-    (omega arith, omega arith)
+    let count : ℕ = countIn row (extentOf (l .fcb)) in
+    let is = rc-written eightInch (l .fcb) count j b r cr hj long in
+    (rw (is, count-there row (extentOf (l .fcb)) same), rw is (count-written-high (l .fcb) count r (count-high row (extentOf (l .fcb))) hr))

@@ -14,7 +14,7 @@ use Rattle.format.specs.Entries.{rcOf, countOf, slotOf, withSlot, extentOf}
 use Rattle.format.specs.Notes.{noteAt, pendingFor, withNote}
 use Rattle.format.specs.Fcb.{crOf, randomOf}
 use Rattle.disk.specs.Places.{blockRecords, block-record}
-use Rattle.facts.specs.Counts.{count-most, count-is}
+use Rattle.facts.specs.Counts.{count-most}
 use Rattle.facts.specs.Slots.{slot-for-below, slot-bytes, length-withSlot, byte-withSlot, slot-withSlot, slot-withSlot-other}
 use Rattle.model.specs.Kinds.{isRandom}
 use Rattle.model.specs.Target.{targetExtent, targetRecord, crAfter, stays, targetSlot, placeIn, writtenCount, writtenFcb, writtenMap}
@@ -175,8 +175,10 @@ module _ (G : Geometry) (fcb : Bytes) (count j b r cr : ℕ) where
           getD-set-other counted 32 15 cr 0 (λ z. omega arith)
           ∙ getD-set-same (withSlot G fcb j b) 15 (writtenCount fcb count r) 0 (omega (arith, length-withSlot G fcb j b))
 
-      pub count-written : count ≤ extentRecords → r < extentRecords → countOf (writtenFcb G fcb count j b r cr) ≡ writtenCount fcb count r
-      count-written n h = count-is (writtenFcb G fcb count j b r cr) (rw rc-written (count-written-high fcb count r n h)) ∙ rc-written
+      -- the record is counted, whatever count is handed in
+      pub target-counted : r < extentRecords → r < countOf (writtenFcb G fcb count j b r cr)
+      unfolding countOf
+      target-counted h = let q = rc-written in let t = count-written-target fcb count r in omega arith
 
       pub cr-written : crOf (writtenFcb G fcb count j b r cr) ≡ cr
       unfolding writtenFcb counted

@@ -32,7 +32,7 @@ exOf r = getD r 12 0
 abbrev pub s2Of : Bytes → ℕ
 s2Of r = getD r 14 0
 
--- the byte, whatever it is
+-- rc may be any byte; what it counts is `countOf`
 abbrev pub rcOf : Bytes → ℕ
 rcOf r = getD r 15 0
 

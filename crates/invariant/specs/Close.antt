@@ -1,4 +1,4 @@
--- The invariant where an entry is closed: its file stays, its numbers stay in range, and each of its slots stays or, having been 0,
+-- The invariant where an entry is closed: its file stays, its ex and s2 stay in range, and each of its slots stays or, having been 0,
 -- gets a block that was noted pending for it, which is recorded now.
 use mathlib.Core.Path.{_≡_, refl, ap, sym, _∙_, subst}
 use mathlib.Core.Logic.{_⊎_}

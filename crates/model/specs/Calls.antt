@@ -53,7 +53,7 @@ changedRows G picks change img = foldBelow (changedRow G picks change) img (G .e
 unfoldable pub erasedRow : Bytes → Bytes
 erasedRow row = set row 0 229
 
--- the largest of 128 × extent + rc over the name's entries
+-- the largest of 128 × extent + count over the name's entries
 unfoldable pub largerSize : Rows → (Bytes → Bool) → ℕ → ℕ → ℕ
 largerSize d picks size e = cond (picks (d e)) (max size (endOf (d e))) size
 

@@ -70,7 +70,7 @@ events! {
     Over128By15;
     /// A 35 whose size an entry with rc over 128 decides.
     Over128By35;
-    /// A 16 with rc over 128 in the entry, which it left.
+    /// A 16 of an entry with rc over 128.
     EntryOver128By16;
     /// A 20 of an entry with rc over 128.
     EntryOver128By20;
@@ -94,9 +94,21 @@ events! {
     CloseThatWrites128;
     /// A move that did the same.
     MoveThatWrites128;
+    /// A move away from an entry with rc over 128.
+    MoveFromOver128;
     /// A move to an entry with rc over 128.
     MoveToOver128;
 }
+
+/// The calls that go by the counts of an FCB and an entry, each with its events
+/// for an rc over 128 in the entry and in the FCB.
+const READ_A_COUNT: [(u8, Event, Event); 5] = [
+    (16, Event::EntryOver128By16, Event::FcbOver128By16),
+    (20, Event::EntryOver128By20, Event::FcbOver128By20),
+    (21, Event::EntryOver128By21, Event::FcbOver128By21),
+    (33, Event::EntryOver128By33, Event::FcbOver128By33),
+    (34, Event::EntryOver128By34, Event::FcbOver128By34),
+];
 
 /// What came up so far.
 #[derive(Clone, Debug)]
@@ -228,44 +240,30 @@ impl Counts {
     /// The same for counts over 128, in an entry or in the FCB.
     fn add_counts(&mut self, before: &World, after: &World, ask: &Ask) {
         let (was, is) = (before.fcb(ask.fcb), after.fcb(ask.fcb));
+        let number = ask.asked.number;
         let over = |entry: Option<usize>| entry.is_some_and(|e| before.entry(e)[15] > 128);
         let present = entry_of(before, &was);
-        let moved = (was[12], was[14]) != (is[12], is[14]);
-        // Where a record call came to, and where it came from.
-        let there = over(entry_of(before, &is));
-        let here = was[15] > 128;
+        // The entry that the FCB has come to: of a close, its own.
+        let over_there = over(entry_of(before, &is));
+        let over_in_fcb = was[15] > 128;
         let wrote = |entry: usize| before.entry(entry)[15] < 128 && after.entry(entry)[15] == 128;
-        let wrote = here && present.is_some_and(wrote);
+        let wrote = over_in_fcb && present.is_some_and(wrote);
         let mut add = |event: Event, is: bool| self.events[event as usize] += usize::from(is);
-        match ask.asked.number {
+        for &(call, in_entry, in_fcb) in &READ_A_COUNT {
+            add(in_entry, call == number && over_there);
+            add(in_fcb, call == number && over_in_fcb);
+        }
+        match number {
             15 => add(Event::Over128By15, is[15] > 128),
-            16 => {
-                add(Event::EntryOver128By16, over(present));
-                add(Event::FcbOver128By16, here);
-                add(Event::CloseThatWrites128, wrote);
-            }
-            20 => {
-                add(Event::EntryOver128By20, there);
-                add(Event::FcbOver128By20, here);
-            }
-            21 => {
-                add(Event::EntryOver128By21, there);
-                add(Event::FcbOver128By21, here);
-            }
-            33 => {
-                add(Event::EntryOver128By33, there);
-                add(Event::FcbOver128By33, here);
-            }
-            34 => {
-                add(Event::EntryOver128By34, there);
-                add(Event::FcbOver128By34, here);
-            }
+            16 => add(Event::CloseThatWrites128, wrote),
             35 => add(Event::Over128By35, over(last_of(before, &is))),
             _ => {}
         }
-        if matches!(ask.asked.number, 20 | 21 | 33 | 34) {
-            add(Event::MoveThatWrites128, moved && wrote);
-            add(Event::MoveToOver128, moved && there);
+        let moved = (was[12], was[14]) != (is[12], is[14]);
+        if matches!(number, 20 | 21 | 33 | 34) && moved {
+            add(Event::MoveThatWrites128, wrote);
+            add(Event::MoveFromOver128, over(present));
+            add(Event::MoveToOver128, over_there);
         }
     }
 

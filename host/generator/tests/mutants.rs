@@ -407,7 +407,7 @@ mutants! {
     /// Open stores the count in place of the byte.
     opens_with_the_count: |lent| {
         let answer = lent.call();
-        if lent.number() == 15 && answer.h == 0 {
+        if lent.number() == 15 && answer.h == 0 && answer.a < 4 {
             lent.fcb[15] = lent.fcb[15].min(128);
         }
         answer
@@ -416,7 +416,7 @@ mutants! {
     /// "Else leaves rc": an entry's rc over 128 is not written as its count.
     closes_tidy_up_rc: |lent| {
         let answer = lent.call();
-        if lent.number() == 16 && answer.h == 0 && lent.fcb[15] >= 128 {
+        if lent.number() == 16 && answer.h == 0 && answer.a < 4 && lent.fcb[15] >= 128 {
             for row in rows_mut(lent.image) {
                 let own = row[0] == lent.session.user
                     && (1..12).all(|i| (row[i] ^ lent.fcb[i]) & 0x7F == 0)
@@ -433,12 +433,24 @@ mutants! {
     closes_write_the_byte: |lent| {
         let before: Vec<u8> = rows_mut(lent.image).map(|row| row[15]).collect();
         let answer = lent.call();
-        if lent.number() == 16 && answer.h == 0 && lent.fcb[15] > 128 {
+        if lent.number() == 16 && answer.h == 0 && answer.a < 4 && lent.fcb[15] > 128 {
             for (row, was) in rows_mut(lent.image).zip(before) {
                 if row[15] != was {
                     row[15] = lent.fcb[15];
                 }
             }
+        }
+        answer
+    };
+
+    /// A move copies rc as it is.
+    moves_take_the_count: |lent| {
+        let extent = |fcb: &[u8]| fcb.get(12).zip(fcb.get(14)).map(|(ex, s2)| (*ex, *s2));
+        let was = extent(lent.fcb);
+        let answer = lent.call();
+        let read = matches!(lent.number(), 20 | 33) && (answer.a, answer.h) == (0, 0);
+        if read && extent(lent.fcb) != was {
+            lent.fcb[15] = lent.fcb[15].min(128);
         }
         answer
     };

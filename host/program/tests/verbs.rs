@@ -172,21 +172,25 @@ user  name          attributes  records      size
     assert!(folder.done("ls -u 9 disk.img").contains("0 files"));
 }
 
-/// Old disks have record counts over 128. They are read as 128, and left where
-/// nothing larger comes.
-#[test]
-fn record_counts_over_128() {
+/// A folder with a disk of three files, of which the last has rc 200 and 255 in
+/// its two entries, 1 and 2, as old disks do; and the disk as it was before.
+fn with_counts_over_128() -> (Folder, Vec<u8>) {
     let folder = with_files();
     let whole = folder.read("disk.img");
-    let rc_of = |entry: usize| entry_place(entry) + 15;
     let mut image = whole.clone();
-    (image[rc_of(1)], image[rc_of(2)]) = (200, 255);
+    image[entry_place(1) + 15] = 200;
+    image[entry_place(2) + 15] = 255;
     folder.write("disk.img", &image);
+    (folder, whole)
+}
+
+#[test]
+fn record_counts_over_128_are_read_as_128() {
+    let (folder, _) = with_counts_over_128();
     assert_eq!(
         folder.done("check disk.img"),
         "disk.img: consistent; 4 of 64 entries are used, 3 files, 21 blocks\n"
     );
-    let listed = folder.done("ls -u 5 -l disk.img two.dat");
     let expected = "\
 user  name          attributes  records      size
    5  TWO.DAT                       256     32768
@@ -194,7 +198,7 @@ user  name          attributes  records      size
       entry  2, extent    1: rc 255, which counts as 128, blocks 19-22
 1 file, 256 records; 1760 records are free
 ";
-    assert_eq!(listed, expected);
+    assert_eq!(folder.done("ls -u 5 -l disk.img two.dat"), expected);
 
     // 157 records were written, three more stand in the last block, and the
     // rest of the second extent has no blocks.
@@ -203,9 +207,12 @@ user  name          attributes  records      size
     assert_eq!(got.out[..20_000], bytes(20_000, 7));
     assert_eq!(got.out.len(), 32_768);
     assert!(got.out[160 * 128..].iter().all(|&byte| byte == 0));
-    assert!(got.err.contains("96 records"), "{}", got.err);
+    assert!(got.err.contains("96 of 256 records"), "{}", got.err);
+}
 
-    // Renamed, opened and closed, the entries keep the bytes.
+#[test]
+fn record_counts_over_128_are_left_as_they_are() {
+    let (folder, whole) = with_counts_over_128();
     folder.done("mv -u 5 disk.img two.dat three.dat");
     let opened = folder.done("call -u 5 --state now disk.img 15 --name three.dat");
     assert!(
@@ -214,13 +221,12 @@ user  name          attributes  records      size
     );
     folder.done("call --state now disk.img 16");
     let after = folder.read("disk.img");
-    assert_eq!((after[rc_of(1)], after[rc_of(2)]), (200, 255));
+    assert_eq!([1, 2].map(|e| after[entry_place(e) + 15]), [200, 255]);
 
-    // Deleted and put again, it is what it was.
+    // Deleted and put again, the file is what it was.
     folder.done("rm -u 5 disk.img three.dat");
     folder.done("put -u 5 disk.img two.dat");
-    let again = folder.done("ls -u 5 -l disk.img two.dat");
-    assert!(again.contains("rc 128, blocks") && !again.contains("counts as"));
+    assert!(folder.read("disk.img") == whole);
 }
 
 #[test]
