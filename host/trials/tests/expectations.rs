@@ -368,3 +368,44 @@ fn an_fcb_copied_before_a_write_and_used_after_the_close() {
         include_str!("expected/copied-fcb.txt"),
     );
 }
+
+/// rc of entry 0.
+const RC_OF_0: usize = 6_656 + 15;
+
+/// An old disk: rc 200 in an entry counts as 128, and stays until a larger
+/// count comes, which an FCB can bring.
+#[test]
+fn a_record_count_over_128() {
+    compare(
+        |mut stage| {
+            let mut file = fcb("OLD.DAT");
+            stage.ask(22, "make OLD.DAT", &mut file);
+            stage.buffer.fill(7);
+            stage.ask(21, "write record 0", &mut file);
+            stage.ask(16, "close", &mut file);
+            stage.say("   the entry's rc becomes 200");
+            stage.image[RC_OF_0] = 200;
+            stage.ask(13, "log in", &mut [0; 36]);
+            stage.ask(35, "size", &mut file);
+            stage.tell_fcb("FCB", &file);
+            stage.ask(15, "open", &mut file);
+            for (record, due) in [(7, (0, 0)), (8, (1, 0))] {
+                file[33..].copy_from_slice(&[record, 0, 0]);
+                let what = format!("random read of record {record}");
+                assert_eq!(stage.ask(33, &what, &mut file), due);
+            }
+            stage.ask(16, "close", &mut file);
+            assert_eq!((file[15], stage.image[RC_OF_0]), (200, 200));
+            stage.ask(34, "random write of record 8", &mut file);
+            stage.tell_fcb("FCB", &file);
+            stage.ask(16, "close", &mut file);
+            assert_eq!((file[15], stage.image[RC_OF_0]), (128, 200));
+            stage.say("   the entry's rc becomes 3, the FCB's 255");
+            (stage.image[RC_OF_0], file[15]) = (3, 255);
+            stage.ask(16, "close", &mut file);
+            assert_eq!((file[15], stage.image[RC_OF_0]), (255, 128));
+            stage.end()
+        },
+        include_str!("expected/count-over-128.txt"),
+    );
+}
