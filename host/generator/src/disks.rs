@@ -197,7 +197,7 @@ fn used_row(random: &mut Random, cast: &Cast, read_only: usize, taken: &[(u8, Na
     row
 }
 
-/// Any rc, full counts and those over 128 more than their share.
+/// Any rc: a full count most often, and one over 128 in more than a quarter.
 pub fn some_rc(random: &mut Random) -> u8 {
     match random.below(10) {
         0..=3 => 128,
