@@ -47,7 +47,7 @@ pub record Examples : Type 0 where
   pub f-over : (asked : Asked) (l : Lent) (s : Session) → oneOf (asked .number) (33 ∷ 34 ∷ []) ≡ true → Ready eightInch asked l s → RandomIs (l .fcb) 0 0 4
       → Six eightInch asked l s
   pub f-met : (asked : Asked) (r0 r1 r2 : ℕ) → LentWith asked (λ (f : Bytes). RandomIs f r0 r1 r2)
-  -- an entry of extent 2,047 with rc 128, or more, which is read as 128: size bytes 00H 00H 04H
+  -- an entry of extent 2,047 with rc 128, or more, which is read as 128: size bytes 00H 00H 04H; there is one with each such number
   pub g : (asked : Asked) (l : Lent) (s : Session) → Ready eightInch (calling 35 asked) l s → nameRight false (l .fcb) 1 ≡ true → HasEntry eightInch l s 2047 128
       → Gives eightInch (calling 35 asked) l s (0 ∷ 0 ∷ 4 ∷ [])
   pub g-met : (rc : ℕ) → 128 ≤ rc → (asked : Asked) → Largest rc asked

@@ -112,14 +112,6 @@ module _ (fcb : Bytes) (count r : ℕ) where
   unfolding writtenCount
   count-written-target = omega arith
 
-  pub count-written-fcb : countOf fcb ≤ writtenCount fcb count r
-  unfolding writtenCount
-  count-written-fcb = omega arith
-
-  pub count-written-row : count ≤ writtenCount fcb count r
-  unfolding writtenCount
-  count-written-row = omega arith
-
   pub count-written-high : count ≤ extentRecords → r < extentRecords → writtenCount fcb count r ≤ extentRecords
   unfolding writtenCount
   count-written-high b c = omega (arith, count-most fcb)

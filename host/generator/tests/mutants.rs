@@ -55,20 +55,23 @@ impl Lent<'_> {
     }
 }
 
-/// The entries of an image.
-fn rows(image: &[u8]) -> impl Iterator<Item = &[u8]> {
-    DIRECTORY_PLACES
-        .iter()
-        .flat_map(|&place| image[place..][..128].chunks(32))
-}
-
-/// The entries of an image, to be changed, in the order of their sectors.
-fn rows_mut(image: &mut [u8]) -> impl Iterator<Item = &mut [u8]> {
+/// The entries of an image, in the order of their sectors.
+fn rows(image: &mut [u8]) -> impl Iterator<Item = &mut [u8]> {
     let mut places = DIRECTORY_PLACES.to_vec();
     places.sort_unstable();
     let sectors = image.chunks_mut(128).enumerate();
     let directory = sectors.filter(move |(i, _)| places.binary_search(&(128 * i)).is_ok());
     directory.flat_map(|(_, sector)| sector.chunks_mut(32))
+}
+
+/// Whether an entry is of a user and of an FCB's name.
+fn is_named(row: &[u8], user: u8, fcb: &[u8]) -> bool {
+    row[0] == user && (1..12).all(|i| (row[i] ^ fcb[i]) & 0x7F == 0)
+}
+
+/// ex and s2 of an entry or an FCB, if it is long enough.
+fn extent(bytes: &[u8]) -> Option<(u8, u8)> {
+    Some((*bytes.get(12)?, *bytes.get(14)?))
 }
 
 /// Runs a wrong implementation until it is found out.
@@ -391,10 +394,10 @@ mutants! {
         let answer = lent.call();
         if lent.number() == 35 && (answer.a, answer.h) == (0, 0) {
             let size = u32::from_le_bytes([lent.fcb[33], lent.fcb[34], lent.fcb[35], 0]);
-            let ends = |row: &[u8]| {
-                let named = (1..12).all(|i| (row[i] ^ lent.fcb[i]) & 0x7F == 0);
+            let (user, fcb) = (lent.session.user, lent.fcb.to_vec());
+            let ends = |row: &mut [u8]| {
                 let extent = 32 * u32::from(row[14]) + u32::from(row[12]);
-                let over = row[0] == lent.session.user && named && row[15] > 128;
+                let over = is_named(row, user, &fcb) && row[15] > 128;
                 (over && 128 * extent + 128 == size).then(|| 128 * extent + u32::from(row[15]))
             };
             if let Some(size) = rows(lent.image).find_map(ends) {
@@ -417,11 +420,9 @@ mutants! {
     closes_tidy_up_rc: |lent| {
         let answer = lent.call();
         if lent.number() == 16 && answer.h == 0 && answer.a < 4 && lent.fcb[15] >= 128 {
-            for row in rows_mut(lent.image) {
-                let own = row[0] == lent.session.user
-                    && (1..12).all(|i| (row[i] ^ lent.fcb[i]) & 0x7F == 0)
-                    && (row[12], row[14]) == (lent.fcb[12], lent.fcb[14]);
-                if own {
+            for row in rows(lent.image) {
+                let named = is_named(row, lent.session.user, lent.fcb);
+                if named && extent(row) == extent(lent.fcb) {
                     row[15] = row[15].min(128);
                 }
             }
@@ -431,10 +432,10 @@ mutants! {
 
     /// "The FCB's count so read", not its byte.
     closes_write_the_byte: |lent| {
-        let before: Vec<u8> = rows_mut(lent.image).map(|row| row[15]).collect();
+        let before: Vec<u8> = rows(lent.image).map(|row| row[15]).collect();
         let answer = lent.call();
         if lent.number() == 16 && answer.h == 0 && answer.a < 4 && lent.fcb[15] > 128 {
-            for (row, was) in rows_mut(lent.image).zip(before) {
+            for (row, was) in rows(lent.image).zip(before) {
                 if row[15] != was {
                     row[15] = lent.fcb[15];
                 }
@@ -445,7 +446,6 @@ mutants! {
 
     /// A move copies rc as it is.
     moves_take_the_count: |lent| {
-        let extent = |fcb: &[u8]| fcb.get(12).zip(fcb.get(14)).map(|(ex, s2)| (*ex, *s2));
         let was = extent(lent.fcb);
         let answer = lent.call();
         let read = matches!(lent.number(), 20 | 33) && (answer.a, answer.h) == (0, 0);
@@ -458,7 +458,6 @@ mutants! {
     /// A write leaves 128 at most.
     writes_keep_the_byte: |lent| {
         let rc = lent.fcb.get(15).copied();
-        let extent = |fcb: &[u8]| fcb.get(12).zip(fcb.get(14)).map(|(ex, s2)| (*ex, *s2));
         let was = extent(lent.fcb);
         let answer = lent.call();
         let wrote = matches!(lent.number(), 21 | 34) && (answer.a, answer.h) == (0, 0);
