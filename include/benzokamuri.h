@@ -12,13 +12,16 @@
  *   benzo_session session = {0};
  *
  *   memset(image, 0xE5, sizeof image);
- *   benzo_asked log_in = {BENZO_LOG_IN, 0};
+ *   benzo_asked log_in = {BENZO_LOG_IN, 0, 17851, 0x06, 0x00};
  *   benzo_answer answer = benzo_call(log_in, image, sizeof image, map, BENZO_MAP_LEN,
  *                                    fcb, sizeof fcb, buffer, sizeof buffer, session);
  *   session = answer.session;
  *
  * An image that is all E5H is an empty disk. One that is all zeros is not
  * consistent, and is refused with 255, 1.
+ *
+ * The last three numbers above are the time, 15 November 2026, 06:00. It is
+ * stored on disks that have date entries; see benzo_asked.
  */
 #ifndef BENZOKAMURI_H
 #define BENZOKAMURI_H
@@ -31,7 +34,7 @@ extern "C" {
 #endif
 
 /* Changes whenever the types below or the function's parameters do. */
-#define BENZO_VERSION 1
+#define BENZO_VERSION 2
 
 /* The lengths that every call is due, whether it uses the buffer or not. The
  * map's is in notes of sixteen bits, the others in bytes. Any other length is
@@ -60,9 +63,32 @@ extern "C" {
 #define BENZO_SPACE 46
 #define BENZO_FREE_BLOCKS 98
 
-/* Which call is asked for. The argument is looked at by call 32 only. */
+/* Which call is asked for, and when. The argument is looked at by call 32 only.
+ *
+ * Each call is handed the time: a day, where 1 January 1978 is 1, and hour and
+ * minute in BCD, two decimal digits a byte. A digit over 9 is 255, 4, also in
+ * calls that stamp nothing; otherwise any time is taken, 24H to 99H too, and
+ * stored as it is given, also where it repeats or goes back.
+ *
+ * Only disks with date entries are stamped: entries whose byte 0 is 21H, the
+ * fourth of every four. Where the disk's label (byte 0 20H) asks for it, 22
+ * stamps create, 15 access, and a close or move that changes an entry update,
+ * beside that entry; a new entry's stamps start at zero. Nothing else is stamped,
+ * and a refused call stamps nothing. So 15 may change the image, and so may 20
+ * and 33 where they move: who saves an image saves it after them too, or leaves
+ * their stamps out.
+ *
+ * A label asks by its byte 12: bit 4 for create, 5 for update, 6 for access. A
+ * date entry has from byte 1 on ten bytes for each of the three entries before
+ * it: create or access, update, and two bytes that no call touches. A stamp is
+ * the day, low byte first, hour and minute. A search leaves all four entries in
+ * the buffer.
+ *
+ * Who has no clock hands in zeros: day 0, 00:00. */
 typedef struct {
     uint8_t number, argument;
+    uint16_t day;         /* 1 is 1 January 1978, 65,535 is 5 June 2157 */
+    uint8_t hour, minute; /* 06:00 is 0x06, 0x00 */
 } benzo_asked;
 
 /* What a caller keeps from one call to the next. It begins at zero, and each
@@ -87,7 +113,8 @@ typedef struct {
  *   255, 255                       There is no call with this number.
  *   255, 4                         A buffer has a wrong length, the session's
  *                                  user is over 15, its search place is over 64,
- *                                  or the call uses the FCB and byte 0 of it is
+ *                                  the time's hour or minute is not in BCD, or
+ *                                  the call uses the FCB and byte 0 of it is
  *                                  over 1.
  *   255, 1                         The directory of the image is not consistent,
  *                                  or the map does not fit it (13 takes any map,
@@ -124,6 +151,11 @@ typedef struct {
  *
  * rc, in an entry or in an FCB, may be any byte: as a count of records, more than
  * 128 is read as 128. No call refuses a disk or an FCB for it.
+ *
+ * Labels and date entries make a directory not consistent where a date entry is
+ * not the fourth of four entries, where some fourth entries are date entries and
+ * others are not, where there are two labels, where the label asks for create and
+ * access stamps, and where an hour or a minute in any stamp is not in BCD.
  *
  * A refusal hands the session back as it came; only a 17 that finds nothing
  * and an 18 that finds no more end the search. */

@@ -1,6 +1,7 @@
 /* Makes a file on an empty disk, writes a record, and reads it back. */
 #include <stdio.h>
 #include <string.h>
+#include <time.h>
 
 #include "benzokamuri.h"
 
@@ -8,10 +9,31 @@ static uint8_t image[BENZO_IMAGE_LEN], fcb[BENZO_FCB_LEN], buffer[BENZO_BUFFER_L
 static uint16_t map[BENZO_MAP_LEN];
 static benzo_session session; /* begins at zero */
 
+/* Two decimal digits in a byte. */
+static uint8_t bcd(int number) {
+    return (uint8_t)(number / 10 * 16 + number % 10);
+}
+
+/* What is asked for, with the local time: zeros where the day has no number in
+ * 16 bits. */
+static benzo_asked asked_now(uint8_t number) {
+    benzo_asked asked = {number, 0, 0, 0, 0};
+    time_t seconds = time(NULL);
+    struct tm *now = localtime(&seconds);
+    if (now == NULL || now->tm_year < 78) return asked;
+    long day = now->tm_yday + 1;
+    for (int year = 78; year < now->tm_year && day <= 65535; year++)
+        day += year % 4 == 0 && (year % 100 != 0 || year % 400 == 100) ? 366 : 365;
+    if (day > 65535) return asked;
+    asked.day = (uint16_t)day;
+    asked.hour = bcd(now->tm_hour);
+    asked.minute = bcd(now->tm_min);
+    return asked;
+}
+
 /* Makes a call and says what came of it. */
 static int call(uint8_t number, const char *what) {
-    benzo_asked asked = {number, 0};
-    benzo_answer answer = benzo_call(asked, image, sizeof image, map, BENZO_MAP_LEN,
+    benzo_answer answer = benzo_call(asked_now(number), image, sizeof image, map, BENZO_MAP_LEN,
                                      fcb, sizeof fcb, buffer, sizeof buffer, session);
     session = answer.session;
     printf("%2d %-16s %d, %d\n", number, what, answer.a, answer.h);

@@ -25,7 +25,7 @@ static void lend(uint8_t number, const size_t *length, uint8_t filling) {
         if (lent[i] == NULL) exit(2);
         memset(lent[i], filling, length[i] * width[i]);
     }
-    benzo_asked asked = {number, 0};
+    benzo_asked asked = {number, 0, 17851, 0x06, 0x00};
     benzo_session session = {0};
     benzo_answer answer = benzo_call(asked, lent[0], length[0], (uint16_t *)lent[1], length[1],
                                      lent[2], length[2], lent[3], length[3], session);

@@ -13,7 +13,7 @@ use Rattle.model.specs.declared.Asked.{Asked}
 use Rattle.model.specs.declared.Session.{Session}
 use Rattle.model.specs.Lent.{Lent}
 use Rattle.model.specs.Kinds.{usesFcb}
-use Rattle.model.specs.Table.{lengthsRight, parametersRight}
+use Rattle.model.specs.Table.{timeRight, lengthsRight, parametersRight}
 
 module _ (G : Geometry) (l : Lent) where
   pub image-length : lengthsRight G l ≡ true → Long G (l .drive .image)
@@ -41,14 +41,15 @@ module _ (G : Geometry) (l : Lent) where
     lengths-are t = and-left _ _ t
 
     -- byte 0 of the FCB decides where everything else is right and the FCB is used
-    drive-left : lengthsRight G l ≡ true → s .user ≤ 15 → s .place ≤ G .entries
+    drive-left : lengthsRight G l ≡ true → s .user ≤ 15 → s .place ≤ G .entries → timeRight asked ≡ true
         → parametersRight G l asked s ≡ (not (usesFcb (asked .number)) or leb (getD (l .fcb) 0 0) 1)
     unfolding parametersRight
-    drive-left a b c = and-then _ _ a ∙ and-then _ _ (le-leb _ _ b) ∙ and-then _ _ (le-leb _ _ c)
+    drive-left a b c t = and-then _ _ a ∙ and-then _ _ (le-leb _ _ b) ∙ and-then _ _ (le-leb _ _ c) ∙ and-then _ _ t
 
-    pub drive-decides : lengthsRight G l ≡ true → s .user ≤ 15 → s .place ≤ G .entries → usesFcb (asked .number) ≡ true
+    pub drive-decides : lengthsRight G l ≡ true → s .user ≤ 15 → s .place ≤ G .entries → timeRight asked ≡ true → usesFcb (asked .number) ≡ true
         → parametersRight G l asked s ≡ leb (getD (l .fcb) 0 0) 1
-    drive-decides a b c u = drive-left a b c ∙ or-then _ _ (ap not u)
+    drive-decides a b c t u = drive-left a b c t ∙ or-then _ _ (ap not u)
 
-    pub drive-unused : lengthsRight G l ≡ true → s .user ≤ 15 → s .place ≤ G .entries → usesFcb (asked .number) ≡ false → parametersRight G l asked s ≡ true
-    drive-unused a b c u = drive-left a b c ∙ or-left _ _ (ap not u)
+    pub drive-unused : lengthsRight G l ≡ true → s .user ≤ 15 → s .place ≤ G .entries → timeRight asked ≡ true → usesFcb (asked .number) ≡ false
+        → parametersRight G l asked s ≡ true
+    drive-unused a b c t u = drive-left a b c t ∙ or-left _ _ (ap not u)

@@ -2,7 +2,7 @@
 ghost use mathlib.Core.Path.{_≡_};
 ghost use Rattle.format.specs.Diskette.{eightInch};
 ghost use Rattle.model.specs.Lent.{lend};
-ghost use Rattle.model.specs.Table.{lengthsRight, parametersRight};
+ghost use Rattle.model.specs.Table.{timeRight, lengthsRight, parametersRight};
 use model::Asked;
 use model::Session;
 
@@ -22,7 +22,14 @@ fn lengths_right(image: &[u8], map: &[u16], fcb: &[u8], buffer: &[u8]) -> bool
     buffer.len() == format::RECORD_BYTES
 }
 
-// Whether lengths, the session's user and place, and byte 0 of an FCB that is used are in range.
+// Whether hour and minute of the time that came with the call are in BCD.
+fn time_right(asked: Asked) -> bool
+    ensures { λ r. ⌜ r ≡ timeRight asked ⌝ }
+{
+    dates::time_right(asked.hour, asked.minute)
+}
+
+// Whether lengths, the session's user and place, the time, and byte 0 of an FCB that is used are in range.
 pub fn parameters_right(
     asked: Asked,
     image: &[u8],
@@ -41,6 +48,9 @@ pub fn parameters_right(
     }
     let place = session.place as usize;
     if format::ENTRIES < place {
+        return false;
+    }
+    if !time_right(asked) {
         return false;
     }
     if calls::uses_fcb(asked.number) {

@@ -17,20 +17,22 @@ use Rattle.model.specs.declared.Code.{Code}
 use Rattle.model.specs.Lent.{Lent, lend, Outcome, outcome}
 use Rattle.model.specs.Naming.{names}
 use Rattle.model.specs.Entering.{threeBytes}
+use Rattle.model.specs.Table.{timeRight}
 use Rattle.model.specs.Target.{targetExtent, targetRecord}
 use Rattle.model.specs.Kinds.{kindOf, same}
 use Rattle.model.specs.declared.Kind.the-variants.{Write}
-use Rattle.model.specs.Step.{refused, effect, step}
-use Rattle.table.specs.Own.{calling, ask, same-is}
+use Rattle.model.specs.Step.{refused, stamped, step}
+use Rattle.table.specs.Own.{calling, same-is}
 use Rattle.table.specs.Total.{RefusedBy, CarriedOut, eight-total}
 use Rattle.effects.specs.Where.{Frame}
-use Rattle.effects.specs.Book.{Book, nothingHeld, acceptedAnswer}
+use Rattle.effects.specs.Book.{Book, nothingHeld}
 use Rattle.demands.specs.Runs.{Request, Disk, lentTo, outcomeOf, left, accepts, after, run, bookRun}
 use Rattle.demands.specs.NothingLost.{NothingLost}
-use Rattle.demands.specs.StepOk.{MayWrite, step-ok}
+use Rattle.demands.specs.StepOk.{MayWrite}
+use Rattle.demands.specs.Stamped.{step-ok}
 use Rattle.demands.specs.Reading.{Gives, atRecord}
 use Rattle.demands.specs.ReadBack.{AllLeaveAlone, readFcb, wrote}
-use Rattle.demands.specs.Accepted.{accepted-carried}
+use Rattle.table.specs.Accepted.{acceptedAnswer, accepted-carried}
 use Rattle.demands.specs.Eight.{eight-nothing-lost, eight-read-back}
 use Rattle.targets.specs.declared.Target.{Target}
 use Rattle.targets.specs.Target.{TargetOf}
@@ -61,21 +63,22 @@ abbrev pub targetSet : Bytes → ℕ → ℕ → Bytes
 targetSet fcb x r = splice fcb 33 (threeBytes (extentRecords * x + r))
 
 -- what call 33 comes to after a write and the calls that follow, through the FCB that the write handed back
-unfoldable pub readAfter : Disk → Request → List Request → Bytes → Outcome
-readAfter d w qs empty =
-    outcomeOf eightInch (run eightInch (after eightInch d w) qs) (request (ask 33) (readFcb eightInch d w) empty)
+unfoldable pub readAfter : Disk → Request → List Request → Asked → Bytes → Outcome
+readAfter d w qs again empty =
+    outcomeOf eightInch (run eightInch (after eightInch d w) qs) (request (calling 33 again) (readFcb eightInch d w) empty)
 
--- ---- demand 1: an outcome is a refusal with the code of the first row of the table that holds, or the call was carried out
+-- ---- demand 1: an outcome is a refusal with the code of the first row of the table that holds, or the call was carried out and stamped
 pub data Told (asked : Asked) (l : Lent) (s : Session) (o : Outcome) : Type 0 where
   told-refused : (c : Code) → RefusedBy eightInch asked l s c → o ≡ refused c s l → Told asked l s o
-  told-carried : CarriedOut eightInch asked l s → o ≡ effect eightInch asked l s → Told asked l s o
+  told-carried : CarriedOut eightInch asked l s → o ≡ stamped eightInch asked l s → Told asked l s o
 
 pub told : (asked : Asked) (l : Lent) (s : Session) (o : Outcome) → o ≡ step eightInch asked l s → Told asked l s o
 told asked l s o m =
     split (eight-total asked l s) (λ r. told-refused (r .0) (r .1) (m ∙ r .1 .is)) (λ c. told-carried c (m ∙ c .is))
 
 -- ---- demand 3, byte by byte: each byte of the image stays, or lies in an entry of a file that the call names, in at most one empty entry,
--- which became such a file's, or in the one record that the call wrote; image and map keep their lengths
+-- which became such a file's, in one of the two stamps beside such an entry, or in the one record that the call wrote; image and map keep
+-- their lengths
 pub record Framed (asked : Asked) (l : Lent) (s : Session) (o : Outcome) : Type 0 where
   pub frame : Frame eightInch (l .drive .image) (o .lent .drive .image) (names (asked .number) (s .user) (l .fcb)) (MayWrite eightInch (asked .number) l s o)
   pub map-length : length (o .lent .drive .map) ≡ length (l .drive .map)
@@ -120,15 +123,15 @@ logged-in d q n qs e a m o same =
     (subst (λ (x : Disk). NothingLost eightInch x (bookFrom d q qs)) (sym m) (eight-nothing-lost d q n a qs))
 
 -- ---- demand 2: a call that is no write, or was refused, leaves what it does; after a write that was accepted the calls are made, and then
--- call 33 through the FCB that the write handed back, with r0 to r2 set to its record. Where the calls leave the file alone and the buffer
--- lent to 33 has 128 bytes, it gives what was written. written and back are the two buffers afterwards
-pub data ReadsBack (d : Disk) (w : Request) (qs : List Request) (empty : Bytes) (r : ReadBack) (image map fcb written back : Bytes) : Type 0 where
+-- call 33 through the FCB that the write handed back, with r0 to r2 set to its record. Where the calls leave the file alone, the buffer
+-- lent to 33 has 128 bytes and the time asked with it is in BCD, it gives what was written. written and back are the two buffers afterwards
+pub data ReadsBack (d : Disk) (w : Request) (qs : List Request) (again : Asked) (empty : Bytes) (r : ReadBack) (image map fcb written back : Bytes) : Type 0 where
   not-written : r .accepted ≡ false → writesTo d w ≡ false → outcome (r .answer) image map fcb written ≡ outcomeOf eightInch d w
-      → back ≡ empty → ReadsBack d w qs empty r image map fcb written back
+      → back ≡ empty → ReadsBack d w qs again empty r image map fcb written back
   write-read : r .accepted ≡ true → writesTo d w ≡ true → written ≡ outcomeOf eightInch d w .lent .buffer
-      → outcome (r .answer) image map fcb back ≡ readAfter d w qs empty
-      → (length empty ≡ recordBytes → LeftAlone d w qs → Gives (outcome (r .answer) image map fcb back) (w .buffer))
-      → ReadsBack d w qs empty r image map fcb written back
+      → outcome (r .answer) image map fcb back ≡ readAfter d w qs again empty
+      → (length empty ≡ recordBytes → timeRight again ≡ true → LeftAlone d w qs → Gives (outcome (r .answer) image map fcb back) (w .buffer))
+      → ReadsBack d w qs again empty r image map fcb written back
 
 module _ (d : Disk) (w : Request) (took : writesTo d w ≡ true) where
   writes : kindOf (w .asked .number) ≡ Write
@@ -147,16 +150,17 @@ module _ (d : Disk) (w : Request) (took : writesTo d w ≡ true) where
   extent-low = wrote eight-sound d w writes accepted .extent
 
   pub record-low : targetRecord (w .asked .number) (w .fcb) < extentRecords
-  record-low = wrote eight-sound d w writes accepted .ok .holds .inside
+  record-low = wrote eight-sound d w writes accepted .holds .inside
 
   -- call 33 on the disk after the calls
   module _ (o : Outcome) (met : o ≡ outcomeOf eightInch d w) (qs : List Request) (e : Disk) (made : e ≡ run eightInch (after eightInch d w) qs)
-      (t : Target) (is : TargetOf (w .asked .number) (w .fcb) t) (empty : Bytes) (p : Outcome)
-      (last : p ≡ step eightInch (ask 33) (lend (e .drive .image) (e .drive .map) (targetSet (o .lent .fcb) (t .extent) (t .at)) empty) (e .session)) where
-    pub read-last : p ≡ readAfter d w qs empty
+      (t : Target) (is : TargetOf (w .asked .number) (w .fcb) t) (again : Asked) (empty : Bytes) (p : Outcome)
+      (last : p ≡ step eightInch (calling 33 again) (lend (e .drive .image) (e .drive .map) (targetSet (o .lent .fcb) (t .extent) (t .at)) empty) (e .session)) where
+    pub read-last : p ≡ readAfter d w qs again empty
     unfolding readAfter readFcb atRecord outcomeOf
     read-last = last ∙ rw (made, is .extent, is .at, met)
 
-    pub reads-again : length empty ≡ recordBytes → LeftAlone d w qs → Gives p (w .buffer)
-    unfolding readAfter
-    reads-again long alone = subst (λ (y : Outcome). Gives y (w .buffer)) (sym read-last) (eight-read-back d w writes accepted qs alone (ask 33) refl empty long)
+    pub reads-again : length empty ≡ recordBytes → timeRight again ≡ true → LeftAlone d w qs → Gives p (w .buffer)
+    unfolding readAfter timeRight
+    reads-again long time alone =
+        subst (λ (y : Outcome). Gives y (w .buffer)) (sym read-last) (eight-read-back d w writes accepted qs alone (calling 33 again) refl time empty long)

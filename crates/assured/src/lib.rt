@@ -6,8 +6,7 @@ ghost use Rattle.format.specs.Diskette.{eightInch, extents, extentRecords};
 ghost use Rattle.format.specs.Fcb.{fcbBytes};
 ghost use Rattle.model.specs.Lent.{lend, outcome};
 ghost use Rattle.model.specs.Step.{step};
-ghost use Rattle.table.specs.Own.{ask};
-ghost use Rattle.effects.specs.Book.{acceptedAnswer};
+ghost use Rattle.table.specs.Own.{calling};
 ghost use Rattle.targets.specs.Target.{TargetOf};
 ghost use Rattle.script.specs.Script.{request, requests, diskOf};
 ghost use Rattle.assured.specs.Demands.{logIn, writesAnswer, targetSet, Told, Framed, LoggedIn, ReadsBack};
@@ -30,7 +29,7 @@ pub struct ReadBack {
 
 // Demand 1, of the exported call itself: it is refused, by the first row of the table that holds and with nothing changed, or carried out.
 // And of demand 3 what it says of one call: no byte changes but in the entries of the files that it names, in at most one empty entry,
-// which became theirs, and in the one record that it wrote; image and map keep their lengths.
+// which became theirs, in the stamps beside these, and in the one record that it wrote; image and map keep their lengths.
 pub fn one_call(
     asked: Asked,
     image: &mut [u8],
@@ -47,25 +46,12 @@ pub fn one_call(
     benzokamuri::benzo_call(asked, image, map, fcb, buffer, session)
 }
 
-// Whether an answer to a call says that it was accepted.
-fn accepted(number: u8, answer: Answer) -> bool
-    ensures { λ r. ⌜ r ≡ acceptedAnswer number answer ⌝ }
-{
-    if answer.h != 0 {
-        return false;
-    }
-    if calls::moves_record(number) {
-        return answer.a == 0;
-    }
-    answer.a != 255
-}
-
 // Whether an answer is that of a write that was accepted.
 fn wrote(number: u8, answer: Answer) -> bool
     ensures { λ r. ⌜ r ≡ writesAnswer number answer ⌝ }
 {
     if calls::writes(number) {
-        return accepted(number, answer);
+        return calls::accepted(number, answer);
     }
     false
 }
@@ -91,7 +77,7 @@ pub fn log_in_and_run(
     login.number = 13;
     let answer = bdos::call(login, image, map, fcb, buffer, session);
     let s = answer.session;
-    if !accepted(13, answer) {
+    if !calls::accepted(13, answer) {
         return Ran {
             accepted: false,
             session: s,
@@ -117,8 +103,10 @@ fn target_of(number: u8, fcb: &[u8]) -> Target
     }
 }
 
-// Call 33 through an FCB, r0 to r2 set to the record of a target. Its FCB and its target are those of a write that was accepted.
+// Call 33 through an FCB, r0 to r2 set to the record of a target, with whatever is asked besides its number. Its FCB and its target are
+// those of a write that was accepted.
 fn read_again(
+    asked: Asked,
     target: Target,
     image: &mut [u8],
     map: &mut [u16],
@@ -128,22 +116,22 @@ fn read_again(
 ) -> Answer
     requires { ⌜ (length (now fcb) ≡ fcbBytes) × (target .extent < extents) × (target .at < extentRecords) ⌝ }
     ensures { λ r. ⌜ outcome r (now (image .exit)) (now (map .exit)) (now (fcb .exit)) (now (back .exit))
-        ≡ step eightInch (ask 33) (lend (now (image .entry)) (now (map .entry)) (targetSet (now (fcb .entry)) (target .extent) (target .at))
+        ≡ step eightInch (calling 33 asked) (lend (now (image .entry)) (now (map .entry)) (targetSet (now (fcb .entry)) (target .extent) (target .at))
         (now (back .entry))) session ⌝ }
 {
     let at = format::EXTENT_RECORDS * target.extent + target.at;
     entering::put_three(fcb, 33, at);
-    let asked = Asked {
-        number: 33,
-        argument: 0,
-    };
-    bdos::call(asked, image, map, fcb, back, session)
+    let mut read = asked;
+    read.number = 33;
+    bdos::call(read, image, map, fcb, back, session)
 }
 
-// Demand 2, of `call` itself: a call and, where it is a write and accepted, the calls of any script and call 33 for the record written.
-// Where these calls leave the file alone and back has 128 bytes, 33 is accepted and gives the bytes that were written.
+// Demand 2, of `call` itself: a call and, where it is a write and accepted, the calls of any script and call 33 for the record written,
+// with whatever is asked besides its number. Where these calls leave the file alone, back has 128 bytes and the time asked with 33 is in
+// BCD, 33 is accepted and gives the bytes that were written.
 pub fn write_and_read(
     asked: Asked,
+    again: Asked,
     script: &[usize],
     fcbs: &mut [u8],
     buffers: &mut [u8],
@@ -156,7 +144,7 @@ pub fn write_and_read(
 ) -> ReadBack
     ensures { λ r. ⌜ ReadsBack (diskOf (now (image .entry)) (now (map .entry)) session)
         (request asked (now (fcb .entry)) (now (written .entry))) (requests (now (script .entry)) (now (fcbs .entry)) (now (buffers .entry)))
-        (now (back .entry)) r (now (image .exit)) (now (map .exit)) (now (fcb .exit)) (now (written .exit)) (now (back .exit)) ⌝ }
+        again (now (back .entry)) r (now (image .exit)) (now (map .exit)) (now (fcb .exit)) (now (written .exit)) (now (back .exit)) ⌝ }
 {
     let target = target_of(asked.number, fcb);
     let write = bdos::call(asked, image, map, fcb, written, session);
@@ -169,6 +157,6 @@ pub fn write_and_read(
     let s = script::run_calls(script, fcbs, buffers, image, map, write.session);
     ReadBack {
         accepted: true,
-        answer: read_again(target, image, map, fcb, back, s),
+        answer: read_again(again, target, image, map, fcb, back, s),
     }
 }

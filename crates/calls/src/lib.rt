@@ -4,6 +4,8 @@ ghost use mathlib.Core.Path.{_≡_};
 ghost use mathlib.Core.Bool.{not};
 ghost use Rattle.model.specs.declared.Kind.the-variants.{Unlisted, Write};
 ghost use Rattle.model.specs.Kinds.{kindOf, usesFcb, isRandom, same, ofRecord};
+ghost use Rattle.table.specs.Accepted.{acceptedAnswer};
+use model::Answer;
 use model::Kind;
 
 // The kind of a number; one that is not there is of no call.
@@ -89,9 +91,24 @@ pub fn writes(number: u8) -> bool
 pub fn moves_record(number: u8) -> bool
     ensures { λ r. ⌜ r ≡ ofRecord (kindOf number) ⌝ }
 {
-    match kind_of(number) {
-        Kind::Read => true,
-        Kind::Write => true,
+    match number {
+        20 => true,
+        21 => true,
+        33 => true,
+        34 => true,
         _ => false,
     }
+}
+
+// Whether an answer to a call says that it was accepted.
+pub fn accepted(number: u8, answer: Answer) -> bool
+    ensures { λ r. ⌜ r ≡ acceptedAnswer number answer ⌝ }
+{
+    if answer.h != 0 {
+        return false;
+    }
+    if moves_record(number) {
+        return answer.a == 0;
+    }
+    answer.a != 255
 }

@@ -6,6 +6,9 @@ use Prim.Native.Nat.{ℕ, _≤_, _<_}
 use Rattle.format.specs.Diskette.{Bytes, Geometry, slotCount}
 use Rattle.format.specs.Names.{nameRight, nameLike}
 use Rattle.format.specs.Entries.{Rows, userOf, exOf, s2Of, slotOf, empty, used, extentOf, runOf}
+use Rattle.format.specs.Dates.{isLabel, isDates, isFourth, dated}
+use Rattle.format.specs.Consistent.{asideRight}
+use Rattle.lists.specs.Tests.{_and_}
 
 -- ex and s2 of a row or an FCB are in range
 pub record Numbers (r : Bytes) : Type 0 where
@@ -35,9 +38,12 @@ pub record SameFile (G : Geometry) (r t : Bytes) : Type 0 where
   pub run : runOf G (extentOf r) ≡ runOf G (extentOf t)
 
 pub record Consistent (G : Geometry) (d : Rows) : Type 0 where
-  -- an entry is fine or empty
+  -- an entry is fine, empty, or a label or date entry
   pub fine : (e : ℕ) → e < G .entries → used (d e) ≡ true → Fine G (d e)
-  pub other : (e : ℕ) → e < G .entries → used (d e) ≡ false → empty (d e) ≡ true
+  pub other : (e : ℕ) → e < G .entries → used (d e) ≡ false → empty (d e) ≡ false → asideRight (d e) ≡ true
+  -- date entries stand in all fourth positions or there is none
+  pub dates : (e : ℕ) → e < G .entries → isDates (d e) ≡ (isFourth e and dated d)
+  pub label : (e f : ℕ) → e < G .entries → f < G .entries → isLabel (d e) ≡ true → isLabel (d f) ≡ true → e ≡ f
   -- a block stands at one place
   pub once-entry : (b e j f k : ℕ) → Stands G d b e j → Stands G d b f k → e ≡ f
   pub once-slot : (b e j f k : ℕ) → Stands G d b e j → Stands G d b f k → j ≡ k

@@ -1,17 +1,19 @@
 -- The tests of consistency and the facts imply each other.
 use mathlib.Core.Path.{_≡_, refl, ap, sym, _∙_}
+use mathlib.Core.Logic.{_⊎_, inl, inr}
 use mathlib.Core.Bool.{true, false, not}
 use Prim.Native.Nat.{ℕ, _+_, _*_, _/_, _%_, _≤_, _<_}
 use native.Mathlib.Omega.{arith}
 use lib.Dec.{eqb, leb, ltb}
 use borrow.Author.Tests.{leb-true, ltb-true, eqb-true, eqb-false, le-leb, lt-ltb, eq-eqb, ne-eqb, not-true}
 use Rattle.lists.specs.Cases.{split, bool-cases, lt-or-le, eq-or-ne, refute, not-both}
-use Rattle.lists.specs.Tests.{_and_, and-left, and-right, and-both, and-fails-left, or-left, or-right, or-then, or-first, or-cases}
+use Rattle.lists.specs.Tests.{_and_, and-left, and-right, and-both, and-fails-left, and-fails-right, second-fails, or-left, or-right, or-then, or-first, or-cases, agree-same, same-agree}
 use Rattle.lists.specs.Below.{allBelow, all-at, all-intro, any-never, any-empty}
 use Rattle.lists.specs.Seen.{taken}
-use Rattle.format.specs.Diskette.{Bytes, Geometry, slotCount}
+use Rattle.format.specs.Diskette.{Bytes, Geometry, Sound, slotCount}
 use Rattle.format.specs.Entries.{Rows, entryAt, userOf, slotOf, empty, used, named, isFile, covers}
-use Rattle.format.specs.Consistent.{extentRight, slotRight, slotsRight, entryRight, slotsInAll, listed, listedOnce, sameFile, alone, consistentRows, consistent}
+use Rattle.format.specs.Dates.{isLabel, isDates, labelRight, datesRight, isFourth, dated}
+use Rattle.format.specs.Consistent.{extentRight, slotRight, slotsRight, fileRight, asideRight, entryRight, slotsInAll, listed, listedOnce, sameFile, alone, datesPlaced, labelOnce, placesRight, consistentRows, consistent}
 use Rattle.facts.specs.Names.{like-sym}
 use Rattle.consistency.specs.Facts.{Numbers, Fine, Stands, SameFile, Consistent}
 use Rattle.consistency.specs.Listed.{stands-at, stands-place, stands-listed}
@@ -36,6 +38,60 @@ empty-unused r h = split (bool-cases (used r)) (λ u. not-both (empty r) h (used
 -- so an empty entry is another than one that is used
 pub empty-elsewhere : (d : Rows) (t e : ℕ) → empty (d t) ≡ true → used (d e) ≡ true → t ≡ e → ⊥
 empty-elsewhere d t e z u q = not-both (empty (d t)) z (ap (λ (x : ℕ). empty (d x)) q ∙ used-full (d e) u)
+
+-- ---- labels and date entries
+-- a used entry is none of them, nor is an empty one
+pub used-no-label : (r : Bytes) → used r ≡ true → isLabel r ≡ false
+unfolding isLabel
+used-no-label r u = let h : userOf r ≤ 15 = used-low r u in ne-eqb (userOf r) 32 (λ q. omega arith)
+
+pub used-no-dates : (r : Bytes) → used r ≡ true → isDates r ≡ false
+unfolding isDates
+used-no-dates r u = let h : userOf r ≤ 15 = used-low r u in ne-eqb (userOf r) 33 (λ q. omega arith)
+
+pub empty-no-label : (r : Bytes) → empty r ≡ true → isLabel r ≡ false
+unfolding isLabel empty
+empty-no-label r z = let h : userOf r ≡ 229 = eqb-true _ _ z in ne-eqb (userOf r) 32 (λ q. omega arith)
+
+pub empty-no-dates : (r : Bytes) → empty r ≡ true → isDates r ≡ false
+unfolding isDates empty
+empty-no-dates r z = let h : userOf r ≡ 229 = eqb-true _ _ z in ne-eqb (userOf r) 33 (λ q. omega arith)
+
+pub dates-unused : (r : Bytes) → isDates r ≡ true → used r ≡ false
+dates-unused r h = split (bool-cases (used r)) (λ u. not-both (isDates r) h (used-no-dates r u)) (λ u. u)
+
+pub dates-full : (r : Bytes) → isDates r ≡ true → empty r ≡ false
+dates-full r h = split (bool-cases (empty r)) (λ u. not-both (isDates r) h (empty-no-dates r u)) (λ u. u)
+
+pub label-no-dates : (r : Bytes) → isLabel r ≡ true → isDates r ≡ false
+unfolding isLabel isDates
+label-no-dates r h = let q : userOf r ≡ 32 = eqb-true _ _ h in ne-eqb (userOf r) 33 (λ p. omega arith)
+
+pub dates-no-label : (r : Bytes) → isDates r ≡ true → isLabel r ≡ false
+dates-no-label r h = split (bool-cases (isLabel r)) (λ u. not-both (isDates r) h (label-no-dates r u)) (λ u. u)
+
+-- one of them is either
+pub aside-either : (r : Bytes) → asideRight r ≡ true → (isLabel r ≡ true) ⊎ (isDates r ≡ true)
+unfolding asideRight labelRight datesRight
+aside-either r h = split (or-cases _ _ h) (λ t. inl (and-left _ _ t)) (λ t. inr (and-left _ _ t))
+
+-- a date entry that is right aside is right
+pub aside-dates : (r : Bytes) → isDates r ≡ true → asideRight r ≡ true → datesRight r ≡ true
+unfolding asideRight labelRight
+aside-dates r i h = sym (or-then _ _ (and-fails-left _ _ (dates-no-label r i))) ∙ h
+
+pub dates-aside : (r : Bytes) → datesRight r ≡ true → asideRight r ≡ true
+unfolding asideRight
+dates-aside r h = or-right _ _ h
+
+pub dates-is : (r : Bytes) → datesRight r ≡ true → isDates r ≡ true
+unfolding datesRight
+dates-is r h = and-left _ _ h
+
+pub aside-unused : (r : Bytes) → asideRight r ≡ true → used r ≡ false
+aside-unused r h =
+    split (bool-cases (used r))
+    (λ u. split (aside-either r h) (λ t. not-both (isLabel r) t (used-no-label r u)) (λ t. not-both (isDates r) t (used-no-dates r u))) (λ u. u)
 
 pub numbers-elim : (r : Bytes) → extentRight r ≡ true → Numbers r
 numbers-elim r h = record { ex = leb-true _ _ (and-left _ _ h); s2 = leb-true _ _ (and-right _ _ h) }
@@ -62,9 +118,10 @@ module _ (G : Geometry) where
       (λ q. or-right _ _ (and-both _ _ (le-leb _ _ (low q)) (lt-ltb _ _ (high q))))
 
   pub fine-elim : (r : Bytes) → used r ≡ true → entryRight G r ≡ true → Fine G r
-  unfolding entryRight slotsRight
+  unfolding entryRight fileRight slotsRight
   fine-elim r u h =
-      let rest = and-right _ _ (sym (or-then _ _ (used-full r u)) ∙ h) in
+      let no : asideRight r ≡ false = sym (refute _ (λ t. not-both (used r) u (aside-unused r t))) in
+      let rest = and-right _ _ (sym (or-first _ _ no) ∙ sym (or-then _ _ (used-full r u)) ∙ h) in
       let slots = and-right _ _ (and-right _ _ rest) in
       record {
         user = used-low r u;
@@ -75,22 +132,27 @@ module _ (G : Geometry) where
       }
 
   pub fine-intro : (r : Bytes) → Fine G r → entryRight G r ≡ true
-  unfolding entryRight slotsRight
+  unfolding entryRight fileRight slotsRight
   fine-intro r f =
       or-right _ _
+      (or-left _ _
       (and-both _ _ (low-used r (f .user))
       (and-both _ _ (f .name)
       (and-both _ _ (numbers-intro r (f .numbers))
-      (all-intro _ slotCount (λ j l. slot-right (slotOf G r j) (f .low j l) (f .high j l))))))
+      (all-intro _ slotCount (λ j l. slot-right (slotOf G r j) (f .low j l) (f .high j l)))))))
+
+  pub aside-right : (r : Bytes) → asideRight r ≡ true → entryRight G r ≡ true
+  unfolding entryRight
+  aside-right r h = or-right _ _ (or-right _ _ h)
 
   pub empty-right : (r : Bytes) → empty r ≡ true → entryRight G r ≡ true
   unfolding entryRight
   empty-right r e = or-left _ _ e
 
-  -- an entry that is right and not used is empty
-  pub unused-empty : (r : Bytes) → used r ≡ false → entryRight G r ≡ true → empty r ≡ true
-  unfolding entryRight
-  unused-empty r u h = sym (or-first _ _ (and-fails-left _ _ u)) ∙ h
+  -- an entry that is right, not used and not empty is a label or a date entry
+  pub other-aside : (r : Bytes) → used r ≡ false → empty r ≡ false → entryRight G r ≡ true → asideRight r ≡ true
+  unfolding entryRight fileRight
+  other-aside r u z h = sym (or-then _ _ (and-fails-left _ _ u)) ∙ sym (or-then _ _ z) ∙ h
 
 -- ---- a block stands at one place
 module _ (G : Geometry) (d : Rows) where
@@ -139,6 +201,27 @@ module _ (G : Geometry) (d : Rows) where
   unfolding alone
   alone-intro e g = ap not (any-empty (λ (f : ℕ). sameFile G (d e) (d f)) e (λ f h. sym (refute _ (g f h))))
 
+-- ---- labels and date entries at their places
+module _ (d : Rows) where
+  pub placed-elim : (e : ℕ) → datesPlaced d e ≡ true → isDates (d e) ≡ (isFourth e and dated d)
+  unfolding datesPlaced
+  placed-elim e h = agree-same _ _ h
+
+  pub placed-intro : (e : ℕ) → isDates (d e) ≡ (isFourth e and dated d) → datesPlaced d e ≡ true
+  unfolding datesPlaced
+  placed-intro e h = same-agree _ _ h
+
+  pub label-elim : (e f : ℕ) → labelOnce d e ≡ true → f < e → isLabel (d e) ≡ true → isLabel (d f) ≡ true → ⊥
+  unfolding labelOnce
+  label-elim e f t h p q = not-both (isLabel (d f)) q (any-never _ e (second-fails _ _ (not-true _ t) p) f h)
+
+  pub label-intro : (e : ℕ) → ((f : ℕ) → f < e → isLabel (d e) ≡ true → isLabel (d f) ≡ true → ⊥) → labelOnce d e ≡ true
+  unfolding labelOnce
+  label-intro e g =
+      split (bool-cases (isLabel (d e)))
+      (λ t. ap not (and-fails-right _ _ (any-empty (λ (f : ℕ). isLabel (d f)) e (λ f h. sym (refute _ (g f h t))))))
+      (λ t. ap not (and-fails-left _ _ t))
+
 -- ---- the directory
 module _ (G : Geometry) (d : Rows) where
   once-place : (t : allBelow (listedOnce G d) (slotsInAll G) ≡ true) (b e j f k : ℕ) → Stands G d b e j → Stands G d b f k → slotCount * e + j ≡ slotCount * f + k
@@ -156,15 +239,23 @@ module _ (G : Geometry) (d : Rows) where
   apart-order : (t : allBelow (alone G d) (G .entries) ≡ true) (e f : ℕ) → e < G .entries → used (d e) ≡ true → used (d f) ≡ true → SameFile G (d e) (d f) → f < e → ⊥
   apart-order t e f l u v s h = alone-elim G d e f (all-at _ (G .entries) t e l) h (same-intro G (d e) (d f) u v s)
 
+  places-at : placesRight G d ≡ true → (e : ℕ) → e < G .entries → (datesPlaced d e and labelOnce d e) ≡ true
+  unfolding placesRight
+  places-at t = all-at _ (G .entries) t
+
   pub consistent-facts : consistentRows G d ≡ true → Consistent G d
   unfolding consistentRows
   consistent-facts t =
       let entries = all-at _ (G .entries) (and-left _ _ t) in
       let once = and-left _ _ (and-right _ _ t) in
-      let alones = and-right _ _ (and-right _ _ t) in
+      let alones = and-left _ _ (and-right _ _ (and-right _ _ t)) in
+      let places = places-at (and-right _ _ (and-right _ _ (and-right _ _ t))) in
       record {
         fine = λ e h u. fine-elim G (d e) u (entries e h);
-        other = λ e h u. unused-empty G (d e) u (entries e h);
+        other = λ e h u z. other-aside G (d e) u z (entries e h);
+        dates = λ e h. placed-elim d e (and-left _ _ (places e h));
+        label = λ e f h l p q. split (lt-or-le f e) (λ w. absurd (label-elim d e f (and-right _ _ (places e h)) w p q))
+            (λ w. split (lt-or-le e f) (λ z. absurd (label-elim d f e (and-right _ _ (places f l)) z q p)) (λ z. omega arith));
         once-entry = λ b e j f k s u. let q = once-place once b e j f k s u in let p = s .place in let r = u .place in omega arith;
         once-slot = λ b e j f k s u. let q = once-place once b e j f k s u in let p = s .place in let r = u .place in omega arith;
         apart = λ e f h l u v s. split (lt-or-le f e) (λ w. absurd (apart-order alones e f h u v s w))
@@ -173,7 +264,8 @@ module _ (G : Geometry) (d : Rows) where
 
   facts-entry : Consistent G d → (e : ℕ) → e < G .entries → entryRight G (d e) ≡ true
   facts-entry c e h =
-      split (bool-cases (used (d e))) (λ u. fine-intro G (d e) (c .fine e h u)) (λ u. empty-right G (d e) (c .other e h u))
+      split (bool-cases (used (d e))) (λ u. fine-intro G (d e) (c .fine e h u))
+      (λ u. split (bool-cases (empty (d e))) (λ z. empty-right G (d e) z) (λ z. aside-right G (d e) (c .other e h u z)))
 
   facts-once : Consistent G d → (y : ℕ) → y < slotsInAll G → listedOnce G d y ≡ true
   facts-once c y h =
@@ -190,21 +282,49 @@ module _ (G : Geometry) (d : Rows) where
       alone-intro G d e
       (λ f l t. let q : e ≡ f = c .apart e f h (omega arith) (same-used-left G (d e) (d f) t) (same-used-right G (d e) (d f) t) (same-elim G (d e) (d f) t) in omega arith)
 
+  facts-places : Consistent G d → placesRight G d ≡ true
+  unfolding placesRight
+  facts-places c =
+      all-intro _ (G .entries)
+      (λ e h. and-both _ _ (placed-intro d e (c .dates e h))
+      (label-intro d e (λ f l p q. let w : e ≡ f = c .label e f h (omega arith) p q in omega arith)))
+
   pub facts-consistent : Consistent G d → consistentRows G d ≡ true
   unfolding consistentRows
   facts-consistent c =
       and-both _ _ (all-intro _ (G .entries) (facts-entry c))
-      (and-both _ _ (all-intro _ (slotsInAll G) (facts-once c)) (all-intro _ (G .entries) (facts-alone c)))
+      (and-both _ _ (all-intro _ (slotsInAll G) (facts-once c)) (and-both _ _ (all-intro _ (G .entries) (facts-alone c)) (facts-places c)))
 
   -- a directory of empty entries, as on an erased disk, is consistent
-  pub all-empty : ((e : ℕ) → e < G .entries → empty (d e) ≡ true) → Consistent G d
-  all-empty n = record {
+  pub all-empty : Sound G → ((e : ℕ) → e < G .entries → empty (d e) ≡ true) → Consistent G d
+  all-empty S n = record {
     fine = λ e h u. not-both (empty (d e)) (n e h) (used-full (d e) u);
-    other = λ e h u. n e h;
+    other = λ e h u z. not-both (empty (d e)) (n e h) z;
+    dates = λ e h. empty-no-dates (d e) (n e h) ∙ sym (and-fails-right _ _ (empty-no-dates (d 3) (n 3 (omega (arith, S .fours)))));
+    label = λ e f h l p q. not-both (isLabel (d e)) p (empty-no-label (d e) (n e h));
     once-entry = λ b e j f k s t. not-both (empty (d e)) (n e (s .entry)) (used-full (d e) (s .uses));
     once-slot = λ b e j f k s t. not-both (empty (d e)) (n e (s .entry)) (used-full (d e) (s .uses));
     apart = λ e f h l u v s. not-both (empty (d e)) (n e h) (used-full (d e) u);
   }
+
+  -- and so is one of empty entries with a date entry in every fourth position, as on a new disk with dates
+  pub all-dated : Sound G → ((e : ℕ) → e < G .entries → isFourth e ≡ true → datesRight (d e) ≡ true)
+      → ((e : ℕ) → e < G .entries → isFourth e ≡ false → empty (d e) ≡ true) → Consistent G d
+  all-dated S fourth n = record {
+    fine = λ e h u. not-both (used (d e)) u (unused e h);
+    other = λ e h u z. split (bool-cases (isFourth e)) (λ t. dates-aside (d e) (fourth e h t)) (λ t. not-both (empty (d e)) (n e h t) z);
+    dates = λ e h. split (bool-cases (isFourth e))
+        (λ t. dates-is (d e) (fourth e h t) ∙ sym (and-both _ _ t (dates-is (d 3) (fourth 3 (omega (arith, S .fours, S .some-entry)) refl))))
+        (λ t. empty-no-dates (d e) (n e h t) ∙ sym (and-fails-left _ _ t));
+    label = λ e f h l p q. split (bool-cases (isFourth e)) (λ t. not-both (isLabel (d e)) p (dates-no-label (d e) (dates-is (d e) (fourth e h t))))
+        (λ t. not-both (isLabel (d e)) p (empty-no-label (d e) (n e h t)));
+    once-entry = λ b e j f k s t. not-both (used (d e)) (s .uses) (unused e (s .entry));
+    once-slot = λ b e j f k s t. not-both (used (d e)) (s .uses) (unused e (s .entry));
+    apart = λ e f h l u v s. not-both (used (d e)) u (unused e h);
+  }
+    where
+      unused : (e : ℕ) → e < G .entries → used (d e) ≡ false
+      unused e h = split (bool-cases (isFourth e)) (λ t. dates-unused (d e) (dates-is (d e) (fourth e h t))) (λ t. empty-unused (d e) (n e h t))
 
 -- ---- an image, whose rows are its directory
 module _ (G : Geometry) (img : Bytes) where

@@ -1,1 +1,2 @@
+pub mod Dating
 pub mod Pass

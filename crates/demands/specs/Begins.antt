@@ -27,12 +27,13 @@ use Rattle.model.specs.Lent.{Lent, rowsOf, Outcome}
 use Rattle.model.specs.Entering.{madeRow}
 use Rattle.model.specs.Target.{targetExtent, presentEntry, stays, targetEntry, readOnlyThere}
 use Rattle.model.specs.Kinds.{kindOf, isCall, usesFcb, isRandom}
-use Rattle.model.specs.Table.{askedEntry, verdict}
+use Rattle.model.specs.Table.{timeRight, askedEntry, verdict}
 use Rattle.model.specs.Calls.{loggedIn, createdAt, created}
-use Rattle.model.specs.Step.{effect}
-use Rattle.fields.specs.Making.{length-madeRow, readOnly-made}
+use Rattle.model.specs.declared.Kind.the-variants.{Create}
+use Rattle.fields.specs.Making.{user-made, length-madeRow, readOnly-made}
 use Rattle.fields.specs.Entering.{length-copied, first-copied, rest-copied}
 use Rattle.consistency.specs.Naming.{file-used}
+use Rattle.consistency.specs.Reflect.{low-used}
 use Rattle.fields.specs.Target.{extent-within}
 use Rattle.fields.specs.Erased.{ErasedDisk, erased-empty, erased-unused, erased-unlisted}
 use Rattle.table.specs.Own.{calling}
@@ -43,8 +44,9 @@ use Rattle.table.specs.Total.{InRange, CarriedOut, total-accepted}
 use Rattle.invariant.specs.Good.{Good, good-consistent, good-right}
 use Rattle.effects.specs.View.{viewOf}
 use Rattle.effects.specs.Cur.{Cur, cur-current}
-use Rattle.demands.specs.Accepted.{carried-says, accepted-carried}
-use Rattle.demands.specs.StepOk.{ready-good, step-accepted}
+use Rattle.table.specs.Accepted.{carried-says, accepted-carried}
+use Rattle.demands.specs.StepOk.{ready-good}
+use Rattle.demands.specs.Stamped.{stampedAs, stamped-as, cur-on, row-on, step-accepted}
 use Rattle.demands.specs.StillCurrent.{created-cur}
 use Rattle.demands.specs.NothingLost.{booked-login, logged-in}
 use Rattle.demands.specs.Erased.{erased-accepted}
@@ -52,7 +54,7 @@ use Rattle.demands.specs.Runs.{Request, Disk, lentTo, outcomeOf, left, a
 
 -- ---- a write that nothing stands against
 module _ {G : Geometry} (S : Sound G) (asked : Asked) (number : asked .number ≡ 21) (l : Lent) (s : Session) (g : Good G (l .drive .image) (l .drive .map)) (fits : Fits G l s)
-    (drive : getD (l .fcb) 0 0 ≤ 1) (e : ℕ) (cur : Cur G (viewOf G (l .drive .image) (l .drive .map)) (s .user) (l .fcb) e)
+    (time : timeRight asked ≡ true) (drive : getD (l .fcb) 0 0 ≤ 1) (e : ℕ) (cur : Cur G (viewOf G (l .drive .image) (l .drive .map)) (s .user) (l .fcb) e)
     (writable : readOnly (rowsOf G l e) ≡ false) (cr : crOf (l .fcb) < 128) (free : FoundAt (findFree G (l .drive .map))) where
   at : presentEntry G (s .user) l ≡ At e
   unfolding presentEntry
@@ -84,11 +86,11 @@ module _ {G : Geometry} (S : Sound G) (asked : Asked) (number : asked .number �
   }
 
   pub write-accepted : CarriedOut G asked l s
-  unfolding isCall kindOf
+  unfolding isCall kindOf timeRight
   write-accepted =
       total-accepted G asked l s
       (ap (λ (n : ℕ). verdict G (calling n asked) l s) number ∙ passes G (calling 21 asked) l s refl
-      record { fits = fits; drive = λ u. drive; image-right = good-consistent G (l .drive .image) (l .drive .map) g; map-right = λ q. good-right G (l .drive .image) (l .drive .map) g } (writes-right G asked l s writes))
+      record { fits = fits; time = time; drive = λ u. drive; image-right = good-consistent G (l .drive .image) (l .drive .map) g; map-right = λ q. good-right G (l .drive .image) (l .drive .map) g } (writes-right G asked l s writes))
 
 -- ---- a make, and a write through the FCB that it handed back
 module _ {G : Geometry} (S : Sound G) (d : Disk) (q : Request) (number : q .asked .number ≡ 22) (accepted : accepts G d q ≡ true) (cr : crOf (q .fcb) < 128) where
@@ -110,11 +112,18 @@ module _ {G : Geometry} (S : Sound G) (d : Disk) (q : Request) (number : q .aske
   t : ℕ
   t = makes .entry .place
 
-  made-is : outcomeOf G d q ≡ createdAt G (d .session) l t
-  unfolding outcomeOf t created effect kindOf
-  made-is =
-      carried .is ∙ ap (λ (n : ℕ). effect G (calling n (q .asked)) l (d .session)) number
-      ∙ ap (λ (r : Found). createdAt G (d .session) l (numberOf (G .entries) r)) (makes .entry .is)
+  creates : kindOf (q .asked .number) ≡ Create
+  unfolding kindOf
+  creates = ap kindOf number
+
+  made-is : outcomeOf G d q ≡ stampedAs G (q .asked) l (d .session) Create
+  unfolding outcomeOf
+  made-is = carried .is ∙ stamped-as G (q .asked) l (d .session) Create creates
+
+  -- before its stamps
+  own-is : created G (d .session) l ≡ createdAt G (d .session) l t
+  unfolding t created
+  own-is = ap (λ (r : Found). createdAt G (d .session) l (numberOf (G .entries) r)) (makes .entry .is)
 
   fits : Fits G l (d .session)
   fits = carried .facts .ready .fits
@@ -123,15 +132,30 @@ module _ {G : Geometry} (S : Sound G) (d : Disk) (q : Request) (number : q .aske
   good = ready-good (carried .facts .ready) (λ z. let a : 13 ≡ 22 = sym z ∙ number in omega arith)
 
   -- the entry that was made is not read-only
-  new-row : entryAt G (createdAt G (d .session) l t .lent .drive .image) t ≡ madeRow (d .session .user) (l .fcb)
+  own-row : entryAt G (createdAt G (d .session) l t .lent .drive .image) t ≡ madeRow (d .session .user) (l .fcb)
   unfolding createdAt t
-  new-row =
+  own-row =
       entry-stored S (l .drive .image) (good .image-long) t (empty-says G (rowsOf G l) t (makes .entry .is) .below) (madeRow (d .session .user) (l .fcb))
       (length-madeRow (d .session .user) (l .fcb))
 
   -- what it left
   made : Disk
-  made = left (createdAt G (d .session) l t)
+  made = left (stampedAs G (q .asked) l (d .session) Create)
+
+  new-row : entryAt G (made .drive .image) t ≡ madeRow (d .session .user) (l .fcb)
+  unfolding made t
+  new-row =
+      let here : entryAt G (created G (d .session) l .lent .drive .image) t ≡ madeRow (d .session .user) (l .fcb) =
+      ap (λ (o : Outcome). entryAt G (o .lent .drive .image) t) own-is ∙ own-row in
+      row-on S (q .asked) l (d .session) (carried .facts) good Create creates refl t (empty-says G (rowsOf G l) t (makes .entry .is) .below)
+      (ap used here ∙ low-used (madeRow (d .session .user) (l .fcb)) (rw (user-made (d .session .user) (l .fcb)) (fits .user-low))) ∙ here
+
+  new-cur : Cur G (viewOf G (made .drive .image) (l .drive .map)) (d .session .user) (createdAt G (d .session) l t .lent .fcb) t
+  unfolding made created createdAt t
+  new-cur =
+      cur-on S (q .asked) l (d .session) (carried .facts) good Create creates refl _ t
+      (subst (λ (o : Outcome). Cur G (viewOf G (o .lent .drive .image) (l .drive .map)) (d .session .user) (createdAt G (d .session) l t .lent .fcb) t) (sym own-is)
+      (created-cur S (q .asked) l (d .session) fits good (omega arith) makes))
 
   made-good : Good G (made .drive .image) (made .drive .map)
   unfolding made outcomeOf
@@ -142,9 +166,9 @@ module _ {G : Geometry} (S : Sound G) (d : Disk) (q : Request) (number : q .aske
   some-free b h z = found-cases (findFree G (l .drive .map)) (λ k e. record { place = k; is = e }) (λ e. absurd (none-free G (l .drive .map) e b h z))
 
   written-next : (b : ℕ) → b < G .blocks → noteAt (l .drive .map) b ≡ freeNote
-      → (w : Request) → w .asked .number ≡ 21 → w .fcb ≡ createdAt G (d .session) l t .lent .fcb → length (w .buffer) ≡ recordBytes → accepts G made w ≡ true
-  unfolding made outcomeOf createdAt t
-  written-next b h z w n fcb buffer =
+      → (w : Request) → w .asked .number ≡ 21 → w .fcb ≡ createdAt G (d .session) l t .lent .fcb → timeRight (w .asked) ≡ true → length (w .buffer) ≡ recordBytes → accepts G made w ≡ true
+  unfolding made outcomeOf created createdAt t
+  written-next b h z w n fcb time buffer =
       let row : Bytes = madeRow (d .session .user) (l .fcb) in
       let hf : 32 ≤ length (l .fcb) = (let k : length (l .fcb) ≡ 36 = fits .fcb-long in omega arith) in
       let hr : 32 ≤ length row = omega (arith, length-madeRow (d .session .user) (l .fcb)) in
@@ -158,23 +182,24 @@ module _ {G : Geometry} (S : Sound G) (d : Disk) (q : Request) (number : q .aske
         user-low = fits .user-low;
         place-low = omega arith;
       }
-      (rw (fcb, first-copied (l .fcb) row hf hr) drive) t
-      (rw fcb (created-cur S (q .asked) l (d .session) fits good (omega arith) makes))
+      time (rw (fcb, first-copied (l .fcb) row hf hr) drive) t
+      (rw fcb new-cur)
       (ap readOnly new-row ∙ readOnly-made (d .session .user) (l .fcb))
       (rw (fcb, rest-copied (l .fcb) row hf hr 36 32 (omega arith) (omega arith)) cr) (some-free b h z))
 
   -- a write through the FCB handed back, where a block is free
   pub make-then-write : (b : ℕ) → b < G .blocks → noteAt (d .drive .map) b ≡ freeNote
-      → (w : Request) → w .asked .number ≡ 21 → w .fcb ≡ outcomeOf G d q .lent .fcb → length (w .buffer) ≡ recordBytes → accepts G (after G d q) w ≡ true
+      → (w : Request) → w .asked .number ≡ 21 → w .fcb ≡ outcomeOf G d q .lent .fcb → timeRight (w .asked) ≡ true → length (w .buffer) ≡ recordBytes → accepts G (after G d q) w ≡ true
   unfolding after made
-  make-then-write b h z w n fcb buffer =
+  make-then-write b h z w n fcb time buffer =
       subst (λ (o : Outcome). accepts G (left o) w ≡ true) (sym made-is)
-      (written-next b h z w n (fcb ∙ ap (λ (o : Outcome). o .lent .fcb) made-is) buffer)
+      (written-next b h z w n (fcb ∙ ap (λ (o : Outcome). o .lent .fcb) made-is ∙ ap (λ (o : Outcome). o .lent .fcb) own-is) time buffer)
 
 -- ---- an erased disk
--- a request of a number, with an FCB and a buffer of the right lengths
+-- a request of a number, with a time in BCD, and an FCB and a buffer of the right lengths
 pub record Asks (q : Request) (n : ℕ) : Type 0 where
   pub number : q .asked .number ≡ n
+  pub time : timeRight (q .asked) ≡ true
   pub fcb : length (q .fcb) ≡ fcbBytes
   pub buffer : length (q .buffer) ≡ recordBytes
 
@@ -188,7 +213,7 @@ module _ {G : Geometry} (S : Sound G) (some : 0 < G .entries) where
 
   made-on : (d : Disk) → ErasedDisk G (d .drive .image) → Good G (d .drive .image) (d .drive .map) → InRange G (d .session) → (q : Request) → Asks q 22
       → getD (q .fcb) 0 0 ≤ 1 → nameRight false (q .fcb) 1 ≡ true → exOf (q .fcb) ≤ 31 → accepts G d q ≡ true
-  unfolding outcomeOf askedEntry isCall kindOf
+  unfolding outcomeOf askedEntry isCall kindOf timeRight
   made-on d erased good range q a drive name ex =
       carried-says G (q .asked) (lentTo d q) (d .session)
       (total-accepted G (q .asked) (lentTo d q) (d .session)
@@ -196,6 +221,7 @@ module _ {G : Geometry} (S : Sound G) (some : 0 < G .entries) where
       ∙ passes G (calling 22 (q .asked)) (lentTo d q) (d .session) refl
       record {
         fits = record { image-long = good .image-long; map-long = good .map-long; fcb-long = a .fcb; buffer-long = a .buffer; user-low = range .user; place-low = range .place };
+        time = a .time;
         drive = λ u. drive;
         image-right = good-consistent G (d .drive .image) (d .drive .map) good;
         map-right = λ z. good-right G (d .drive .image) (d .drive .map) good;
@@ -222,7 +248,7 @@ module _ {G : Geometry} (S : Sound G) (some : 0 < G .entries) where
       → (accepts G d login ≡ true) × (accepts G (after G d login) make ≡ true) × (accepts G (after G (after G d login) make) write ≡ true)
   unfolding after loggedIn
   erased-begins d erased map range login make write a b drive name ex cr c same =
-      let first = erased-accepted G d login erased map range (a .number) (a .fcb) (a .buffer) in
+      let first = erased-accepted S d login erased map range (a .number) (a .time) (a .fcb) (a .buffer) in
       let t = booked-login S d login (a .number) first in
       let o = logged-in G d login (a .number) first in
       let second = made-on (after G d login) (subst (λ (x : Outcome). ErasedDisk G (x .lent .drive .image)) (sym o) erased) (t .good) (t .range) make b drive name ex in (
@@ -230,5 +256,5 @@ module _ {G : Geometry} (S : Sound G) (some : 0 < G .entries) where
         second,
         make-then-write S (after G d login) make (b .number) second cr (G .area) (S .area-below)
             (ap (λ (x : Outcome). noteAt (x .lent .drive .map) (G .area)) o ∙ first-free (d .drive .image) erased)
-            write (c .number) same (c .buffer),
+            write (c .number) same (c .time) (c .buffer),
       )

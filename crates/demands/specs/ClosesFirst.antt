@@ -1,15 +1,16 @@
 -- Why no record call answers 3, 0: a move begins with a close, and that close is never refused. Where 20, 21, 33 or 34 answers none of the codes
 -- that are tested up to and with "FCB not current" (a wrong parameter, a damaged disk, a random record that is too large, an FCB that is not
--- current), whatever else it answers, call 16 on the same disk, with the same FCB, is accepted; and the disk that it leaves is the one on which
--- a move goes on.
+-- current), whatever else it answers, call 16 on the same disk, with the same FCB, is accepted; the disk that its rule leaves is the one on
+-- which a move goes on, and its stamps are those with which the move's begin.
 use mathlib.Core.Path.{_≡_, refl, ap, sym, _∙_}
 use mathlib.Core.Bool.{Bool, true, false, not}
-use mathlib.Core.List.{List, _∷_}
+use mathlib.Core.List.{List, _∷_, _++_}
 use Prim.Native.Nat.{ℕ}
 use borrow.Author.Tests.{not-false}
 use Rattle.lists.specs.Cases.{split, bool-cases, not-both, cond-either}
 use Rattle.format.specs.Diskette.{Geometry}
 use Rattle.format.specs.Entries.{entryAt, withEntry}
+use Rattle.format.specs.Dates.{dated}
 use Rattle.format.specs.Found.{isFound, numberOf}
 use Rattle.format.specs.declared.Found.{Found}
 use Rattle.format.specs.declared.Found.the-variants.{At, Nothing}
@@ -18,24 +19,27 @@ use Rattle.model.specs.declared.Session.{Session}
 use Rattle.model.specs.declared.Answer.{Answer}
 use Rattle.model.specs.declared.Code.{Code}
 use Rattle.model.specs.declared.Code.the-variants.{BadParameter, BadDisk, BadRecord, NotCurrent}
-use Rattle.model.specs.declared.Kind.the-variants.{Read, Write}
+use Rattle.model.specs.declared.Kind.the-variants.{Close, Read, Write}
 use Rattle.model.specs.declared.Plan.{Plan}
 use Rattle.model.specs.declared.Plan.the-variants.{Stay, Move, Make}
 use Rattle.model.specs.Codes.{aOf, hOf}
 use Rattle.model.specs.Kinds.{kindOf, usesFcb, isCall, same, ofRecord}
-use Rattle.model.specs.Lent.{Lent}
+use Rattle.model.specs.Lent.{Lent, Drive, Outcome}
 use Rattle.model.specs.Entering.{nextRow}
 use Rattle.model.specs.Target.{targetExtent, presentEntry, stays, targetEntry, planTo, planFrom, plan, moved, made}
-use Rattle.model.specs.Table.{Row, when, firstRow, ownRows, verdict}
+use Rattle.model.specs.Table.{timeRight, Row, when, firstRow, ownRows, verdict}
 use Rattle.model.specs.Calls.{closedAt, closed}
-use Rattle.model.specs.Step.{effect, step}
+use Rattle.model.specs.Stamps.{Stamp, timeStamp, closeStamps, newStamps, moveStamps, stampsBy, stampedOutcome}
+use Rattle.model.specs.Step.{step}
 use Rattle.table.specs.First.{_&_, first-holds, first-passes}
 use Rattle.table.specs.Own.{calling, at-kind, same-is, verdict-rows}
 use Rattle.table.specs.Facts.{Ready}
 use Rattle.table.specs.Reflect.{ready-of}
 use Rattle.table.specs.Accept.{passes}
 use Rattle.table.specs.Total.{CarriedOut, total-refused, total-accepted}
-use Rattle.demands.specs.Accepted.{carried-says}
+use Rattle.table.specs.Accepted.{carried-says}
+use Rattle.table.specs.Stamping.{where-undated, record-stamps}
+use Rattle.demands.specs.Stamped.{stampedAs, stamped-as}
 use Rattle.demands.specs.Runs.{Request, Disk, lentTo, outcomeOf, accepts}
 
 -- an answer with this A and H
@@ -60,16 +64,28 @@ planOf G d q = plan G (q .asked .number) (d .session .user) (lentTo d q)
 abbrev pub goesTo : Request → ℕ
 goesTo q = targetExtent (q .asked .number) (q .fcb)
 
--- the close that a move begins with: as a call by itself it is accepted; image and map after it are those of a move to an entry that is there
--- and, once the new row is put in its place, those of a move that makes one
+-- the disk that the rule of 16 leaves, before its stamps
+abbrev pub closedDrive : Geometry → Disk → Request → Drive
+closedDrive G d q = closed G (d .session) (lentTo d q) .lent .drive
+
+-- the stamps of a call, on a disk with date entries
+abbrev pub stampsOf : Geometry → Disk → Request → List Stamp
+stampsOf G d q = stampsBy G (q .asked) (lentTo d q) (d .session) (kindOf (q .asked .number))
+
+-- the close that a move begins with: as a call by itself it is accepted, and does what its rule says, stamped; image and map after its rule are
+-- those of a move to an entry that is there and, once the new row is put in its place, those of a move that makes one; and the move stamps what
+-- the close stamps, and then, if it makes an entry, that one
 pub record ClosesFirst (G : Geometry) (d : Disk) (q : Request) : Type 0 where
   pub accepted : accepts G d (toClose q) ≡ true
-  pub moves : (e t b : ℕ) → planOf G d q ≡ Move e t b → moved G (goesTo q) (lentTo d q) e t .drive ≡ outcomeOf G d (toClose q) .lent .drive
-  pub makes : (e t b : ℕ) → planOf G d q ≡ Make e t b → made G (goesTo q) (lentTo d q) e t .drive
-      ≡ record {
-        image = withEntry G (outcomeOf G d (toClose q) .lent .drive .image) t (nextRow (entryAt G (outcomeOf G d (toClose q) .lent .drive .image) e) (goesTo q));
-        map = outcomeOf G d (toClose q) .lent .drive .map;
-      }
+  pub is : outcomeOf G d (toClose q) ≡ stampedAs G (calling 16 (q .asked)) (lentTo d q) (d .session) Close
+  -- without date entries that is what its rule leaves
+  pub undated : dated (entryAt G (d .drive .image)) ≡ false → outcomeOf G d (toClose q) .lent .drive ≡ closedDrive G d q
+  pub moves : (e t b : ℕ) → planOf G d q ≡ Move e t b
+      → (moved G (goesTo q) (lentTo d q) e t .drive ≡ closedDrive G d q) × (stampsOf G d q ≡ stampsOf G d (toClose q))
+  pub makes : (e t b : ℕ) → planOf G d q ≡ Make e t b
+      → (made G (goesTo q) (lentTo d q) e t .drive
+      ≡ record { image = withEntry G (closedDrive G d q .image) t (nextRow (entryAt G (closedDrive G d q .image) e) (goesTo q)); map = closedDrive G d q .map })
+      × (stampsOf G d q ≡ stampsOf G d (toClose q) ++ newStamps G (q .asked) (lentTo d q) (d .session) t)
 
 module _ (G : Geometry) (asked : Asked) (l : Lent) (s : Session) where
   -- a first row whose code is not the answer does not hold, and the rows behind it decide
@@ -97,9 +113,10 @@ module _ (G : Geometry) (asked : Asked) (l : Lent) (s : Session) where
 
   -- 16 is ready where any call that uses the FCB is
   close-ready : (n : ℕ) → usesFcb n ≡ true → Ready G (calling n asked) l s → Ready G (calling 16 asked) l s
-  unfolding usesFcb
+  unfolding usesFcb timeRight
   close-ready n u r = record {
     fits = r .fits;
+    time = r .time;
     drive = λ z. r .drive u;
     image-right = r .image-right;
     map-right = λ z. r .map-right (λ q. let login : usesFcb n ≡ false = rw q in not-both (usesFcb n) u login);
@@ -148,15 +165,33 @@ module _ (G : Geometry) (n user : ℕ) (l : Lent) where
   unfolding plan planFrom
   plan-closes = cond-either (λ (p : Plan). closedBy p ≡ numberOf (G .entries) (presentEntry G user l)) (stays n (l .fcb)) (λ t. refl) (λ f. to-closes _ (targetEntry G n user l))
 
+-- the stamps of a close go by the time, not by the number of the call
+close-stamps : (G : Geometry) (asked : Asked) (l : Lent) (s : Session) (e : ℕ) → closeStamps G asked l s e ≡ closeStamps G (calling 16 asked) l s e
+unfolding closeStamps timeStamp
+close-stamps G asked l s e = refl
+
 -- ---- the theorem, on every disk
 pub closes-first : (G : Geometry) (d : Disk) (q : Request) → ofRecord (kindOf (q .asked .number)) ≡ true → PastCurrent (outcomeOf G d q .answer) → ClosesFirst G d q
-unfolding outcomeOf effect kindOf closed closedAt moved made
+unfolding outcomeOf kindOf closed closedAt moved made
 closes-first G d q k w =
     let c = close-follows G (q .asked) (lentTo d q) (d .session) k w in
+    let by = record-stamps G (q .asked) (lentTo d q) (d .session) (kindOf (q .asked .number)) k in
     let own : (p : Plan) → planOf G d q ≡ p → numberOf (G .entries) (presentEntry G (d .session .user) (lentTo d q)) ≡ closedBy p =
     λ p z. sym (plan-closes G (q .asked .number) (d .session .user) (lentTo d q)) ∙ ap closedBy z in
+    let closes : (e : ℕ) → numberOf (G .entries) (presentEntry G (d .session .user) (lentTo d q)) ≡ e
+    → closeStamps G (q .asked) (lentTo d q) (d .session) e ≡ stampsOf G d (toClose q) =
+    λ e z. close-stamps G (q .asked) (lentTo d q) (d .session) e ∙ ap (closeStamps G (calling 16 (q .asked)) (lentTo d q) (d .session)) (sym z) in
+    let as-close = c .is ∙ stamped-as G (calling 16 (q .asked)) (lentTo d q) (d .session) Close refl in
     record {
       accepted = carried-says G (calling 16 (q .asked)) (lentTo d q) (d .session) c;
-      moves = λ e t b z. rw (c .is, own _ z);
-      makes = λ e t b z. rw (c .is, own _ z);
+      is = as-close;
+      undated = λ n. ap (λ (o : Outcome). o .lent .drive) as-close
+          ∙ ap (λ (xs : List Stamp). stampedOutcome G xs (closed G (d .session) (lentTo d q)) .lent .drive)
+          (where-undated (dated (entryAt G (d .drive .image))) (stampsBy G (calling 16 (q .asked)) (lentTo d q) (d .session) Close) n);
+      moves = λ e t b z. (rw (own _ z), by ∙ ap (moveStamps G (q .asked) (lentTo d q) (d .session)) z ∙ closes e (own _ z));
+      makes = λ e t b z. (
+        rw (own _ z),
+        by ∙ ap (moveStamps G (q .asked) (lentTo d q) (d .session)) z
+            ∙ ap (λ (xs : List Stamp). xs ++ newStamps G (q .asked) (lentTo d q) (d .session) t) (closes e (own _ z)),
+      );
     }

@@ -2,21 +2,30 @@
 use mathlib.Core.Path.{_≡_}
 use mathlib.Core.Bool.{true, false}
 use mathlib.Core.List.{List, [], _∷_}
-use Prim.Native.Nat.{ℕ, _≤_, _<_}
+use Prim.Native.Nat.{ℕ, _%_, _≤_, _<_}
 use native.Mathlib.Omega.{arith}
 use lib.ListN.{length, getD}
 use Rattle.format.specs.Diskette.{Bytes, eightInch, recordBytes}
 use Rattle.format.specs.Names.{nameRight}
-use Rattle.format.specs.Entries.{exOf}
+use Rattle.format.specs.Entries.{Rows, exOf}
+use Rattle.format.specs.Dates.{dated, stampAt}
+use Rattle.format.specs.Consistent.{consistentRows}
 use Rattle.format.specs.Fcb.{crOf}
 use Rattle.facts.specs.Found.{FoundAt}
 use Rattle.disk.specs.Eight.{eight-sound}
 use Rattle.model.specs.declared.Asked.{Asked}
+use Rattle.model.specs.declared.Session.{Session}
+use Rattle.model.specs.declared.Kind.{Kind}
+use Rattle.model.specs.Lent.{Lent, rowsOf}
+use Rattle.model.specs.Stamps.{stampsBy}
+use Rattle.model.specs.Step.{step}
+use Rattle.model.specs.Table.{timeRight}
 use Rattle.model.specs.Target.{presentEntry}
 use Rattle.model.specs.Kinds.{oneOf, kindOf, ofRecord}
 use Rattle.model.specs.declared.Kind.the-variants.{Write}
 use Rattle.fields.specs.Erased.{ErasedDisk}
-use Rattle.table.specs.Total.{InRange}
+use Rattle.table.specs.Total.{CarriedOut, InRange}
+use Rattle.invariant.specs.Stamps.{newest}
 use Rattle.effects.specs.Book.{nothingHeld}
 use Rattle.demands.specs.Runs.{Request, Disk, outcomeOf, accepts, after, run, bookRun}
 use Rattle.demands.specs.NothingLost.{NothingLost, Stays, nothing-lost, bytes-stay, system-stays}
@@ -24,12 +33,14 @@ use Rattle.demands.specs.Reading.{Gives}
 use Rattle.demands.specs.ReadBack.{AllLeaveAlone, readFcb, read-back}
 use Rattle.demands.specs.StillCurrent.{currentCalls, still-current}
 use Rattle.demands.specs.ClosesFirst.{PastCurrent, ClosesFirst, closes-first}
+use Rattle.demands.specs.Dates.{stamp-after}
+use Rattle.demands.specs.Undated.{Plain, threeTests, plain-consistent}
 use Rattle.demands.specs.Begins.{Asks, erased-begins}
 
 -- demand 2
 pub eight-read-back : (d : Disk) (w : Request) → kindOf (w .asked .number) ≡ Write → accepts eightInch d w ≡ true
     → (qs : List Request) → AllLeaveAlone eightInch (outcomeOf eightInch d w .lent .fcb) (after eightInch d w) qs
-    → (asked : Asked) → asked .number ≡ 33 → (buffer : Bytes) → length buffer ≡ recordBytes
+    → (asked : Asked) → asked .number ≡ 33 → timeRight asked ≡ true → (buffer : Bytes) → length buffer ≡ recordBytes
     → Gives (outcomeOf eightInch (run eightInch (after eightInch d w) qs) (record { asked = asked; fcb = readFcb eightInch d w; buffer = buffer })) (w .buffer)
 eight-read-back = read-back eight-sound
 
@@ -54,6 +65,16 @@ eight-still-current = still-current eight-sound
 pub eight-closes-first : (d : Disk) (q : Request) → ofRecord (kindOf (q .asked .number)) ≡ true → PastCurrent (outcomeOf eightInch d q .answer)
     → ClosesFirst eightInch d q
 eight-closes-first = closes-first eightInch
+
+-- request [8]: each stamp after an accepted call is the newest that the call makes there, or what it was
+pub eight-stamp-after : (asked : Asked) (l : Lent) (s : Session) → CarriedOut eightInch asked l s → dated (rowsOf eightInch l) ≡ true
+    → (k : Kind) → kindOf (asked .number) ≡ k → (e which : ℕ) → e < 64 → e % 4 < 3 → which < 2
+    → stampAt eightInch (step eightInch asked l s .lent .drive .image) e which ≡ newest (stampsBy eightInch asked l s k) e which (stampAt eightInch (l .drive .image) e which)
+eight-stamp-after = stamp-after eight-sound
+
+-- and consistency is what it was where every row is a file's or empty
+pub eight-plain-consistent : (d : Rows) → Plain eightInch d → consistentRows eightInch d ≡ threeTests eightInch d
+eight-plain-consistent = plain-consistent eight-sound
 
 -- and they speak of something: a log-in, a make and a write on an erased disk are accepted
 pub eight-begins : (d : Disk) → ErasedDisk eightInch (d .drive .image) → length (d .drive .map) ≡ 243 → InRange eightInch (d .session)

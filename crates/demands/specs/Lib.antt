@@ -1,5 +1,7 @@
-pub mod Accepted
 pub mod StepOk
+pub mod Stamped
+pub mod Undated
+pub mod Dates
 pub mod Runs
 pub mod NothingLost
 pub mod Reading

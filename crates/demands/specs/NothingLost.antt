@@ -9,6 +9,7 @@ use lib.ListN.{length, getD}
 use Rattle.lists.specs.Cases.{split}
 use Rattle.format.specs.Diskette.{Geometry, Sound, recordBytes, Long}
 use Rattle.format.specs.Entries.{entryAt}
+use Rattle.format.specs.Dates.{fourthOf}
 use Rattle.format.specs.Consistent.{consistent}
 use Rattle.format.specs.Notes.{noteAt, mapRight, freshNote, isPending}
 use Rattle.disk.specs.Places.{blockRecords, offset-past, spare-apart}
@@ -17,16 +18,17 @@ use Rattle.fields.specs.Target.{place-below}
 use Rattle.model.specs.Lent.{Lent, Outcome}
 use Rattle.model.specs.Calls.{loggedIn}
 use Rattle.model.specs.Naming.{names}
-use Rattle.model.specs.Step.{settled, effect}
+use Rattle.model.specs.Step.{settled, effect, stamped}
 use Rattle.table.specs.Own.{calling}
 use Rattle.model.specs.Kinds.{kindOf}
 use Rattle.table.specs.Total.{InRange, step-range}
 use Rattle.invariant.specs.Good.{Good, good-consistent, good-right}
-use Rattle.effects.specs.Where.{InEntry, InRecord, Where, in-entry, in-new, in-record, Frame}
+use Rattle.effects.specs.Where.{InEntry, InRecord, Where, in-entry, in-new, in-record, by-rule, in-stamp, stamp-entry, Frame}
 use Rattle.effects.specs.Book.{Book, nothingHeld}
 use Rattle.effects.specs.Tracks.{Tracks, overlaid, InBook, book-map, book-has, book-settled}
-use Rattle.demands.specs.Accepted.{accepted-carried}
-use Rattle.demands.specs.StepOk.{MayWrite, step-ok, step-accepted, step-good, good-never-one, logged-in-tracks}
+use Rattle.table.specs.Accepted.{accepted-carried}
+use Rattle.demands.specs.StepOk.{MayWrite, logged-in-tracks}
+use Rattle.demands.specs.Stamped.{step-ok, step-accepted, step-good, good-never-one}
 use Rattle.demands.specs.Runs.{Request, Disk, lentTo, outcomeOf, accepts, after, run, bookAfter, bookRun}
 
 -- ---- a disk whose map tells the same as a book
@@ -37,10 +39,10 @@ pub record Booked (G : Geometry) (d : Disk) (u : Book) : Type 0 where
 
 -- what an accepted log-in does
 pub logged-in : (G : Geometry) (d : Disk) (q : Request) → q .asked .number ≡ 13 → accepts G d q ≡ true → outcomeOf G d q ≡ loggedIn G (d .session) (lentTo d q)
-unfolding outcomeOf effect kindOf settled
+unfolding outcomeOf effect stamped kindOf settled
 logged-in G d q n a =
     accepted-carried G (q .asked) (lentTo d q) (d .session) a .is
-    ∙ ap (λ (k : ℕ). effect G (calling k (q .asked)) (lentTo d q) (d .session)) n
+    ∙ ap (λ (k : ℕ). stamped G (calling k (q .asked)) (lentTo d q) (d .session)) n
 
 module _ {G : Geometry} (S : Sound G) where
   pub booked-after : (d : Disk) (q : Request) (u : Book) → Booked G d u → Booked G (after G d q) (bookAfter G d q u)
@@ -123,9 +125,10 @@ module _ {G : Geometry} (S : Sound G) where
   system-stays d q i h = split (bytes-stay d q .frame .byte i) (λ e. e) (λ w. absurd (go w))
     where
       go : Where G (d .drive .image) (after G d q .drive .image) (names (q .asked .number) (d .session .user) (q .fcb)) (MayWrite G (q .asked .number) (lentTo d q) (d .session) (outcomeOf G d q)) i → ⊥
-      go (in-entry e p n) = let a = p .from in omega (arith, entry-past S e)
-      go (in-new e p z n) = let a = p .from in omega (arith, entry-past S e)
-      go (in-record x p m) = let a = p .from in omega (arith, offset-past S x)
+      go (by-rule (in-entry e p n)) = let a = p .from in omega (arith, entry-past S e)
+      go (by-rule (in-new e p z n)) = let a = p .from in omega (arith, entry-past S e)
+      go (by-rule (in-record x p m)) = let a = p .from in omega (arith, offset-past S x)
+      go (in-stamp e which p y n) = let a = stamp-entry S e which i p .from in omega (arith, entry-past S (fourthOf e))
 
   -- nor are the sectors that belong to no block
   pub spare-stays : (d : Disk) (q : Request) (i x : ℕ) → blockRecords G ≤ x → InRecord G x i → getD (after G d q .drive .image) i 0 ≡ getD (d .drive .image) i 0
@@ -137,9 +140,10 @@ module _ {G : Geometry} (S : Sound G) where
           split (entry-record-apart S e x (p .low) (omega (arith, area-within S))) (λ v. omega arith) (λ v. omega arith)
 
       go : Where G (d .drive .image) (after G d q .drive .image) (names (q .asked .number) (d .session .user) (q .fcb)) (MayWrite G (q .asked .number) (lentTo d q) (d .session) (outcomeOf G d q)) i → ⊥
-      go (in-entry e p n) = entry e p
-      go (in-new e p z n) = entry e p
-      go (in-record y p m) =
+      go (by-rule (in-entry e p n)) = entry e p
+      go (by-rule (in-new e p z n)) = entry e p
+      go (in-stamp e which p y n) = entry (fourthOf e) (stamp-entry S e which i p)
+      go (by-rule (in-record y p m)) =
           let a = p .from in let b = p .upto in let c = r .from in let k = r .upto in
           let low : y < blockRecords G = subst (λ (v : ℕ). v < blockRecords G) (sym (m .one .is)) (place-below S _ _ (m .one .below)) in
           split (spare-apart S y x low past) (λ v. omega arith) (λ v. omega arith)

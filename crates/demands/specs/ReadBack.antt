@@ -14,26 +14,29 @@ use Rattle.format.specs.Fcb.{fcbBytes}
 use Rattle.facts.specs.Names.{like-at}
 use Rattle.model.specs.declared.Asked.{Asked}
 use Rattle.model.specs.declared.Session.{Session}
-use Rattle.model.specs.Lent.{Lent}
+use Rattle.model.specs.Lent.{Lent, Outcome}
 use Rattle.model.specs.Naming.{names}
-use Rattle.model.specs.Target.{targetExtent, targetRecord}
+use Rattle.model.specs.Target.{targetExtent, targetRecord, plan}
 use Rattle.model.specs.Kinds.{kindOf, usesFcb, wild}
 use Rattle.model.specs.declared.Kind.the-variants.{User, Settle, Write}
-use Rattle.model.specs.Step.{effect, step}
+use Rattle.model.specs.Step.{step}
+use Rattle.model.specs.Table.{timeRight}
 use Rattle.fields.specs.Agree.{SameName, named-cong}
 use Rattle.facts.specs.Naming.{named-user, named-like}
 use Rattle.table.specs.Own.{at-kind, is-or-not, kinds-apart}
 use Rattle.table.specs.Accept.{writes-by}
 use Rattle.table.specs.First.{_&_}
+use Rattle.table.specs.Plans.{entryOf}
 use Rattle.table.specs.Carried.{Leaves, over, on, sets}
 use Rattle.table.specs.Total.{InRange, total, step-range}
 use Rattle.invariant.specs.Good.{Good}
 use Rattle.effects.specs.View.{viewOf, Names}
 use Rattle.effects.specs.Effect.{Effect, Keeps}
 use Rattle.effects.specs.Cur.{Holds, holds-kept}
-use Rattle.effects.specs.Write.{WriteOk, written-ok}
-use Rattle.demands.specs.Accepted.{accepted-carried}
-use Rattle.demands.specs.StepOk.{step-ok, ready-good, step-good}
+use Rattle.effects.specs.Write.{HandedBack, written-ok}
+use Rattle.table.specs.Accepted.{accepted-carried}
+use Rattle.demands.specs.StepOk.{ready-good}
+use Rattle.demands.specs.Stamped.{stampedAs, stamped-as, holds-on, step-ok, step-accepted, step-good}
 use Rattle.demands.specs.Runs.{Request, Disk, lentTo, outcomeOf, accepts, after, run}
 use Rattle.demands.specs.Reading.{atRecord, recordNumber, Gives, reads-back, length-atRecord, rest-atRecord}
 
@@ -114,10 +117,10 @@ module _ {G : Geometry} (S : Sound G) (user : ℕ) (f : Bytes) (hf : length f �
   kept-run d (q ∷ qs) o k = kept-run (after G d q) qs (o .1) (kept-after d q (o .0) k)
 
   -- and is read then
-  pub kept-read : (d : Disk) → Kept G d user f e rec v → getD f 0 0 ≤ 1 → extentOf f < extents → (asked : Asked) → asked .number ≡ 33 → (buffer : Bytes)
+  pub kept-read : (d : Disk) → Kept G d user f e rec v → getD f 0 0 ≤ 1 → extentOf f < extents → (asked : Asked) → asked .number ≡ 33 → timeRight asked ≡ true → (buffer : Bytes)
       → length buffer ≡ recordBytes → Gives (outcomeOf G d (record { asked = asked; fcb = atRecord f (recordNumber (extentOf f) rec); buffer = buffer })) v
   unfolding outcomeOf
-  kept-read d k drive low asked n buffer hb =
+  kept-read d k drive low asked n time buffer hb =
       let fcb : Bytes = atRecord f (recordNumber (extentOf f) rec) in
       reads-back S asked n (lentTo d (record { asked = asked; fcb = fcb; buffer = buffer })) (d .session) (k .good)
       record {
@@ -128,12 +131,16 @@ module _ {G : Geometry} (S : Sound G) (user : ℕ) (f : Bytes) (hf : length f �
         user-low = k .range .user;
         place-low = k .range .place;
       }
-      (rw (rest-atRecord f (recordNumber (extentOf f) rec) hf 0 (omega arith) (omega arith)) drive) f hf e rec v
+      time (rw (rest-atRecord f (recordNumber (extentOf f) rec) hf 0 (omega arith) (omega arith)) drive) f hf e rec v
       (subst (λ (x : ℕ). Holds G (viewOf G (d .drive .image) (d .drive .map)) x f e rec v) (sym (k .same)) (k .holds)) low refl
 
 -- ---- what an accepted write leaves
 pub record Wrote (G : Geometry) (d : Disk) (w : Request) : Type 0 where
-  pub ok : WriteOk G (w .asked .number) (d .session .user) (lentTo d w) (outcomeOf G d w .lent)
+  pub good : Good G (outcomeOf G d w .lent .drive .image) (outcomeOf G d w .lent .drive .map)
+  pub fcb : HandedBack (w .asked .number) (lentTo d w) (outcomeOf G d w .lent)
+  pub entry : ℕ
+  pub holds : Holds G (viewOf G (outcomeOf G d w .lent .drive .image) (outcomeOf G d w .lent .drive .map)) (d .session .user) (outcomeOf G d w .lent .fcb) entry
+      (targetRecord (w .asked .number) (w .fcb)) (w .buffer)
   pub drive : getD (w .fcb) 0 0 ≤ 1
   pub extent : targetExtent (w .asked .number) (w .fcb) < extents
   pub range : InRange G (d .session)
@@ -145,26 +152,36 @@ write-uses n = at-kind (λ (m : ℕ). (usesFcb m ≡ true) × (m ≡ 13 → ⊥)
 module _ {G : Geometry} (S : Sound G) (d : Disk) (w : Request) (writes : kindOf (w .asked .number) ≡ Write)
     (accepted : accepts G d w ≡ true) where
   pub wrote : Wrote G d w
-  unfolding outcomeOf effect
+  unfolding outcomeOf
   wrote =
       let c = accepted-carried G (w .asked) (lentTo d w) (d .session) accepted in
       let u = write-uses (w .asked .number) writes in
       let o = writes-by G (w .asked) (lentTo d w) (d .session) (c .facts .none) writes in
+      let g = ready-good (c .facts .ready) (u .1) in
+      let ok = written-ok S (w .asked .number) (lentTo d w) (d .session) g (c .facts .ready .fits) o in
+      let is : step G (w .asked) (lentTo d w) (d .session) ≡ stampedAs G (w .asked) (lentTo d w) (d .session) Write =
+      c .is ∙ stamped-as G (w .asked) (lentTo d w) (d .session) Write writes in
       record {
-        ok = rw (c .is, writes) (written-ok S (w .asked .number) (lentTo d w) (d .session) (ready-good (c .facts .ready) (u .1)) (c .facts .ready .fits) o);
+        good = step-accepted S (w .asked) (lentTo d w) (d .session) c;
+        fcb = subst (λ (x : Outcome). HandedBack (w .asked .number) (lentTo d w) (x .lent)) (sym is)
+            (let h = ok .fcb in record { long = h .long; first = h .first; name = h .name; extent = h .extent });
+        entry = entryOf (plan G (w .asked .number) (d .session .user) (lentTo d w));
+        holds = subst (λ (x : Outcome). Holds G (viewOf G (x .lent .drive .image) (x .lent .drive .map)) (d .session .user) (x .lent .fcb)
+            (entryOf (plan G (w .asked .number) (d .session .user) (lentTo d w))) (targetRecord (w .asked .number) (w .fcb)) (w .buffer))
+            (sym is) (holds-on S (w .asked) (lentTo d w) (d .session) (c .facts) g Write writes refl _ _ _ (w .buffer) (ok .holds));
         drive = c .facts .ready .drive (u .0);
         extent = o .extent;
         range = record { user = c .facts .ready .fits .user-low; place = c .facts .ready .fits .place-low };
       }
 
   -- the record that it wrote holds
-  wrote-kept : Kept G (after G d w) (d .session .user) (outcomeOf G d w .lent .fcb) (wrote .ok .entry) (targetRecord (w .asked .number) (w .fcb)) (w .buffer)
+  wrote-kept : Kept G (after G d w) (d .session .user) (outcomeOf G d w .lent .fcb) (wrote .entry) (targetRecord (w .asked .number) (w .fcb)) (w .buffer)
   unfolding after outcomeOf
   wrote-kept = record {
-    good = wrote .ok .change .good;
+    good = wrote .good;
     range = step-range G (w .asked) (lentTo d w) (d .session) (wrote .range);
     same = user-stays G d w (λ z. kinds-apart Write User refl (sym writes ∙ z));
-    holds = wrote .ok .holds;
+    holds = wrote .holds;
   }
 
 -- ---- demand 2
@@ -172,18 +189,18 @@ module _ {G : Geometry} (S : Sound G) (d : Disk) (w : Request) (writes : kindOf 
 unfoldable pub readFcb : Geometry → Disk → Request → Bytes
 readFcb G d w = atRecord (outcomeOf G d w .lent .fcb) (recordNumber (targetExtent (w .asked .number) (w .fcb)) (targetRecord (w .asked .number) (w .fcb)))
 
--- with any buffer of 128 bytes, and any argument
+-- with any buffer of 128 bytes, any argument and any time in BCD
 pub read-back : {G : Geometry} (S : Sound G) (d : Disk) (w : Request) → kindOf (w .asked .number) ≡ Write → accepts G d w ≡ true
     → (qs : List Request) → AllLeaveAlone G (outcomeOf G d w .lent .fcb) (after G d w) qs
-    → (asked : Asked) → asked .number ≡ 33 → (buffer : Bytes) → length buffer ≡ recordBytes
+    → (asked : Asked) → asked .number ≡ 33 → timeRight asked ≡ true → (buffer : Bytes) → length buffer ≡ recordBytes
     → Gives (outcomeOf G (run G (after G d w) qs) (record { asked = asked; fcb = readFcb G d w; buffer = buffer })) (w .buffer)
 unfolding readFcb
-read-back {G} S d w writes accepted qs alone asked n buffer hb =
+read-back {G} S d w writes accepted qs alone asked n time buffer hb =
     let k = wrote S d w writes accepted in
     let f : Bytes = outcomeOf G d w .lent .fcb in
     let rec : ℕ = targetRecord (w .asked .number) (w .fcb) in
-    let x : extentOf f ≡ targetExtent (w .asked .number) (w .fcb) = k .ok .fcb .extent in
+    let x : extentOf f ≡ targetExtent (w .asked .number) (w .fcb) = k .fcb .extent in
     subst (λ (i : ℕ). Gives (outcomeOf G (run G (after G d w) qs) (record { asked = asked; fcb = atRecord f (recordNumber i rec); buffer = buffer })) (w .buffer)) x
-    (kept-read S (d .session .user) f (k .ok .fcb .long) (k .ok .entry) rec (w .buffer) (run G (after G d w) qs)
-    (kept-run S (d .session .user) f (k .ok .fcb .long) (k .ok .entry) rec (w .buffer) (after G d w) qs alone (wrote-kept S d w writes accepted))
-    (rw (k .ok .fcb .first) (k .drive)) (rw x (k .extent)) asked n buffer hb)
+    (kept-read S (d .session .user) f (k .fcb .long) (k .entry) rec (w .buffer) (run G (after G d w) qs)
+    (kept-run S (d .session .user) f (k .fcb .long) (k .entry) rec (w .buffer) (after G d w) qs alone (wrote-kept S d w writes accepted))
+    (rw (k .fcb .first) (k .drive)) (rw x (k .extent)) asked n time buffer hb)

@@ -16,11 +16,13 @@ use Rattle.facts.specs.Counts.{fcb-count-there}
 use Rattle.model.specs.declared.Asked.{Asked}
 use Rattle.model.specs.declared.Session.{Session}
 use Rattle.model.specs.declared.Plan.{Plan}
+use Rattle.model.specs.declared.Kind.the-variants.{Read}
 use Rattle.model.specs.Lent.{Lent, Outcome}
 use Rattle.model.specs.Entering.{threeBytes}
 use Rattle.model.specs.Target.{targetExtent, targetRecord, targetSlot, presentEntry, stays, blockThere, countThere, recordThere, plan, placeIn, haveRead}
 use Rattle.model.specs.Calls.{readAt, reading, read}
-use Rattle.model.specs.Step.{effect, step}
+use Rattle.model.specs.Step.{step}
+use Rattle.model.specs.Table.{timeRight}
 use Rattle.current.specs.Current.{fcb-says}
 use Rattle.fields.specs.Agree.{Agree, SameName, name-cong, slot-cong, extent-cong, count-cong}
 use Rattle.fields.specs.Numbers.{below-three, length-three, random-three}
@@ -37,6 +39,7 @@ use Rattle.invariant.specs.Good.{Good, good-consistent, good-right}
 use Rattle.effects.specs.View.{View, viewOf}
 use Rattle.effects.specs.Cur.{Cur, cur-current, Holds, recSlot}
 use Rattle.effects.specs.Entered.{right-like, like-cur}
+use Rattle.demands.specs.Stamped.{stampedAs, stamped-as}
 
 -- the FCB with r0 to r2 set
 unfoldable pub atRecord : Bytes → ℕ → Bytes
@@ -89,7 +92,7 @@ pub record Gives (o : Outcome) (v : Bytes) : Type 0 where
   pub is-buffer : o .lent .buffer ≡ v
 
 module _ {G : Geometry} (S : Sound G) (asked : Asked) (number : asked .number ≡ 33) (l : Lent) (s : Session) (g : Good G (l .drive .image) (l .drive .map)) (fits : Fits G l s)
-    (drive : getD (l .fcb) 0 0 ≤ 1) (f : Bytes) (hf : length f ≡ fcbBytes) (e rec : ℕ) (v : Bytes)
+    (time : timeRight asked ≡ true) (drive : getD (l .fcb) 0 0 ≤ 1) (f : Bytes) (hf : length f ≡ fcbBytes) (e rec : ℕ) (v : Bytes)
     (h : Holds G (viewOf G (l .drive .image) (l .drive .map)) (s .user) f e rec v) (low : extentOf f < extents)
     (is : l .fcb ≡ atRecord f (recordNumber (extentOf f) rec)) where
   at : presentEntry G (s .user) l ≡ At e
@@ -142,8 +145,10 @@ module _ {G : Geometry} (S : Sound G) (asked : Asked) (number : asked .number �
   }
 
   ready : Ready G (calling 33 asked) l s
+  unfolding timeRight
   ready = record {
     fits = fits;
+    time = time;
     drive = λ u. drive;
     image-right = good-consistent G (l .drive .image) (l .drive .map) g;
     map-right = λ q. good-right G (l .drive .image) (l .drive .map) g;
@@ -158,11 +163,11 @@ module _ {G : Geometry} (S : Sound G) (asked : Asked) (number : asked .number �
   got p (move k t b q go target w) = not-both (stays 33 (l .fcb)) stays-there go
   got p (make k t b q go none room w) = not-both (stays 33 (l .fcb)) stays-there go
 
-  step-is : step G asked l s ≡ read G s l 33
-  unfolding step effect isCall kindOf
+  step-is : step G asked l s ≡ stampedAs G (calling 33 asked) l s Read
+  unfolding isCall kindOf
   step-is =
       ap (λ (n : ℕ). step G (calling n asked) l s) number
-      ∙ step-carried G (calling 33 asked) l s refl ready (reads-right G asked l s reads)
+      ∙ step-carried G (calling 33 asked) l s refl ready (reads-right G asked l s reads) ∙ stamped-as G (calling 33 asked) l s Read refl
 
   pub reads-back : Gives (step G asked l s) v
   unfolding read

@@ -7,7 +7,8 @@ use Rattle.model.specs.declared.Asked.{Asked}
 use Rattle.model.specs.declared.Session.{Session}
 use Rattle.model.specs.Lent.{Drive, Lent, Outcome}
 use Rattle.model.specs.Step.{step}
-use Rattle.effects.specs.Book.{Book, acceptedAnswer, bookStep}
+use Rattle.table.specs.Accepted.{acceptedAnswer}
+use Rattle.effects.specs.Book.{Book, bookStep}
 
 pub record Request : Type 0 where
   pub asked : Asked

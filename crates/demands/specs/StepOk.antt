@@ -1,14 +1,13 @@
 -- What every call does to what it does not name, to the bytes of the image, and to the book: one record, for all seventeen calls and for
--- calls that are refused.
+-- calls that are refused. Here stands what the own rule of each call does; `Stamped` joins it with the stamps.
 use mathlib.Core.Path.{_≡_, refl, ap, sym, _∙_, subst}
 use mathlib.Core.Logic.{inl}
 use mathlib.Core.Bool.{true, false}
 use Prim.Native.Nat.{ℕ}
-use native.Mathlib.Omega.{arith}
 use lib.Dec.{eqb}
 use lib.ListN.{length}
 use borrow.Author.Tests.{eq-eqb, ne-eqb}
-use Rattle.lists.specs.Cases.{split, bool-cases, eq-or-ne, not-both, clash}
+use Rattle.lists.specs.Cases.{split, bool-cases, eq-or-ne, clash}
 use Rattle.lists.specs.Tests.{and-both, or-left}
 use Rattle.format.specs.Diskette.{Bytes, Geometry, Sound}
 use Rattle.format.specs.Entries.{slotOf, exOf, runOf, named}
@@ -21,37 +20,35 @@ use Rattle.model.specs.declared.Asked.{Asked}
 use Rattle.model.specs.declared.Session.{Session}
 use Rattle.model.specs.Lent.{Lent, rowsOf, Outcome}
 use Rattle.model.specs.Naming.{names}
-use Rattle.model.specs.Table.{askedEntry, table, verdict}
+use Rattle.model.specs.Table.{askedEntry}
 use Rattle.model.specs.Entering.{madeRow}
 use Rattle.model.specs.Target.{targetRecord, targetSlot}
 use Rattle.model.specs.Kinds.{kindOf, usesFcb, wild, same}
 use Rattle.model.specs.declared.Kind.{Kind}
 use Rattle.model.specs.declared.Kind.the-variants.{Unlisted, Quiet, Search, User, Settle, Close, Delete, Create, Rename, Read, Write}
 use Rattle.model.specs.Calls.{loggedIn, freed, userSet, closedAt, closed, foundAt, searched, deletes, deleted, createdAt, created, renamed, read, written}
-use Rattle.model.specs.Step.{settled, does, effect, step}
+use Rattle.model.specs.Step.{settled, does}
 use Rattle.fields.specs.Making.{length-madeRow, user-made, name-made, slot-made, extent-made}
 use Rattle.fields.specs.Fine.{fine-made}
 use Rattle.facts.specs.Naming.{named-intro, file-intro}
-use Rattle.table.specs.Own.{at-kind, same-is, not-unlisted}
+use Rattle.table.specs.Own.{at-kind, not-unlisted}
 use Rattle.consistency.specs.Naming.{named-used}
-use Rattle.table.specs.First.{_&_, decides-refused}
-use Rattle.table.specs.Refuse.{never-bad-disk}
+use Rattle.table.specs.First.{_&_}
 use Rattle.table.specs.Facts.{Fits, Closes, Makes, Renames, Ready, AcceptedCall}
 use Rattle.table.specs.Accept.{closes-of, makes-of, renames-of, reads-of, writes-by}
-use Rattle.table.specs.Total.{CarriedOut, total}
-use Rattle.invariant.specs.Good.{Good, good-of, good-consistent, good-right}
+use Rattle.table.specs.Accepted.{acceptedAnswer}
+use Rattle.invariant.specs.Good.{Good, good-of}
 use Rattle.invariant.specs.Updates.{good-fresh, good-freed}
 use Rattle.effects.specs.View.{viewOf}
 use Rattle.effects.specs.Effect.{Effect, Keeps, nothing-done, nothing-kept}
-use Rattle.effects.specs.Where.{Frame, same-frame, WritesNone, OneRecord, one-more}
-use Rattle.effects.specs.Book.{Book, nothingHeld, settledBy, acceptedAnswer, closedBook, movedBook, deletedBook, writtenBook, bookBy, bookStep}
+use Rattle.effects.specs.Where.{Bytewise, Frame, same-frame, WritesNone, OneRecord, one-more}
+use Rattle.effects.specs.Book.{Book, nothingHeld, settledBy, closedBook, movedBook, deletedBook, writtenBook, bookBy, bookStep}
 use Rattle.effects.specs.Tracks.{Tracks, fresh-tracks, freed-tracks}
 use Rattle.effects.specs.Change.{Change, asItWas, no-change, as-change}
 use Rattle.effects.specs.Closed.{byName, closed-change}
 use Rattle.effects.specs.Picked.{erased-change, renamed-change, made-change}
 use Rattle.effects.specs.Came.{present-cur, present-before}
 use Rattle.effects.specs.Write.{OneOf, WriteOk, ReadOk, written-ok, reads-ok}
-use Rattle.demands.specs.Accepted.{refused-says, carried-says}
 
 -- the disk records that a call may write: for an accepted 21 or 34 the one record of its target, in the block that the FCB handed back
 -- has for it, which was free before or belonged to an entry of the file; for any other call none
@@ -74,9 +71,9 @@ abbrev pub GoodOutcome : Geometry → Outcome → Type 0
 GoodOutcome G o = Good G (o .lent .drive .image) (o .lent .drive .map)
 
 -- a call that was carried out leaves image and map good
-record CarriedOk (G : Geometry) (n : ℕ) (l : Lent) (s : Session) (o : Outcome) : Type 0 where
-  ok : StepOk G n l s o
-  good : GoodOutcome G o
+pub record CarriedOk (G : Geometry) (n : ℕ) (l : Lent) (s : Session) (o : Outcome) : Type 0 where
+  pub ok : StepOk G n l s o
+  pub good : GoodOutcome G o
 
 -- ---- a call that is refused
 refused-book : (G : Geometry) (n : ℕ) (l : Lent) (s : Session) (o : Outcome) (u : Book) → acceptedAnswer n (o .answer) ≡ false → bookStep G n l s o u ≡ u
@@ -88,7 +85,7 @@ accepted-book : (G : Geometry) (n : ℕ) (l : Lent) (s : Session) (o : Outcome) 
 unfolding bookStep
 accepted-book G n l s o u t = rw t
 
-refused-ok : (G : Geometry) (n : ℕ) (l : Lent) (s : Session) (o : Outcome) → o .lent ≡ l → acceptedAnswer n (o .answer) ≡ false → StepOk G n l s o
+pub refused-ok : (G : Geometry) (n : ℕ) (l : Lent) (s : Session) (o : Outcome) → o .lent ≡ l → acceptedAnswer n (o .answer) ≡ false → StepOk G n l s o
 refused-ok G n l s o q f = record {
   effect = rw q (nothing-done G (viewOf G (l .drive .image) (l .drive .map)) (names n (s .user) (l .fcb)));
   keeps = λ w. rw q (nothing-kept G (viewOf G (l .drive .image) (l .drive .map)) (names n (s .user) (l .fcb)));
@@ -98,19 +95,23 @@ refused-ok G n l s o q f = record {
 }
 
 -- ---- a call that is carried out
-abbrev Carries : Geometry → ℕ → Lent → Session → Outcome → Type 0
+abbrev pub Carries : Geometry → ℕ → Lent → Session → Outcome → Type 0
 Carries G n l s o =
     Change G (names n (s .user) (l .fcb)) (MayWrite G n l s o) (bookBy G n (s .user) l (o .lent)) (l .drive .image) (l .drive .map) (o .lent .drive .image) (o .lent .drive .map)
 
-carries-ok : (G : Geometry) (n : ℕ) (l : Lent) (s : Session) (o : Outcome) → Fits G l s → acceptedAnswer n (o .answer) ≡ true → Carries G n l s o → CarriedOk G n l s o
-carries-ok G n l s o f a c = record {
-  good = c .good;
+pub carries-ok : (G : Geometry) (n : ℕ) (l : Lent) (s : Session) (o : Outcome) → Fits G l s → acceptedAnswer n (o .answer) ≡ true
+    → Effect G (viewOf G (l .drive .image) (l .drive .map)) (viewOf G (o .lent .drive .image) (o .lent .drive .map)) (names n (s .user) (l .fcb))
+    → Keeps G (viewOf G (l .drive .image) (l .drive .map)) (viewOf G (o .lent .drive .image) (o .lent .drive .map)) (names n (s .user) (l .fcb))
+    → Bytewise G (l .drive .image) (o .lent .drive .image) (names n (s .user) (l .fcb)) (MayWrite G n l s o) → GoodOutcome G o
+    → ((u : Book) → Tracks G u (noteAt (l .drive .map)) → Tracks G (bookBy G n (s .user) l (o .lent) u) (noteAt (o .lent .drive .map))) → CarriedOk G n l s o
+carries-ok G n l s o f a effect keeps bytes good book = record {
+  good = good;
   ok = record {
-    effect = c .effect;
-    keeps = λ w. c .keeps;
-    frame = record { byte = c .frame; one-new = c .effect .one-new; image-length = c .good .image-long ∙ sym (f .image-long) };
-    map-length = c .good .map-long ∙ sym (f .map-long);
-    book = λ u t b h. ap (λ (v : Book). v b) (accepted-book G n l s o u a) ∙ c .book u t b h;
+    effect = effect;
+    keeps = λ w. keeps;
+    frame = record { byte = bytes; one-new = effect .one-new; image-length = good .image-long ∙ sym (f .image-long) };
+    map-length = good .map-long ∙ sym (f .map-long);
+    book = λ u t b h. ap (λ (v : Book). v b) (accepted-book G n l s o u a) ∙ book u t b h;
   };
 }
 
@@ -135,14 +136,30 @@ names-by : (n user : ℕ) (fcb r : Bytes) → length fcb ≡ fcbBytes → usesFc
 unfolding names
 names-by n user fcb r hf u h = and-both _ _ (eq-eqb _ _ hf) (and-both _ _ u (or-left _ _ h))
 
-names-plain : (n user : ℕ) (fcb : Bytes) → length fcb ≡ fcbBytes → usesFcb n ≡ true → wild n ≡ false
+pub names-plain : (n user : ℕ) (fcb : Bytes) → length fcb ≡ fcbBytes → usesFcb n ≡ true → wild n ≡ false
     → (r : Bytes) → byName user fcb r ≡ true → names n user fcb r ≡ true
 names-plain n user fcb hf u o r h = names-by n user fcb r hf u (rw o h)
 
 -- a call that goes by the name in the FCB
-record Named (n : ℕ) : Type 0 where
-  uses : usesFcb n ≡ true
-  plain : wild n ≡ false
+pub record Named (n : ℕ) : Type 0 where
+  pub uses : usesFcb n ≡ true
+  pub plain : wild n ≡ false
+
+pub named-close : (n : ℕ) → kindOf n ≡ Close → Named n
+unfolding usesFcb wild
+named-close n q = at-kind Named Close n refl (record { uses = refl; plain = refl } & tt) q
+
+pub named-create : (n : ℕ) → kindOf n ≡ Create → Named n
+unfolding usesFcb wild
+named-create n q = at-kind Named Create n refl (record { uses = refl; plain = refl } & tt) q
+
+pub named-read : (n : ℕ) → kindOf n ≡ Read → Named n
+unfolding usesFcb wild
+named-read n q = at-kind Named Read n refl (record { uses = refl; plain = refl } & record { uses = refl; plain = refl } & tt) q
+
+pub named-write : (n : ℕ) → kindOf n ≡ Write → Named n
+unfolding usesFcb wild
+named-write n q = at-kind Named Write n refl (record { uses = refl; plain = refl } & record { uses = refl; plain = refl } & tt) q
 
 -- ---- call by call
 module _ {G : Geometry} (S : Sound G) (l : Lent) (s : Session) (f : Fits G l s) (g : Good G (l .drive .image) (l .drive .map)) where
@@ -164,27 +181,27 @@ module _ {G : Geometry} (S : Sound G) (l : Lent) (s : Session) (f : Fits G l s) 
 
   -- 16
   closed-carries : (n : ℕ) → kindOf n ≡ Close → Closes G l s → Carries G n l s (closed G s l)
-  unfolding closed closedAt closedBook bookBy usesFcb wild
+  unfolding closed closedAt closedBook bookBy
   closed-carries n q c =
       let e : ℕ = c .entry .place in
-      let m = at-kind Named Close n refl (record { uses = refl; plain = refl } & tt) q in
+      let m = named-close n q in
       rw (c .entry .is)
       (by-name n (closedAt G s l e) (settledBy G (rowsOf G l e) (l .fcb)) (m .uses) (m .plain) (λ u. rw (q, present-before S n l s g f e (c .entry .is) WritesNone))
       (closed-change S (l .drive .image) (l .drive .map) g (s .user) (f .user-low) (l .fcb) e (present-cur S n l s g f e (c .entry .is) WritesNone) WritesNone))
 
   -- 20 and 33
-  read-carries : (n : ℕ) → kindOf n ≡ Read → ReadOk G n (s .user) l (read G s l n .lent) → Carries G n l s (read G s l n)
-  unfolding bookBy usesFcb wild
-  read-carries n q r =
-      let m = at-kind Named Read n refl (record { uses = refl; plain = refl } & record { uses = refl; plain = refl } & tt) q in
+  read-carries : (n : ℕ) → kindOf n ≡ Read → (t : ℕ) → ReadOk G n (s .user) l (read G s l n .lent) t → Carries G n l s (read G s l n)
+  unfolding bookBy
+  read-carries n q t r =
+      let m = named-read n q in
       by-name n (read G s l n) (movedBook G n (s .user) l) (m .uses) (m .plain) (λ u. rw q) (r .change)
 
   -- 21 and 34
-  written-carries : (n : ℕ) → kindOf n ≡ Write → acceptedAnswer n (written G s l n .answer) ≡ true → WriteOk G n (s .user) l (written G s l n .lent)
+  written-carries : (n : ℕ) → kindOf n ≡ Write → acceptedAnswer n (written G s l n .answer) ≡ true → (t : ℕ) → WriteOk G n (s .user) l (written G s l n .lent) t
       → Carries G n l s (written G s l n)
-  unfolding bookBy usesFcb wild
-  written-carries n q a r =
-      let m = at-kind Named Write n refl (record { uses = refl; plain = refl } & record { uses = refl; plain = refl } & tt) q in
+  unfolding bookBy
+  written-carries n q a t r =
+      let m = named-write n q in
       let more = names-plain n (s .user) (l .fcb) (f .fcb-long) (m .uses) (m .plain) in
       as-change G (byName (s .user) (l .fcb)) (names n (s .user) (l .fcb)) (OneOf G n (s .user) l (written G s l n .lent)) (MayWrite G n l s (written G s l n))
       (writtenBook G n (s .user) l (written G s l n .lent)) (bookBy G n (s .user) l (written G s l n .lent)) (l .drive .image) (l .drive .map)
@@ -209,12 +226,12 @@ module _ {G : Geometry} (S : Sound G) (l : Lent) (s : Session) (f : Fits G l s) 
 
   -- 22
   created-carries : (n : ℕ) → kindOf n ≡ Create → Makes G l s → Carries G n l s (created G s l)
-  unfolding created createdAt askedEntry bookBy usesFcb wild
+  unfolding created createdAt askedEntry bookBy
   created-carries n q m =
       let t : ℕ = m .entry .place in
       let row : Bytes = madeRow (s .user) (l .fcb) in
       let found = empty-says G (rowsOf G l) t (m .entry .is) in
-      let k = at-kind Named Create n refl (record { uses = refl; plain = refl } & tt) q in
+      let k = named-create n q in
       let nm = named-intro false (s .user) (l .fcb) 1 row (user-made (s .user) (l .fcb)) (like-intro (l .fcb) 1 row 1 (λ i h. sym (name-made (s .user) (l .fcb) i h))) in
       rw (m .entry .is)
       (by-name n (createdAt G s l t) asItWas (k .uses) (k .plain) (λ u. rw q)
@@ -235,7 +252,7 @@ module _ {G : Geometry} (S : Sound G) (l : Lent) (s : Session) (f : Fits G l s) 
   user-lent argument = split (bool-cases (eqb argument 255)) (λ t. rw t) (λ t. rw t)
 
   -- every kind but the settling calls
-  carried : (asked : Asked) → AcceptedCall G asked l s → (k : Kind) → kindOf (asked .number) ≡ k → same k Settle ≡ false
+  pub carried : (asked : Asked) → AcceptedCall G asked l s → (k : Kind) → kindOf (asked .number) ≡ k → same k Settle ≡ false
       → acceptedAnswer (asked .number) (does G asked l s k .answer) ≡ true → Carries G (asked .number) l s (does G asked l s k)
   unfolding searched foundAt bookBy
   carried asked c Unlisted q z a = not-unlisted (asked .number) (c .listed) q
@@ -247,8 +264,8 @@ module _ {G : Geometry} (S : Sound G) (l : Lent) (s : Session) (f : Fits G l s) 
   carried asked c Delete q z a = deleted-carries (asked .number) q
   carried asked c Create q z a = created-carries (asked .number) q (makes-of G asked l s (c .none) q)
   carried asked c Rename q z a = renamed-carries (asked .number) q (renames-of G asked l s (c .none) q)
-  carried asked c Read q z a = read-carries (asked .number) q (reads-ok S (asked .number) l s g f (reads-of G asked l s (c .none) (c .ready .image-right) (f .user-low) q))
-  carried asked c Write q z a = written-carries (asked .number) q a (written-ok S (asked .number) l s g f (writes-by G asked l s (c .none) q))
+  carried asked c Read q z a = read-carries (asked .number) q _ (reads-ok S (asked .number) l s g f (reads-of G asked l s (c .none) (c .ready .image-right) (f .user-low) q))
+  carried asked c Write q z a = written-carries (asked .number) q a _ (written-ok S (asked .number) l s g f (writes-by G asked l s (c .none) q))
 
 -- 13 leaves the fresh map, 98 one without pending notes: nothing is held
 pub logged-in-tracks : (G : Geometry) (l : Lent) (s : Session) → Tracks G nothingHeld (noteAt (loggedIn G s l .lent .drive .map))
@@ -263,7 +280,7 @@ freed-settles G l s = freed-tracks G (noteAt (l .drive .map)) (noteAt (freedMap 
 pub ready-good : {G : Geometry} {asked : Asked} {l : Lent} {s : Session} → Ready G asked l s → (asked .number ≡ 13 → ⊥) → Good G (l .drive .image) (l .drive .map)
 ready-good {G} {asked} {l} {s} r q = good-of G (l .drive .image) (l .drive .map) (r .fits .image-long) (r .fits .map-long) (r .image-right) (r .map-right q)
 
-settles : (G : Geometry) (asked : Asked) (l : Lent) (s : Session) → Ready G asked l s → kindOf (asked .number) ≡ Settle
+pub settles : (G : Geometry) (asked : Asked) (l : Lent) (s : Session) → Ready G asked l s → kindOf (asked .number) ≡ Settle
     → acceptedAnswer (asked .number) (settled G asked l s .answer) ≡ true → CarriedOk G (asked .number) l s (settled G asked l s)
 unfolding settled loggedIn freed
 settles G asked l s r q =
@@ -272,48 +289,3 @@ settles G asked l s r q =
     (settles-ok G (asked .number) l s (loggedIn G s l) (r .fits) q refl (good-fresh G (l .drive .image) (r .fits .image-long) (r .image-right)) (logged-in-tracks G l s)))
     (λ e. rw (ne-eqb (asked .number) 13 e)
     (settles-ok G (asked .number) l s (freed G s l) (r .fits) q refl (good-freed G (l .drive .image) (l .drive .map) (ready-good r e)) (freed-settles G l s)))
-
--- ---- every call
-not-login : (n : ℕ) (k : Kind) → kindOf n ≡ k → same k Settle ≡ false → n ≡ 13 → ⊥
-unfolding kindOf
-not-login n k q z e = not-both (same k Settle) (ap (λ (j : Kind). same j Settle) (sym q ∙ ap kindOf e)) z
-
-module _ {G : Geometry} (S : Sound G) (asked : Asked) (l : Lent) (s : Session) where
-  -- a call of this kind, where its answer says that it was accepted
-  abbrev CarriedBy : Kind → Type 0
-  CarriedBy k = acceptedAnswer (asked .number) (does G asked l s k .answer) ≡ true → CarriedOk G (asked .number) l s (does G asked l s k)
-
-  carried-ok : CarriedOut G asked l s → CarriedOk G (asked .number) l s (step G asked l s)
-  unfolding effect
-  carried-ok c =
-      subst (CarriedOk G (asked .number) l s) (sym (c .is))
-      (go (kindOf (asked .number)) refl (ap (λ (o : Outcome). acceptedAnswer (asked .number) (o .answer)) (sym (c .is)) ∙ carried-says G asked l s c))
-    where
-      go : (k : Kind) → kindOf (asked .number) ≡ k → CarriedBy k
-      go k q a =
-          let ready = c .facts .ready in
-          split (bool-cases (same k Settle)) (λ z. let e = same-is k Settle z in subst CarriedBy (sym e) (settles G asked l s ready (q ∙ e)) a)
-          (λ z. carries-ok G (asked .number) l s (does G asked l s k) (ready .fits) a
-          (carried S l s (ready .fits) (ready-good ready (not-login (asked .number) k q z)) asked (c .facts) k q z a))
-
-  pub step-ok : StepOk G (asked .number) l s (step G asked l s)
-  step-ok =
-      split (total G asked l s)
-      (λ r. refused-ok G (asked .number) l s (step G asked l s) (r .1 .kept) (refused-says G asked l s (r .0) (r .1)))
-      (λ c. carried-ok c .ok)
-
-  -- ---- image and map stay good, and are good after every call that was carried out, since the table has looked
-  pub step-accepted : CarriedOut G asked l s → GoodOutcome G (step G asked l s)
-  step-accepted c = carried-ok c .good
-
-  pub step-good : Good G (l .drive .image) (l .drive .map) → GoodOutcome G (step G asked l s)
-  step-good g = split (total G asked l s) (λ r. subst (λ (t : Lent). Good G (t .drive .image) (t .drive .map)) (sym (r .1 .kept)) g) (λ c. step-accepted c)
-
--- they are never refused with 255, 1
-pub good-never-one : (G : Geometry) (asked : Asked) (l : Lent) (s : Session) → Good G (l .drive .image) (l .drive .map) → step G asked l s .answer .h ≡ 1 → ⊥
-unfolding verdict
-good-never-one G asked l s g q =
-    split (total G asked l s)
-    (λ r. never-bad-disk G asked l s (r .0) (sym (r .1 .is-h) ∙ q) (good-consistent G (l .drive .image) (l .drive .map) g) (good-right G (l .drive .image) (l .drive .map) g)
-    (decides-refused (r .0) (table G asked l s) (r .1 .row)))
-    (λ c. let z : 0 ≡ 1 = sym (c .done .no-error) ∙ q in omega arith)

@@ -16,10 +16,10 @@ use Rattle.model.specs.declared.Asked.{Asked}
 use Rattle.model.specs.declared.Session.{Session}
 use Rattle.model.specs.Lent.{Lent, rowsOf, Outcome}
 use Rattle.model.specs.Entering.{madeRow}
-use Rattle.model.specs.Target.{presentEntry}
+use Rattle.model.specs.Target.{presentEntry, plan}
 use Rattle.model.specs.Kinds.{oneOf, kindOf, same}
 use Rattle.model.specs.declared.Kind.{Kind}
-use Rattle.model.specs.declared.Kind.the-variants.{Quiet, User, Close, Create, Read, Write}
+use Rattle.model.specs.declared.Kind.the-variants.{Quiet, User, Settle, Close, Create, Read, Write}
 use Rattle.model.specs.Table.{askedEntry}
 use Rattle.model.specs.Calls.{quietly, openedAt, opened, closedAt, closed, createdAt, created, read, written}
 use Rattle.fields.specs.Fine.{fine-made}
@@ -27,10 +27,11 @@ use Rattle.fields.specs.Making.{length-madeRow, user-made}
 use Rattle.facts.specs.Naming.{file-user, file-run}
 use Rattle.consistency.specs.Naming.{file-used}
 use Rattle.table.specs.First.{_&_}
+use Rattle.table.specs.Plans.{entryOf}
 use Rattle.table.specs.Own.{calling, at-one, told-apart, kinds-apart}
 use Rattle.table.specs.Accept.{opens-of, closes-of, makes-of, reads-of, writes-by}
 use Rattle.table.specs.Facts.{Fits, Opens, Closes, Makes, Reads, Writes, AcceptedCall}
-use Rattle.model.specs.Step.{told, effect}
+use Rattle.model.specs.Step.{told, does, stamped}
 use Rattle.invariant.specs.Good.{Good}
 use Rattle.effects.specs.View.{viewOf}
 use Rattle.effects.specs.Cur.{Cur, cur-current}
@@ -38,8 +39,9 @@ use Rattle.effects.specs.Where.{WritesNone}
 use Rattle.effects.specs.Entered.{entered-cur, copied-cur, closed-cur}
 use Rattle.effects.specs.Came.{present-cur}
 use Rattle.effects.specs.Write.{written-ok, reads-ok}
-use Rattle.demands.specs.Accepted.{accepted-carried}
-use Rattle.demands.specs.StepOk.{ready-good, step-accepted}
+use Rattle.table.specs.Accepted.{accepted-carried}
+use Rattle.demands.specs.StepOk.{ready-good}
+use Rattle.demands.specs.Stamped.{stamped-as, cur-on, step-accepted}
 use Rattle.demands.specs.Runs.{Request, Disk, lentTo, outcomeOf, accepts, after}
 use Rattle.demands.specs.ReadBack.{user-stays}
 
@@ -97,26 +99,35 @@ module _ {G : Geometry} (S : Sound G) (asked : Asked) (l : Lent) (s : Session) (
 
   -- 20 and 33
   read-current : (n : ℕ) → Reads G l s n → CurrentIn G (s .user) (read G s l n .lent)
-  read-current n o = let k = reads-ok S n l s g f o in record { entry = k .entry; cur = k .cur }
+  read-current n o = record { entry = entryOf (plan G n (s .user) l); cur = reads-ok S n l s g f o .cur }
 
   -- 21 and 34
   written-current : (n : ℕ) → Writes G l s n → CurrentIn G (s .user) (written G s l n .lent)
-  written-current n o = let k = written-ok S n l s g f o in record { entry = k .entry; cur = k .holds .cur }
+  written-current n o = record { entry = entryOf (plan G n (s .user) l); cur = written-ok S n l s g f o .holds .cur }
 
   -- by the number of the call
   abbrev LeavesCurrent : ℕ → Type 0
   LeavesCurrent n =
-      (oneOf n (15 ∷ 22 ∷ []) ≡ true → crOf (l .fcb) ≤ 128) → AcceptedCall G (calling n asked) l s → CurrentIn G (s .user) (effect G (calling n asked) l s .lent)
+      (oneOf n (15 ∷ 22 ∷ []) ≡ true → crOf (l .fcb) ≤ 128) → AcceptedCall G (calling n asked) l s → CurrentIn G (s .user) (stamped G (calling n asked) l s .lent)
+
+  -- and the stamps leave it current
+  on : (n : ℕ) (k : Kind) → kindOf n ≡ k → same k Settle ≡ false → AcceptedCall G (calling n asked) l s → CurrentIn G (s .user) (does G (calling n asked) l s k .lent)
+      → CurrentIn G (s .user) (stamped G (calling n asked) l s .lent)
+  on n k q z c h =
+      subst (λ (o : Outcome). CurrentIn G (s .user) (o .lent)) (sym (stamped-as G (calling n asked) l s k q))
+      record { entry = h .entry; cur = cur-on S (calling n asked) l s c g k q z _ (h .entry) (h .cur) }
 
   current-in : (n : ℕ) → oneOf n currentCalls ≡ true → LeavesCurrent n
-  unfolding effect kindOf told
+  unfolding kindOf told
   current-in n z =
       at-one LeavesCurrent n currentCalls z
-      ((λ cr o. opened-current (cr refl) (opens-of G asked l s (o .none))) & (λ cr o. closed-current (closes-of G (calling 16 asked) l s (o .none) refl))
-      & (λ cr o. read-current 20 (reads-of G (calling 20 asked) l s (o .none) (o .ready .image-right) (f .user-low) refl))
-      & (λ cr o. written-current 21 (writes-by G (calling 21 asked) l s (o .none) refl)) & (λ cr o. created-current (cr refl) (makes-of G (calling 22 asked) l s (o .none) refl))
-      & (λ cr o. read-current 33 (reads-of G (calling 33 asked) l s (o .none) (o .ready .image-right) (f .user-low) refl))
-      & (λ cr o. written-current 34 (writes-by G (calling 34 asked) l s (o .none) refl)) & tt)
+      ((λ cr o. on 15 Quiet refl refl o (opened-current (cr refl) (opens-of G asked l s (o .none))))
+      & (λ cr o. on 16 Close refl refl o (closed-current (closes-of G (calling 16 asked) l s (o .none) refl)))
+      & (λ cr o. on 20 Read refl refl o (read-current 20 (reads-of G (calling 20 asked) l s (o .none) (o .ready .image-right) (f .user-low) refl)))
+      & (λ cr o. on 21 Write refl refl o (written-current 21 (writes-by G (calling 21 asked) l s (o .none) refl)))
+      & (λ cr o. on 22 Create refl refl o (created-current (cr refl) (makes-of G (calling 22 asked) l s (o .none) refl)))
+      & (λ cr o. on 33 Read refl refl o (read-current 33 (reads-of G (calling 33 asked) l s (o .none) (o .ready .image-right) (f .user-low) refl)))
+      & (λ cr o. on 34 Write refl refl o (written-current 34 (writes-by G (calling 34 asked) l s (o .none) refl))) & tt)
 
 no-user : (k : Kind) → same k User ≡ false → k ≡ User → ⊥
 no-user k f q = kinds-apart k User f q

@@ -75,6 +75,8 @@ eight-sound = record {
   area-below = omega arith;
   image-holds = λ d h. eight-place d (omega arith);
   slots-hold = eight-slots;
+  fours = refl;
+  some-entry = omega arith;
 }
 
 -- the last six logical sectors of track 76, as the disk records past the last block's: they lie in the image, and no record of a

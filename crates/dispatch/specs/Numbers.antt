@@ -1,20 +1,17 @@
 -- A call's number is one of those that the list of calls has of its kind: where all but one of them are ruled out, it is that one.
 use mathlib.Core.Path.{_≡_, refl, sym, ap, _∙_}
-use mathlib.Core.Logic.{_⊎_, inl, inr}
 use mathlib.Core.Bool.{Bool, true, false, cond}
 use mathlib.Core.List.{List, [], _∷_}
 use Prim.Native.Nat.{ℕ}
 use lib.Dec.{eqb}
-use denote.Enum.Declared.{tagOf}
-use borrow.Author.Tests.{eq-eqb, eqb-true}
+use borrow.Author.Tests.{eqb-true}
 use Rattle.lists.specs.Cases.{split, bool-cases}
 use Rattle.format.specs.Diskette.{eightInch}
 use Rattle.model.specs.declared.Asked.{Asked}
 use Rattle.model.specs.declared.Session.{Session}
 use Rattle.model.specs.declared.Kind.{Kind}
-use Rattle.model.specs.declared.Kind.the-variants.{Unlisted, Quiet, Search, User, Settle, Close, Delete, Create, Rename, Read, Write}
-use Rattle.model.proofs.Kind.{the-type}
-use Rattle.model.specs.Kinds.{Listed, calls, lineIn, kindOf, kindNumber, same, ofRecord}
+use Rattle.model.specs.declared.Kind.the-variants.{Unlisted}
+use Rattle.model.specs.Kinds.{Listed, calls, lineIn, kindOf, same}
 use Rattle.model.specs.Lent.{Lent, Outcome}
 use Rattle.table.specs.Own.{calling, same-self}
 use Rattle.table.specs.OwnStep.{ownStep, own-at}
@@ -50,22 +47,3 @@ other-of k last c p u q ne = last-of k (Unit {0}) last (c ∷ []) p u q (tt, ne)
 pub at-number : {o : Outcome} {n : ℕ} (asked : Asked) (l : Lent) (s : Session) → asked .number ≡ n → ((a : Asked) → o ≡ ownStep eightInch (calling n a) l s)
     → o ≡ ownStep eightInch asked l s
 at-number {o} {n} asked l s q h = h asked ∙ own-at eightInch asked l s n q
-
--- ---- an arm of several kinds goes by the place of each in the enum, which is its number
-tag-is : (k : Kind) → tagOf the-type k ≡ kindNumber k
-tag-is Unlisted = refl
-tag-is Quiet = refl
-tag-is Search = refl
-tag-is User = refl
-tag-is Settle = refl
-tag-is Close = refl
-tag-is Delete = refl
-tag-is Create = refl
-tag-is Rename = refl
-tag-is Read = refl
-tag-is Write = refl
-
-pub moves-record : (k : Kind) → (tagOf the-type k ≡ 9) ⊎ (tagOf the-type k ≡ 10) → ofRecord k ≡ true
-moves-record k (inl q) = rw (eq-eqb (kindNumber k) 9 (sym (tag-is k) ∙ q))
-moves-record k (inr q) =
-    let w : same k Write ≡ true = eq-eqb (kindNumber k) 10 (sym (tag-is k) ∙ q) in split (bool-cases (same k Read)) (λ t. rw t) (λ f. rw (f, w))

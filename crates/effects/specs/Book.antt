@@ -2,7 +2,7 @@
 --   A write that takes a block enters it for its entry and slot. An accepted close or move settles the FCB's blocks in the slots where
 --   the entry had 0; a delete all that is held for the entries it matched; freeing and log-in everything; any other call nothing.
 --   A refused call changes nothing.
-use mathlib.Core.Bool.{Bool, true, not, cond}
+use mathlib.Core.Bool.{Bool, true, cond}
 use Prim.Native.Nat.{ℕ}
 use lib.Dec.{eqb}
 use Rattle.lists.specs.Tests.{_and_}
@@ -12,12 +12,12 @@ use Rattle.format.specs.Entries.{slotOf, slotsOf, extentOf, named, findFile}
 use Rattle.format.specs.Notes.{pendingFor, heldFor}
 use Rattle.format.specs.Found.{numberOf}
 use Rattle.model.specs.declared.Session.{Session}
-use Rattle.model.specs.declared.Answer.{Answer}
 use Rattle.model.specs.Lent.{Lent, rowsOf, Outcome}
 use Rattle.model.specs.Closing.{takesSlot}
 use Rattle.model.specs.Target.{targetSlot, stays, blockThere}
-use Rattle.model.specs.Kinds.{kindOf, same, ofRecord}
+use Rattle.model.specs.Kinds.{kindOf, same}
 use Rattle.model.specs.declared.Kind.the-variants.{Settle, Close, Delete, Read, Write}
+use Rattle.table.specs.Accepted.{acceptedAnswer}
 
 -- the place that each block is held for, written as its note would be (`pendingFor`); 0 where it is not held
 abbrev pub Book : Type 0
@@ -41,10 +41,6 @@ droppedFor picked u b = cond (heldFor picked (u b)) 0 (u b)
 -- block b is entered for slot j of entry e
 unfoldable pub enteredFor : ℕ → ℕ → ℕ → Book → Book
 enteredFor b e j u c = cond (eqb c b) (pendingFor e j) (u c)
-
--- ---- the answer of an accepted call: H is 0, and A is 0 for the record calls, not 255 for the others
-unfoldable pub acceptedAnswer : ℕ → Answer → Bool
-acceptedAnswer n a = eqb (a .h) 0 and cond (ofRecord (kindOf n)) (eqb (a .a) 0) (not (eqb (a .a) 255))
 
 -- ---- call by call: call n of the user was given l
 module _ (G : Geometry) (n user : ℕ) (l : Lent) where

@@ -294,7 +294,7 @@ module _ {G : Geometry} (S : Sound G) (n : ℕ) (l : Lent) (s : Session) (g : Go
     closed-then-made : Change G (byName (s .user) (l .fcb)) W (settledBy G (rowsOf G l e) (l .fcb)) (l .drive .image) (l .drive .map) new mid-map
     unfolding mid mid-map new next
     closed-then-made =
-        then-change G (byName (s .user) (l .fcb)) W (settledBy G (rowsOf G l e) (l .fcb)) asItWas (l .drive .image) (l .drive .map) mid mid-map new mid-map (g .inv .dir) closed-by
+        then-change G (byName (s .user) (l .fcb)) W (settledBy G (rowsOf G l e) (l .fcb)) asItWas (l .drive .image) (l .drive .map) mid mid-map new mid-map closed-by
         (made-change S (byName (s .user) (l .fcb)) mid mid-map mid-good t room-below void next whole next-named next-fine
         (λ j h. slot-next shut (targetExtent n (l .fcb)) long G j) (s .user) (l .fcb) 1 (targetExtent n (l .fcb)) next-file next-alone W)
         (made-names-stay S (byName (s .user) (l .fcb)) mid mid-map mid-good t room-below void next whole next-named) (inl closed-none)

@@ -16,7 +16,8 @@ use Rattle.fields.specs.Images.{closed-stored, row-closedImage-other, record-cl
 use Rattle.invariant.specs.Good.{Good}
 use Rattle.invariant.specs.CloseGood.{good-closed}
 use Rattle.effects.specs.View.{viewOf, Names}
-use Rattle.effects.specs.Steps.{NamesUsed, one-effect, keeps-by, held-named}
+use Rattle.effects.specs.Effect.{not-entry}
+use Rattle.effects.specs.Steps.{NamesUsed, named-aside, one-effect, keeps-by, held-named}
 use Rattle.consistency.specs.Naming.{named-used}
 use Rattle.effects.specs.Cur.{Cur, cur-facts, cur-named}
 use Rattle.effects.specs.Where.{in-entry, entry-or-same}
@@ -63,6 +64,8 @@ module _ {G : Geometry} (S : Sound G) (img map : Bytes) (g : Good G img map) (us
             (λ b l. split (closed-notes b l) (λ q. inl q) (λ t. inr (held-named s (byName user fcb) b e (t .slot) (t .below) nm (taken-noted b t))));
         frame = λ i. split (entry-or-same S img (g .image-long) e (c .low) (closedRow G (entryAt G img e) fcb) whole i)
             (λ q. inl (ap (λ (x : Bytes). getD x i 0) (closed-stored S img (g .image-long) e (c .low) fcb) ∙ q)) (λ p. inr (in-entry e p nm));
+        aside = named-aside G s t (byName user fcb) (by-name-used G img map user fcb hu)
+            (λ k l n. row-closedImage-other S img (g .image-long) e (c .low) fcb k l (not-entry s (byName user fcb) e k nm n));
         good = good-closed S img map g user hu fcb e (cur-facts G img map user fcb e (g .inv .dir) hu c);
         book = λ u tr. closed-tracks G u (entryAt G img e) fcb map (g .map-long) tr;
       }

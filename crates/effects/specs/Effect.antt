@@ -37,6 +37,10 @@ NamesStay G s t N = (e : ℕ) → e < G .entries → N (s .rows e) ≡ true → 
 abbrev pub NoneNew : Geometry → View → View → Type 0
 NoneNew G s t = (e : ℕ) → e < G .entries → empty (s .rows e) ≡ true → t .rows e ≡ s .rows e
 
+-- labels and date entries stay, which are neither used nor empty
+abbrev pub AsideStay : Geometry → View → View → Type 0
+AsideStay G s t = (e : ℕ) → e < G .entries → used (s .rows e) ≡ false → empty (s .rows e) ≡ false → t .rows e ≡ s .rows e
+
 pub none-one : (G : Geometry) (s t : View) → NoneNew G s t → (e k : ℕ) → NewRow G (s .rows) (t .rows) e → NewRow G (s .rows) (t .rows) k → e ≡ k
 none-one G s t none e k a b = absurd (a .changed (none e (a .low) (a .was)))
 

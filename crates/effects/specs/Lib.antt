@@ -12,3 +12,4 @@ pub mod Picked
 pub mod Entered
 pub mod Came
 pub mod Write
+pub mod Stamps

@@ -30,9 +30,9 @@ use Rattle.invariant.specs.Good.{Good}
 use Rattle.invariant.specs.Updates.{good-made, good-erased, good-renamed}
 use Rattle.facts.specs.Slots.{slot-place}
 use Rattle.effects.specs.View.{viewOf, Names}
-use Rattle.effects.specs.Effect.{Effect, RecsStay, NamesStay, notes-stay}
-use Rattle.effects.specs.Steps.{NamesUsed, named-effect, made-effect, made-stay, keeps-by, held-named}
-use Rattle.effects.specs.Where.{in-entry, in-new, Bytewise, entry-or-same}
+use Rattle.effects.specs.Effect.{Effect, RecsStay, NamesStay, AsideStay, notes-stay}
+use Rattle.effects.specs.Steps.{NamesUsed, named-effect, named-aside, made-effect, made-aside, made-stay, keeps-by, held-named}
+use Rattle.effects.specs.Where.{in-entry, in-new, RuleBytes, entry-or-same}
 use Rattle.effects.specs.Book.{droppedFor}
 use Rattle.effects.specs.Tracks.{spare-unpicked, erased-tracks}
 use Rattle.effects.specs.Change.{Change, asItWas}
@@ -54,6 +54,11 @@ module _ {G : Geometry} (S : Sound G) (picks : Names) (change : Bytes → Bytes)
       named-effect G (viewOf G img map) (viewOf G after map′) picks (g .inv) recs sure
       (λ e l n. row-unpicked S picks change keeps img (g .image-long) e l n)
 
+  pub picked-aside : AsideStay G (viewOf G img map) (viewOf G (changedRows G picks change img) map′)
+  unfolding after
+  picked-aside =
+      named-aside G (viewOf G img map) (viewOf G after map′) picks sure (λ e l n. row-unpicked S picks change keeps img (g .image-long) e l n)
+
   -- byte i lies in entry e, which is picked
   hit : ℕ → ℕ → Bool
   hit i e = picks (entryAt G img e) and leb (entryPlace G e) i and ltb i (entryPlace G e + entryBytes)
@@ -65,7 +70,7 @@ module _ {G : Geometry} (S : Sound G) (picks : Names) (change : Bytes → Bytes)
       (λ h. split (lt-or-le i (entryPlace G e + entryBytes))
       (λ w. not-both (hit i e) (and-both _ _ p (and-both _ _ (le-leb _ _ h) (lt-ltb _ _ w))) f) (λ w. inr w))
 
-  pub picked-frame : (W : ℕ → Type 0) → Bytewise G img (changedRows G picks change img) picks W
+  pub picked-frame : (W : ℕ → Type 0) → RuleBytes G img (changedRows G picks change img) picks W
   unfolding hit
   picked-frame W i =
       split (bool-cases (anyBelow (hit i) (G .entries)))
@@ -106,7 +111,8 @@ module _ {G : Geometry} (S : Sound G) (picks : Names) (img map : Bytes) (g : Goo
         effect = picked-effect S picks erasedRow length-erasedRow img map map′ g sure;
         keeps = keeps-by G (viewOf G img map) (viewOf G (changedRows G picks erasedRow img) map′) picks erased-note;
         frame = picked-frame S picks erasedRow length-erasedRow img map map′ g sure W;
-        good = good-erased S img map g picks;
+        aside = picked-aside S picks erasedRow length-erasedRow img map map′ g sure;
+        good = good-erased S img map g picks sure;
         book = λ u t. erased-tracks G (entryAt G img) (noteAt map) (noteAt map′) u (g .inv) (λ (e : ℕ). picks (entryAt G img e))
             (λ b h. released-at G (entryAt G img) (λ (e : ℕ). picks (entryAt G img e)) map b h) t;
       }
@@ -122,6 +128,7 @@ renamed-change {G} S img map g user hu fcb right new W =
       effect = picked-effect S (byName user fcb) (renamedRow fcb) keeps img map map g sure;
       keeps = notes-stay G (viewOf G img map) (viewOf G (changedRows G (byName user fcb) (renamedRow fcb) img) map) (byName user fcb) (λ b h. refl);
       frame = picked-frame S (byName user fcb) (renamedRow fcb) keeps img map map g sure W;
+      aside = picked-aside S (byName user fcb) (renamedRow fcb) keeps img map map g sure;
       good = good-renamed S img map g user hu fcb right new;
       book = λ u t. t;
     }
@@ -151,6 +158,7 @@ module _ {G : Geometry} (S : Sound G) (N : Names) (img map : Bytes) (g : Good G 
     effect = made-effect G (viewOf G img map) (viewOf G (withEntry G img t row) map) N (g .inv) made-recs t made-there void made-named;
     keeps = notes-stay G (viewOf G img map) (viewOf G (withEntry G img t row) map) N (λ b h. refl);
     frame = λ i. split (entry-or-same S img (g .image-long) t low row whole i) (λ q. inl q) (λ p. inr (in-new t p void made-named));
+    aside = made-aside G (viewOf G img map) (viewOf G (withEntry G img t row) map) t void made-there;
     good = good-made S img map g t low void row whole fine bare user s q ext is new;
     book = λ u tr. tr;
   }

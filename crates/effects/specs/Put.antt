@@ -113,6 +113,7 @@ module _ {G : Geometry} (S : Sound G) (img map : Bytes) (g : Good G img map) (us
           keeps = split (eq-or-ne (slotOf G f j) 0) (λ z. take-keeps G s s′ N b (k .free z) (λ x l n. note-written-other G map f t j b x n))
               (λ z. notes-stay G s s′ N (λ x l. same-notes z x));
           frame = λ i. split (record-or-same S img (g .image-long) (placeIn G b r) place buf hb i) (λ q. inl q) (λ p. inr (in-record (placeIn G b r) p w));
+          aside = λ e l u z. put-rows e l;
           good = put-good;
           book = put-tracks;
         }

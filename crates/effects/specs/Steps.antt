@@ -14,7 +14,7 @@ use Rattle.notes.specs.Numbers.{pending-once, pending-not}
 use Rattle.disk.specs.Places.{blockRecords, block-once}
 use Rattle.rows.specs.Entries.{areaRecords}
 use Rattle.effects.specs.View.{View, Right, Names, NewRow, Mine}
-use Rattle.effects.specs.Effect.{Foreign, Effect, Keeps, NoneNew, none-one, NamesStay, RecsStay, not-entry, mine-past, mine-below, recs-on}
+use Rattle.effects.specs.Effect.{Foreign, Effect, Keeps, NoneNew, none-one, NamesStay, AsideStay, RecsStay, not-entry, mine-past, mine-below, recs-on}
 
 -- ---- rows
 -- no empty entry is named
@@ -25,6 +25,14 @@ NamesUsed G s N = (e : ℕ) → e < G .entries → N (s .rows e) ≡ true → us
 pub named-none : (G : Geometry) (s t : View) (N : Names) → NamesUsed G s N → ((e : ℕ) → e < G .entries → N (s .rows e) ≡ false → t .rows e ≡ s .rows e) → NoneNew G s t
 named-none G s t N sure kept e l z =
     kept e l (split (bool-cases (N (s .rows e))) (λ y. not-both (empty (s .rows e)) z (used-full (s .rows e) (sure e l y))) (λ y. y))
+
+pub named-aside : (G : Geometry) (s t : View) (N : Names) → NamesUsed G s N → ((e : ℕ) → e < G .entries → N (s .rows e) ≡ false → t .rows e ≡ s .rows e) → AsideStay G s t
+named-aside G s t N sure kept e l u z =
+    kept e l (split (bool-cases (N (s .rows e))) (λ y. not-both (used (s .rows e)) (sure e l y) u) (λ y. y))
+
+-- an empty entry changes
+pub made-aside : (G : Geometry) (s t : View) (e : ℕ) → empty (s .rows e) ≡ true → ((k : ℕ) → k < G .entries → (k ≡ e → ⊥) → t .rows k ≡ s .rows k) → AsideStay G s t
+made-aside G s t e void there k l u z = there k l (λ q. not-both (empty (s .rows k)) (ap (λ (x : ℕ). empty (s .rows x)) q ∙ void) z)
 
 module _ (G : Geometry) (s t : View) (N : Names) (v : Right G s) (recs : RecsStay G s t) where
   pub named-effect : NamesUsed G s N → ((e : ℕ) → e < G .entries → N (s .rows e) ≡ false → t .rows e ≡ s .rows e) → Effect G s t N

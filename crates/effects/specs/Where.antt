@@ -3,15 +3,19 @@ use mathlib.Core.Path.{_≡_}
 use mathlib.Core.Logic.{_⊎_, inl, inr}
 use mathlib.Core.Bool.{true}
 use Prim.Native.Nat.{ℕ, _+_, _≤_, _<_}
+use native.Mathlib.Omega.{arith}
 use lib.ListN.{length, getD}
 use Rattle.lists.specs.Cases.{split, lt-or-le}
 use Rattle.format.specs.Diskette.{Bytes, Geometry, Sound, recordBytes, offsetOf, withRecord, entryBytes, Long}
 use Rattle.format.specs.Entries.{entryPlace, entryAt, withEntry, empty}
+use Rattle.format.specs.Dates.{isDates, fourthOf}
 use Rattle.format.specs.Notes.{freeNote, noteAt}
 use Rattle.disk.specs.Places.{blockRecords}
 use Rattle.disk.specs.Records.{record-byte-left}
 use Rattle.rows.specs.Entries.{entry-byte-left}
 use Rattle.model.specs.Target.{placeIn}
+use Rattle.facts.specs.Beside.{fourth-below}
+use Rattle.fields.specs.Stamps.{InStamp}
 use Rattle.effects.specs.View.{viewOf, Names, NewRow, Mine}
 
 -- byte i lies in entry e, or in disk record d
@@ -24,15 +28,32 @@ pub record InRecord (G : Geometry) (d i : ℕ) : Type 0 where
   pub from : offsetOf G d ≤ i
   pub upto : i < offsetOf G d + recordBytes
 
--- byte i lies in an entry that N names, in an empty entry that became one, or in a record that W allows
+-- a stamp lies in the date entry of its record
+pub stamp-entry : {G : Geometry} → Sound G → (e which i : ℕ) → InStamp G e which i → InEntry G (fourthOf e) i
+stamp-entry S e which i p =
+    let a = p .from in let b = p .upto in let c = p .beside in let w = p .two in record { low = fourth-below S e (p .low); from = omega arith; upto = omega arith }
+
+-- what a call's own rule may change: byte i lies in an entry that N names, in an empty entry that became one, or in a record that W allows
+pub data Ruled (G : Geometry) (img img′ : Bytes) (N : Names) (W : ℕ → Type 0) (i : ℕ) : Type 0 where
+  in-entry : (e : ℕ) → InEntry G e i → N (entryAt G img e) ≡ true → Ruled G img img′ N W i
+  in-new : (e : ℕ) → InEntry G e i → empty (entryAt G img e) ≡ true → N (entryAt G img′ e) ≡ true → Ruled G img img′ N W i
+  in-record : (d : ℕ) → InRecord G d i → W d → Ruled G img img′ N W i
+
+-- and what the whole call may: such a byte, or one of the two stamps beside an entry that N names before or after, in a date entry
 pub data Where (G : Geometry) (img img′ : Bytes) (N : Names) (W : ℕ → Type 0) (i : ℕ) : Type 0 where
-  in-entry : (e : ℕ) → InEntry G e i → N (entryAt G img e) ≡ true → Where G img img′ N W i
-  in-new : (e : ℕ) → InEntry G e i → empty (entryAt G img e) ≡ true → N (entryAt G img′ e) ≡ true → Where G img img′ N W i
-  in-record : (d : ℕ) → InRecord G d i → W d → Where G img img′ N W i
+  by-rule : Ruled G img img′ N W i → Where G img img′ N W i
+  in-stamp : (e which : ℕ) → InStamp G e which i → isDates (entryAt G img (fourthOf e)) ≡ true
+      → (N (entryAt G img e) ≡ true) ⊎ (N (entryAt G img′ e) ≡ true) → Where G img img′ N W i
 
 -- each byte stays, or lies there
+abbrev pub RuleBytes : Geometry → Bytes → Bytes → Names → (ℕ → Type 0) → Type 0
+RuleBytes G img img′ N W = (i : ℕ) → (getD img′ i 0 ≡ getD img i 0) ⊎ Ruled G img img′ N W i
+
 abbrev pub Bytewise : Geometry → Bytes → Bytes → Names → (ℕ → Type 0) → Type 0
 Bytewise G img img′ N W = (i : ℕ) → (getD img′ i 0 ≡ getD img i 0) ⊎ Where G img img′ N W i
+
+pub rule-bytes : (G : Geometry) (img img′ : Bytes) (N : Names) (W : ℕ → Type 0) → RuleBytes G img img′ N W → Bytewise G img img′ N W
+rule-bytes G img img′ N W f i = split (f i) (λ q. inl q) (λ p. inr (by-rule p))
 
 -- the frame of a call: so for every byte, at most one entry that was empty has changed, and the image is as long as it was
 pub record Frame (G : Geometry) (img img′ : Bytes) (N : Names) (W : ℕ → Type 0) : Type 0 where
@@ -61,10 +82,10 @@ pub record OneRecord (G : Geometry) (img map : Bytes) (N : Names) (b rec d : ℕ
 
 -- ---- a naming that has more, and more records allowed
 pub frame-more : (G : Geometry) (img img′ : Bytes) (M N : Names) (U W : ℕ → Type 0) → ((r : Bytes) → M r ≡ true → N r ≡ true)
-    → ((d : ℕ) → U d → W d) → Bytewise G img img′ M U → Bytewise G img img′ N W
+    → ((d : ℕ) → U d → W d) → RuleBytes G img img′ M U → RuleBytes G img img′ N W
 frame-more G img img′ M N U W more wide f i = split (f i) (λ q. inl q) (λ p. inr (go p))
   where
-    go : Where G img img′ M U i → Where G img img′ N W i
+    go : Ruled G img img′ M U i → Ruled G img img′ N W i
     go (in-entry e p n) = in-entry e p (more (entryAt G img e) n)
     go (in-new e p z n) = in-new e p z (more (entryAt G img′ e) n)
     go (in-record d p w) = in-record d p (wide d w)

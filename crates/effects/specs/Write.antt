@@ -22,7 +22,7 @@ use Rattle.fields.specs.Agree.{SameName}
 use Rattle.consistency.specs.Naming.{file-found}
 use Rattle.fields.specs.Target.{record-below, crAfter-high, targetSlot-below, length-writtenFcb, head-written, name-written, extent-written, slot-written, name-read, extent-read, head-read}
 use Rattle.table.specs.Facts.{Fits, Reads, Writes}
-use Rattle.table.specs.Plans.{Block, There, Planned, stay, move, make, planned-read, planned-write}
+use Rattle.table.specs.Plans.{entryOf, Block, There, Planned, stay, move, make, planned-read, planned-write}
 use Rattle.table.specs.Plans as Plans
 use Rattle.invariant.specs.Good.{Good}
 use Rattle.effects.specs.View.{viewOf, mine-high}
@@ -49,17 +49,18 @@ abbrev pub OneOf : Geometry → ℕ → ℕ → Lent → Lent → ℕ → Type 0
 OneOf G n user l left d =
     OneRecord G (l .drive .image) (l .drive .map) (byName user (l .fcb)) (slotOf G (left .fcb) (targetSlot G n (l .fcb))) (targetRecord n (l .fcb)) d
 
-pub record WriteOk (G : Geometry) (n user : ℕ) (l left : Lent) : Type 0 where
+-- it has come to entry t, which is named
+pub record WriteOk (G : Geometry) (n user : ℕ) (l left : Lent) (t : ℕ) : Type 0 where
   pub change : Change G (byName user (l .fcb)) (OneOf G n user l left) (writtenBook G n user l left) (l .drive .image) (l .drive .map) (left .drive .image) (left .drive .map)
   pub fcb : HandedBack n l left
-  pub entry : ℕ
-  pub holds : Holds G (viewOf G (left .drive .image) (left .drive .map)) user (left .fcb) entry (targetRecord n (l .fcb)) (l .buffer)
+  pub mine : byName user (l .fcb) (entryAt G (left .drive .image) t) ≡ true
+  pub holds : Holds G (viewOf G (left .drive .image) (left .drive .map)) user (left .fcb) t (targetRecord n (l .fcb)) (l .buffer)
 
-pub record ReadOk (G : Geometry) (n user : ℕ) (l left : Lent) : Type 0 where
+pub record ReadOk (G : Geometry) (n user : ℕ) (l left : Lent) (t : ℕ) : Type 0 where
   pub change : Change G (byName user (l .fcb)) WritesNone (movedBook G n user l) (l .drive .image) (l .drive .map) (left .drive .image) (left .drive .map)
   pub fcb : HandedBack n l left
-  pub entry : ℕ
-  pub cur : Cur G (viewOf G (left .drive .image) (left .drive .map)) user (left .fcb) entry
+  pub mine : byName user (l .fcb) (entryAt G (left .drive .image) t) ≡ true
+  pub cur : Cur G (viewOf G (left .drive .image) (left .drive .map)) user (left .fcb) t
 
 module _ {G : Geometry} (S : Sound G) (n : ℕ) (l : Lent) (s : Session) (g : Good G (l .drive .image) (l .drive .map)) (f : Fits G l s) (cr : crOf (l .fcb) ≤ 128) where
   j : ℕ
@@ -136,7 +137,7 @@ module _ {G : Geometry} (S : Sound G) (n : ℕ) (l : Lent) (s : Session) (g : Go
     unfolding One r
     whole =
         then-change G (byName (s .user) (l .fcb)) One B (putBook G (there .fcb) t j b) (l .drive .image) (l .drive .map) (there .drive .image) (there .drive .map)
-        (withRecord G (there .drive .image) (placeIn G b r) (there .buffer)) (writtenMap G (there .drive .map) (there .fcb) t j b) (g .inv .dir) (came .change)
+        (withRecord G (there .drive .image) (placeIn G b r) (there .buffer)) (writtenMap G (there .drive .map) (there .fcb) t j b) (came .change)
         (put-change S (there .drive .image) (there .drive .map) here-good (s .user) (f .user-low) (there .fcb) (came .long) t (came .cur) r r-below j slot-is b for-slot
         (there .buffer) full (byName (s .user) (l .fcb)) (came .mine) One record { is = refl; below = for-slot .below; theirs = theirs })
         (put-stay S (there .drive .image) (there .drive .map) here-good (s .user) (f .user-low) (there .fcb) (came .long) t (came .cur) r r-below j slot-is b for-slot
@@ -169,7 +170,7 @@ module _ {G : Geometry} (S : Sound G) (n : ℕ) (l : Lent) (s : Session) (g : Go
     unfolding writtenBook putBook j
     same-book u = rw (left-slot, after, came .slot, came .book u)
 
-    pub wrote-ok : WriteOk G n (s .user) l (haveWritten G t (targetSlot G n (l .fcb)) b (targetRecord n (l .fcb)) (crAfter n (l .fcb)) there)
+    pub wrote-ok : WriteOk G n (s .user) l (haveWritten G t (targetSlot G n (l .fcb)) b (targetRecord n (l .fcb)) (crAfter n (l .fcb)) there) t
     unfolding left haveWritten count j r One
     wrote-ok = record {
       change = as-change G (byName (s .user) (l .fcb)) (byName (s .user) (l .fcb)) One (OneOf G n (s .user) l left) (λ (u : Book). putBook G (there .fcb) t j b (B u))
@@ -182,13 +183,14 @@ module _ {G : Geometry} (S : Sound G) (n : ℕ) (l : Lent) (s : Session) (g : Go
         name = λ i h. name-written G (there .fcb) count j b r (crAfter n (l .fcb)) j-real i h ∙ came .name i h;
         extent = extent-written G (there .fcb) count j b r (crAfter n (l .fcb)) j-real ∙ came .extent;
       };
-      entry = t;
+      mine = ap (byName (s .user) (l .fcb)) (put-rows S (there .drive .image) (there .drive .map) here-good (s .user) (f .user-low) (there .fcb) (came .long) t (came .cur) r r-below j slot-is b for-slot
+          (there .buffer) full t (came .cur .low)) ∙ came .mine;
       holds = subst (Holds G (viewOf G (left .drive .image) (left .drive .map)) (s .user) (left .fcb) t (targetRecord n (l .fcb))) (came .buffer) held;
     }
 
   -- ---- a read
   pub read-ok : (there : Lent) (t b : ℕ) (B : Book → Book) → CameTo G n (s .user) l there t WritesNone B
-      → ReadOk G n (s .user) l (haveRead G b (targetRecord n (l .fcb)) (crAfter n (l .fcb)) there)
+      → ReadOk G n (s .user) l (haveRead G b (targetRecord n (l .fcb)) (crAfter n (l .fcb)) there) t
   unfolding haveRead
   read-ok there t b B came = record {
     change = as-change G (byName (s .user) (l .fcb)) (byName (s .user) (l .fcb)) WritesNone WritesNone B (movedBook G n (s .user) l) (l .drive .image) (l .drive .map) (there .drive .image) (there .drive .map)
@@ -199,7 +201,7 @@ module _ {G : Geometry} (S : Sound G) (n : ℕ) (l : Lent) (s : Session) (g : Go
       name = λ i h. name-read (there .fcb) (crAfter n (l .fcb)) i h ∙ came .name i h;
       extent = extent-read (there .fcb) (crAfter n (l .fcb)) ∙ came .extent;
     };
-    entry = t;
+    mine = came .mine;
     cur = set-cur G (viewOf G (there .drive .image) (there .drive .map)) (s .user) (there .fcb) (crAfter n (l .fcb)) t (came .long) (crAfter-high n (l .fcb) cr) (came .cur);
   }
 
@@ -209,7 +211,7 @@ module _ {G : Geometry} (S : Sound G) (n : ℕ) (l : Lent) (s : Session) (g : Go
   current-cr e at = fcb-says (l .fcb) (present-cur S n l s g f e at WritesNone .right) .cr
 
   module _ (low : targetExtent n (l .fcb) < extents) where
-    write-plan : (p : Plan) → Planned G n (s .user) l (Block G n (s .user) l) p → WriteOk G n (s .user) l (writing G s l n p .lent)
+    write-plan : (p : Plan) → Planned G n (s .user) l (Block G n (s .user) l) p → WriteOk G n (s .user) l (writing G s l n p .lent) (entryOf p)
     unfolding writtenAt
     write-plan p (stay e b at t target k) =
         wrote-ok S n l s g f (current-cr e at) l e b _ (stay-came S n l s g f e at (OneRecord G (l .drive .image) (l .drive .map) (byName (s .user) (l .fcb)) b (targetRecord n (l .fcb))) t) k
@@ -220,7 +222,7 @@ module _ {G : Geometry} (S : Sound G) (n : ℕ) (l : Lent) (s : Session) (g : Go
         wrote-ok S n l s g f (current-cr e at) (made G (targetExtent n (l .fcb)) l e t) t b _
         (make-came S n l s g f e at (OneRecord G (l .drive .image) (l .drive .map) (byName (s .user) (l .fcb)) b (targetRecord n (l .fcb))) go t room none low) k
 
-    read-plan : (B : ℕ → Type 0) (p : Plan) → Planned G n (s .user) l B p → ReadOk G n (s .user) l (reading G s l n p .lent)
+    read-plan : (B : ℕ → Type 0) (p : Plan) → Planned G n (s .user) l B p → ReadOk G n (s .user) l (reading G s l n p .lent) (entryOf p)
     unfolding readAt
     read-plan B p (stay e b at t target k) = read-ok S n l s g f (current-cr e at) l e b _ (stay-came S n l s g f e at WritesNone t)
     read-plan B p (move e t b at go target k) = read-ok S n l s g f (current-cr e at) (moved G (targetExtent n (l .fcb)) l e t) t b _ (move-came S n l s g f e at WritesNone go t target low)
@@ -228,11 +230,11 @@ module _ {G : Geometry} (S : Sound G) (n : ℕ) (l : Lent) (s : Session) (g : Go
         read-ok S n l s g f (current-cr e at) (made G (targetExtent n (l .fcb)) l e t) t b _ (make-came S n l s g f e at WritesNone go t room none low)
 
   -- 21 and 34
-  pub written-ok : Writes G l s n → WriteOk G n (s .user) l (written G s l n .lent)
+  pub written-ok : Writes G l s n → WriteOk G n (s .user) l (written G s l n .lent) (entryOf (plan G n (s .user) l))
   unfolding written
   written-ok w = write-plan (w .extent) (plan G n (s .user) l) (planned-write G n l s w)
 
   -- 20 and 33
-  pub reads-ok : Reads G l s n → ReadOk G n (s .user) l (read G s l n .lent)
+  pub reads-ok : Reads G l s n → ReadOk G n (s .user) l (read G s l n .lent) (entryOf (plan G n (s .user) l))
   unfolding read
   reads-ok w = read-plan (w .extent) (There G n (s .user) l) (plan G n (s .user) l) (planned-read G n l s w)

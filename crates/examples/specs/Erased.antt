@@ -7,11 +7,13 @@ use native.Mathlib.Omega.{arith}
 use lib.ListN.{length, getD, replicate, length-replicate}
 use borrow.Author.Tests.{lt-ltb, le-ltb}
 use Rattle.lists.specs.Cases.{split, lt-or-le, clash}
+use Rattle.lists.specs.Tests.{_and_}
 use Rattle.lists.specs.Splice.{part, splice, part-splice-same}
 use Rattle.lists.specs.Count.{count-from}
-use Rattle.table.specs.Own.{calling}
+use Rattle.table.specs.Own.{calling, ask}
 use Rattle.format.specs.Diskette.{Bytes, Geometry, Sound, recordBytes, eightInch, Long}
 use Rattle.format.specs.Entries.{Rows, entryAt}
+use Rattle.format.specs.Dates.{bcd}
 use Rattle.format.specs.Consistent.{consistent}
 use Rattle.format.specs.Notes.{isListed, freshNote, freshMap, isFree, freeCount}
 use Rattle.format.specs.Fcb.{fcbBytes}
@@ -20,11 +22,12 @@ use Rattle.notes.specs.Right.{length-fresh, fresh-at, fresh-right}
 use Rattle.fields.specs.Erased.{ErasedDisk, erased-consistent, erased-unlisted}
 use Rattle.model.specs.declared.Asked.{Asked}
 use Rattle.model.specs.declared.Session.{Session}
+use Rattle.model.specs.Table.{timeRight}
 use Rattle.model.specs.Lent.{lend, Outcome, ended}
 use Rattle.model.specs.Entering.{threeBytes}
 use Rattle.model.specs.Kinds.{usesFcb, isCall, kindOf}
 use Rattle.model.specs.Calls.{done, loggedIn, space}
-use Rattle.model.specs.Step.{step, effect, settled, told}
+use Rattle.model.specs.Step.{step, effect, stamped, settled, told}
 use Rattle.table.specs.Facts.{Fits, Ready}
 use Rattle.table.specs.Reflect.{login-ready}
 use Rattle.table.specs.Total.{step-carried}
@@ -69,6 +72,11 @@ pub record Fitting (G : Geometry) (map fcb buffer : Bytes) (s : Session) : Type 
   pub user-low : s .user ≤ 15
   pub place-low : s .place ≤ G .entries
 
+-- a call with nothing said: its time, all zero, is one
+pub ask-right : (n : ℕ) → timeRight (ask n) ≡ true
+unfolding timeRight bcd _and_
+ask-right n = refl
+
 -- user 0 with no search, any map, a blank buffer
 abbrev pub start : Session
 start = record { user = 0; pattern = replicate 12 0; place = 0; on = 0 }
@@ -101,13 +109,14 @@ module _ (G : Geometry) (img : Bytes) (long : Long G img) (right : consistent G 
   }
 
   -- an image that is consistent can be logged in, whatever the map
-  pub login-step : (asked : Asked) → step G (calling 13 asked) (lend img map fcb buffer) s ≡ done 0 s (lend img (freshMap G (entryAt G img)) fcb buffer)
-  unfolding loggedIn effect settled isCall kindOf
-  login-step asked = step-carried G (calling 13 asked) (lend img map fcb buffer) s refl (login-ready G asked (lend img map fcb buffer) s fits right) tt
+  pub login-step : (asked : Asked) → timeRight asked ≡ true → step G (calling 13 asked) (lend img map fcb buffer) s ≡ done 0 s (lend img (freshMap G (entryAt G img)) fcb buffer)
+  unfolding loggedIn effect stamped settled isCall kindOf
+  login-step asked time = step-carried G (calling 13 asked) (lend img map fcb buffer) s refl (login-ready G asked (lend img map fcb buffer) s fits time right) tt
 
   -- after it every call finds image and map right
-  pub logged-ready : (asked : Asked) → (usesFcb (asked .number) ≡ true → getD fcb 0 0 ≤ 1) → Ready G asked (lend img (freshMap G (entryAt G img)) fcb buffer) (ended s)
-  logged-ready asked drive = record {
+  pub logged-ready : (asked : Asked) → timeRight asked ≡ true → (usesFcb (asked .number) ≡ true → getD fcb 0 0 ≤ 1)
+      → Ready G asked (lend img (freshMap G (entryAt G img)) fcb buffer) (ended s)
+  logged-ready asked time drive = record {
     fits = record {
       image-long = long;
       map-long = length-fresh G (entryAt G img);
@@ -116,17 +125,18 @@ module _ (G : Geometry) (img : Bytes) (long : Long G img) (right : consistent G 
       user-low = fit .user-low;
       place-low = omega arith;
     };
+    time = time;
     drive = drive;
     image-right = right;
     map-right = λ ne. fresh-right G (entryAt G img);
   }
 
   -- and 46 then answers eight times the free notes of the fresh map
-  pub space-step : (asked : Asked) → step G (calling 46 asked) (lend img (freshMap G (entryAt G img)) fcb buffer) (ended s)
+  pub space-step : (asked : Asked) → timeRight asked ≡ true → step G (calling 46 asked) (lend img (freshMap G (entryAt G img)) fcb buffer) (ended s)
       ≡ done 0 s (lend img (freshMap G (entryAt G img)) fcb (splice buffer 0 (threeBytes (G .perBlock * freeCount G (freshMap G (entryAt G img))))))
-  unfolding space usesFcb effect told isCall kindOf
-  space-step asked =
-      step-carried G (calling 46 asked) (lend img (freshMap G (entryAt G img)) fcb buffer) (ended s) refl (logged-ready (calling 46 asked) (λ u. clash (sym u))) tt
+  unfolding space usesFcb effect stamped told isCall kindOf timeRight
+  space-step asked time =
+      step-carried G (calling 46 asked) (lend img (freshMap G (entryAt G img)) fcb buffer) (ended s) refl (logged-ready (calling 46 asked) time (λ u. clash (sym u))) tt
 
 -- a call after another: on what that left, with the session that it left
 abbrev pub next : Geometry → Asked → Outcome → Outcome
@@ -142,11 +152,11 @@ pub record SpaceIs (G : Geometry) (img : Bytes) (bytes : Bytes) (map fcb buffer 
   pub space-bytes : part (next G (calling 46 y) (step G (calling 13 x) (lend img map fcb buffer) s) .lent .buffer) 0 3 ≡ bytes
 
 pub space-is : (G : Geometry) (img : Bytes) → Long G img → consistent G img ≡ true
-    → (map fcb buffer : Bytes) (s : Session) → Fitting G map fcb buffer s → (x y : Asked)
+    → (map fcb buffer : Bytes) (s : Session) → Fitting G map fcb buffer s → (x y : Asked) → timeRight x ≡ true → timeRight y ≡ true
     → SpaceIs G img (threeBytes (G .perBlock * freeCount G (freshMap G (entryAt G img)))) map fcb buffer s x y
-space-is G img long right map fcb buffer s fit x y =
-    let one = login-step G img long right map fcb buffer s fit x in
-    let two = space-step G img long right map fcb buffer s fit y in
+space-is G img long right map fcb buffer s fit x y tx ty =
+    let one = login-step G img long right map fcb buffer s fit x tx in
+    let two = space-step G img long right map fcb buffer s fit y ty in
     let room = fit .buffer-long in
     record {
       login-a = rw one;
@@ -159,9 +169,9 @@ space-is G img long right map fcb buffer s fit x y =
 
 -- on an erased disk: 88H 07H 00H
 pub erased-space : (img : Bytes) → ErasedDisk eightInch img
-    → (map fcb buffer : Bytes) (s : Session) → Fitting eightInch map fcb buffer s → (x y : Asked)
+    → (map fcb buffer : Bytes) (s : Session) → Fitting eightInch map fcb buffer s → (x y : Asked) → timeRight x ≡ true → timeRight y ≡ true
     → SpaceIs eightInch img (136 ∷ 7 ∷ 0 ∷ []) map fcb buffer s x y
-erased-space img erased map fcb buffer s fit x y =
+erased-space img erased map fcb buffer s fit x y tx ty =
     let n : freeCount eightInch (freshMap eightInch (entryAt eightInch img)) ≡ 241 = erased-count eight-sound img erased in
     subst (λ (k : ℕ). SpaceIs eightInch img (threeBytes (8 * k)) map fcb buffer s x y) n
-    (space-is eightInch img (erased .long) (erased-consistent eightInch img erased) map fcb buffer s fit x y)
+    (space-is eightInch img (erased .long) (erased-consistent eightInch img erased eight-sound) map fcb buffer s fit x y tx ty)

@@ -16,6 +16,7 @@ use Rattle.format.specs.Fcb.{fcbBytes, crOf}
 use Rattle.disk.specs.Eight.{eight-sound}
 use Rattle.model.specs.declared.Asked.{Asked}
 use Rattle.model.specs.declared.Session.{Session}
+use Rattle.model.specs.Table.{timeRight}
 use Rattle.model.specs.Lent.{Lent}
 use Rattle.model.specs.Search.{patternOf, extentHit, hit}
 use Rattle.model.specs.Kinds.{oneOf}
@@ -39,22 +40,23 @@ pub record Examples : Type 0 where
   pub d : offsetOf eightInch (diskRecord eightInch 242 7) ≡ 254336
   -- an empty disk, logged in: space bytes 88H 07H 00H, which is 1,928
   pub e-number : threeBytes 1928 ≡ 136 ∷ 7 ∷ 0 ∷ []
-  pub e : (img : Bytes) → ErasedDisk eightInch img → (map fcb buffer : Bytes) (s : Session) → Fitting eightInch map fcb buffer s → (x y : Asked)
+  pub e : (img : Bytes) → ErasedDisk eightInch img → (map fcb buffer : Bytes) (s : Session) → Fitting eightInch map fcb buffer s
+      → (x y : Asked) → timeRight x ≡ true → timeRight y ≡ true
       → SpaceIs eightInch img (136 ∷ 7 ∷ 0 ∷ []) map fcb buffer s x y
   pub e-met : (img : Bytes) × (map : Bytes) × (fcb : Bytes) × (buffer : Bytes) × (s : Session) × ErasedDisk eightInch img × Fitting eightInch map fcb buffer s
   -- R = 262,143 is extent 2,047, record 127; 262,144 gives 6
   pub f-last : (asked : Asked) (l : Lent) (s : Session) → oneOf (asked .number) (33 ∷ 34 ∷ []) ≡ true → RandomIs (l .fcb) 255 255 3 → Last eightInch asked l s
   pub f-over : (asked : Asked) (l : Lent) (s : Session) → oneOf (asked .number) (33 ∷ 34 ∷ []) ≡ true → Ready eightInch asked l s → RandomIs (l .fcb) 0 0 4
       → Six eightInch asked l s
-  pub f-met : (asked : Asked) (r0 r1 r2 : ℕ) → LentWith asked (λ (f : Bytes). RandomIs f r0 r1 r2)
+  pub f-met : (asked : Asked) → timeRight asked ≡ true → (r0 r1 r2 : ℕ) → LentWith asked (λ (f : Bytes). RandomIs f r0 r1 r2)
   -- an entry of extent 2,047 with rc 128, or more, which is read as 128: size bytes 00H 00H 04H; there is one with each such number
   pub g : (asked : Asked) (l : Lent) (s : Session) → Ready eightInch (calling 35 asked) l s → nameRight false (l .fcb) 1 ≡ true → HasEntry eightInch l s 2047 128
       → Gives eightInch (calling 35 asked) l s (0 ∷ 0 ∷ 4 ∷ [])
-  pub g-met : (rc : ℕ) → 128 ≤ rc → (asked : Asked) → Largest rc asked
+  pub g-met : (rc : ℕ) → 128 ≤ rc → (asked : Asked) → timeRight asked ≡ true → Largest rc asked
   -- 36 at extent 1, cr 128: 256
   pub h : (asked : Asked) (l : Lent) (s : Session) → Ready eightInch (calling 36 asked) l s → extentOf (l .fcb) ≡ 1 → crOf (l .fcb) ≡ 128
       → Gives eightInch (calling 36 asked) l s (threeBytes 256)
-  pub h-met : (asked : Asked) → LentWith asked (λ (f : Bytes). (extentOf f ≡ 1) × (crOf f ≡ 128))
+  pub h-met : (asked : Asked) → timeRight asked ≡ true → LentWith asked (λ (f : Bytes). (extentOf f ≡ 1) × (crOf f ≡ 128))
   -- eleven 3FH match any name: in the name test, and in the pattern that 17 takes from an FCB, where byte 12 alone decides
   pub i-name : (s : Bytes) (q : ℕ) → AllAny s q → (user : ℕ) (row : Bytes) → userOf row ≡ user → named true user s q row ≡ true
   pub i-pattern : (fcb : Bytes) → length fcb ≡ fcbBytes → AllAny fcb 1 → (user : ℕ) (row : Bytes) → userOf row ≡ user
@@ -95,8 +97,8 @@ examples-on size is =
       i-met = any-met;
       j-1 = λ img e j p. slot-refused eight-sound img (p .long) e j 1 (p .entry) (p .slot) (p .uses) (λ z. omega arith) (inl (omega arith));
       j-243 = λ img e j p. slot-refused eight-sound img (p .long) e j 243 (p .entry) (p .slot) (p .uses) (λ z. omega arith) (inr (omega arith));
-      j-2 = λ img e j p free. slot-allowed eight-sound img (p .long) e j 2 (p .entry) (p .slot) (p .right) free (omega arith) (omega arith);
-      j-242 = λ img e j p free. slot-allowed eight-sound img (p .long) e j 242 (p .entry) (p .slot) (p .right) free (omega arith) (omega arith);
+      j-2 = λ img e j p free. slot-allowed eight-sound img (p .long) e j 2 (p .entry) (p .slot) (p .uses) (p .right) free (omega arith) (omega arith);
+      j-242 = λ img e j p free. slot-allowed eight-sound img (p .long) e j 242 (p .entry) (p .slot) (p .uses) (p .right) free (omega arith) (omega arith);
       j-met = slot-met img erased;
     }
 

@@ -8,3 +8,6 @@ pub mod OneFile
 pub mod Met
 pub mod Examples
 pub mod Useless
+pub mod Dates
+pub mod Dated
+pub mod Stamps

@@ -17,8 +17,10 @@ use Rattle.format.specs.Notes.{isListed, freshMap}
 use Rattle.format.specs.Fcb.{fcbBytes, crOf}
 use Rattle.model.specs.declared.Asked.{Asked}
 use Rattle.model.specs.declared.Session.{Session}
+use Rattle.model.specs.Table.{timeRight}
 use Rattle.model.specs.Lent.{Lent, lend, rowsOf, ended}
 use Rattle.fields.specs.Erased.{ErasedDisk, erased-consistent}
+use Rattle.disk.specs.Eight.{eight-sound}
 use Rattle.table.specs.Own.{calling}
 use Rattle.table.specs.Facts.{Ready}
 use Rattle.examples.specs.Erased.{start, blank, notes, fitting, logged-ready}
@@ -63,30 +65,30 @@ unfolding allBelow _and_
 any-met = (anyName, refl, λ i h. eqb-true _ _ (all-at (λ (k : ℕ). eqb (getD anyName (1 + k) 0) 63) 11 refl i h))
 
 module _ (img : Bytes) (erased : ErasedDisk eightInch img) where
-  with-fcb : (P : Bytes → Type 0) (asked : Asked) (fcb : Bytes) → length fcb ≡ fcbBytes → getD fcb 0 0 ≤ 1 → P fcb → LentWith asked P
-  with-fcb P asked fcb long drive p = (
+  with-fcb : (P : Bytes → Type 0) (asked : Asked) → timeRight asked ≡ true → (fcb : Bytes) → length fcb ≡ fcbBytes → getD fcb 0 0 ≤ 1 → P fcb → LentWith asked P
+  with-fcb P asked time fcb long drive p = (
     lend img (freshMap eightInch (entryAt eightInch img)) fcb blank,
     ended start,
-    logged-ready eightInch img (erased .long) (erased-consistent eightInch img erased) notes fcb blank start (fitting fcb long) asked (λ u. drive),
+    logged-ready eightInch img (erased .long) (erased-consistent eightInch img erased eight-sound) notes fcb blank start (fitting fcb long) asked time (λ u. drive),
     p,
   )
 
-  pub random-met : (asked : Asked) (r0 r1 r2 : ℕ) → LentWith asked (λ (f : Bytes). RandomIs f r0 r1 r2)
-  random-met asked r0 r1 r2 = with-fcb _ asked (replicate 33 0 ++ (r0 ∷ r1 ∷ r2 ∷ [])) refl (omega arith) record { low = refl; middle = refl; high = refl }
+  pub random-met : (asked : Asked) → timeRight asked ≡ true → (r0 r1 r2 : ℕ) → LentWith asked (λ (f : Bytes). RandomIs f r0 r1 r2)
+  random-met asked time r0 r1 r2 = with-fcb _ asked time (replicate 33 0 ++ (r0 ∷ r1 ∷ r2 ∷ [])) refl (omega arith) record { low = refl; middle = refl; high = refl }
 
-  pub position-met : (asked : Asked) → LentWith asked (λ (f : Bytes). (extentOf f ≡ 1) × (crOf f ≡ 128))
+  pub position-met : (asked : Asked) → timeRight asked ≡ true → LentWith asked (λ (f : Bytes). (extentOf f ≡ 1) × (crOf f ≡ 128))
   unfolding extentOf
-  position-met asked = with-fcb _ asked atEnd refl (omega arith) (refl, refl)
+  position-met asked time = with-fcb _ asked time atEnd refl (omega arith) (refl, refl)
 
-  pub largest-met : (rc : ℕ) → 128 ≤ rc → (asked : Asked) → Largest rc asked
-  largest-met rc high asked =
+  pub largest-met : (rc : ℕ) → 128 ≤ rc → (asked : Asked) → timeRight asked ≡ true → Largest rc asked
+  largest-met rc high asked time =
       let f = entryOf 2047 rc 2 in
       let full = file-full f high in
       let range : InRange f = record { extent = omega arith; low = omega arith; high = omega arith } in
       let fit = fitting fileFcb length-fileFcb in
-      let ready = one-ready img erased f range notes blank start refl fit asked in
-      let own = one-entry img erased f range notes blank start refl fit asked in
-      let l = oneLent img erased f range notes blank start refl fit asked in
+      let ready = one-ready img erased f range notes blank start refl fit asked time in
+      let own = one-entry img erased f range notes blank start refl fit asked time in
+      let l = oneLent img erased f range notes blank start refl fit asked time in
       let has = subst (HasEntry eightInch l (ended start) 2047) full own in
       record {
         lent = l;

@@ -25,7 +25,7 @@ use Rattle.model.specs.Entering.{threeBytes}
 use Rattle.model.specs.Calls.{done, fileSize, sized, positioned}
 use Rattle.model.specs.Kinds.{isCall, kindOf}
 use Rattle.table.specs.Accept.{positions-none, sizes-right}
-use Rattle.model.specs.Step.{step, effect, told}
+use Rattle.model.specs.Step.{step, effect, stamped, told}
 use Rattle.fields.specs.Size.{size-covers, size-high, end-high}
 use Rattle.table.specs.Present.{user-numbers}
 use Rattle.table.specs.Facts.{Ready, Sizes, Positions}
@@ -46,7 +46,7 @@ gives-three G asked l s value long q =
 -- ---- 36: 128 × extent + cr
 position-gives : (G : Geometry) (asked : Asked) (l : Lent) (s : Session) → Ready G (calling 36 asked) l s → Positions G l s
     → Gives G (calling 36 asked) l s (threeBytes (extentRecords * extentOf (l .fcb) + crOf (l .fcb)))
-unfolding positioned effect told isCall kindOf
+unfolding positioned effect stamped told isCall kindOf
 position-gives G asked l s ready p =
     gives-three G (calling 36 asked) l s (extentRecords * extentOf (l .fcb) + crOf (l .fcb)) (ready .fits .fcb-long)
     (step-carried G (calling 36 asked) l s refl ready (positions-none G asked l s p))
@@ -64,7 +64,7 @@ position-256 G asked l s ready ext cr =
 pub size-step : (G : Geometry) (asked : Asked) (l : Lent) (s : Session) → Ready G (calling 35 asked) l s → Sizes G l s
     → step G (calling 35 asked) l s
     ≡ done 0 s (lend (l .drive .image) (l .drive .map) (splice (l .fcb) 33 (threeBytes (fileSize G (rowsOf G l) (named false (s .user) (l .fcb) 1)))) (l .buffer))
-unfolding sized effect told isCall kindOf
+unfolding sized effect stamped told isCall kindOf
 size-step G asked l s ready p = step-carried G (calling 35 asked) l s refl ready (sizes-right G asked l s p)
 
 -- an entry of the name, with this extent and count

@@ -1,5 +1,6 @@
 -- A disk with one entry: entry 0 of an erased disk is an extent of user 0's file A, with its rc, and lists one block.
 use mathlib.Core.Path.{_≡_, refl, sym, ap, _∙_}
+use mathlib.Core.Logic.{_⊎_, inl, inr}
 use mathlib.Core.Bool.{true, false}
 use mathlib.Core.List.{[], _∷_, _++_}
 use Prim.Native.Nat.{ℕ, zero, suc, _+_, _*_, _/_, _%_, _≤_, _<_}
@@ -7,12 +8,13 @@ use native.Mathlib.Omega.{arith}
 use lib.ListN.{length, getD, replicate, getD-replicate}
 use borrow.Author.Tests.{eqb-true, le-leb}
 use Rattle.lists.specs.Cases.{split, eq-or-ne, bool-cases, not-both}
-use Rattle.lists.specs.Tests.{_and_, _or_, and-left}
+use Rattle.lists.specs.Tests.{_and_, _or_, and-left, and-fails-right}
 use Rattle.lists.specs.Below.{allBelow}
 use Rattle.lists.specs.Splice.{part, splice}
 use Rattle.format.specs.Diskette.{Bytes, eightInch, extents, extentRecords, slotCount, Long}
 use Rattle.format.specs.Names.{nameByte, nameRight, byteLike, nameLike}
 use Rattle.format.specs.Entries.{Rows, entryAt, withEntry, slotOf, userOf, rcOf, countOf, empty, used, extentOf, endOf, slotIn, slotsOf, named}
+use Rattle.format.specs.Dates.{isDates}
 use Rattle.format.specs.Consistent.{consistent}
 use Rattle.format.specs.Notes.{isListed, freshMap, freeCount}
 use Rattle.format.specs.Fcb.{fcbBytes}
@@ -24,12 +26,14 @@ use Rattle.consistency.specs.Facts.{Fine, Stands, Consistent}
 use Rattle.consistency.specs.Listed.{somewhere-listed, listed-somewhere}
 use Rattle.consistency.specs.Reflect.{facts-image}
 use Rattle.model.specs.declared.Session.{Session}
+use Rattle.model.specs.Table.{timeRight}
 use Rattle.model.specs.Lent.{Lent, lend, rowsOf, ended}
 use Rattle.model.specs.Entering.{threeBytes}
 use Rattle.model.specs.Calls.{done, fileSize}
 use Rattle.model.specs.Step.{step}
 use Rattle.fields.specs.Erased.{ErasedDisk, erased-empty, erased-unused}
 use Rattle.fields.specs.Size.{size-covers, size-high}
+use Rattle.invariant.specs.Carry.{plain-no-dates, plain-no-label}
 use Rattle.table.specs.Facts.{Ready}
 use Rattle.table.specs.Own.{calling}
 use Rattle.model.specs.declared.Asked.{Asked}
@@ -172,11 +176,19 @@ module _ (img : Bytes) (erased : ErasedDisk eightInch img) (f : Entry) (range : 
   unfolding rows
   one-uses = rw one-row (file-used f)
 
+  -- an entry is file A's or empty
+  plain : (e : ℕ) → e < 64 → (used (rows e) ≡ true) ⊎ (empty (rows e) ≡ true)
+  plain e h = split (eq-or-ne e 0) (λ q. inl (ap used (ap rows q ∙ one-row) ∙ file-used f)) (λ q. inr (ap empty (one-left e h q) ∙ erased-empty eightInch img erased e h))
+
+  no-dates : (e : ℕ) → e < 64 → isDates (rows e) ≡ false
+  no-dates e h = plain-no-dates (rows e) (plain e h)
+
   one-facts : Consistent eightInch rows
   one-facts = record {
     fine = λ e h u. let q : e ≡ 0 = only e h u in rw (q, one-row) (file-fine f range);
-    other = λ e h u. split (eq-or-ne e 0) (λ q. not-both _ (file-used f) (ap used (sym (ap rows q ∙ one-row)) ∙ u))
-        (λ q. ap empty (one-left e h q) ∙ erased-empty eightInch img erased e h);
+    other = λ e h u z. split (plain e h) (λ w. not-both _ w u) (λ w. not-both _ w z);
+    dates = λ e h. no-dates e h ∙ sym (and-fails-right _ _ (no-dates 3 (omega arith)));
+    label = λ e g h l p q. not-both _ p (plain-no-label (rows e) (plain e h));
     once-entry = λ b e j g k s t. only-slot b e j s .0 ∙ sym (only-slot b g k t .0);
     once-slot = λ b e j g k s t. only-slot b e j s .1 ∙ sym (only-slot b g k t .1);
     apart = λ e g h l u v s. only e h u ∙ sym (only g l v);
@@ -228,12 +240,14 @@ module _ (img : Bytes) (erased : ErasedDisk eightInch img) (f : Entry) (range : 
       omega arith
 
   -- file A after a log-in, with what fits
-  module _ (map buffer : Bytes) (s : Session) (zero-user : s .user ≡ 0) (fit : Fitting eightInch map fileFcb buffer s) (x : Asked) where
+  module _ (map buffer : Bytes) (s : Session) (zero-user : s .user ≡ 0) (fit : Fitting eightInch map fileFcb buffer s) (x : Asked)
+      (time : timeRight x ≡ true) where
     abbrev pub oneLent : Lent
     oneLent = lend (oneFile img f) (freshMap eightInch (entryAt eightInch (oneFile img f))) fileFcb buffer
 
     pub one-ready : Ready eightInch (calling 35 x) oneLent (ended s)
-    one-ready = logged-ready eightInch (oneFile img f) one-long one-consistent map fileFcb buffer s fit (calling 35 x) (λ u. drive-low)
+    unfolding timeRight
+    one-ready = logged-ready eightInch (oneFile img f) one-long one-consistent map fileFcb buffer s fit (calling 35 x) time (λ u. drive-low)
 
     pub one-entry : HasEntry eightInch oneLent (ended s) (f .extent) (countOf (fileRow f))
     unfolding rows

@@ -1,13 +1,15 @@
 -- Example j: which blocks a slot may list. A block is put into a slot of a used entry of a consistent image.
-use mathlib.Core.Path.{_≡_, sym, _∙_}
+use mathlib.Core.Path.{_≡_, ap, sym, _∙_}
 use mathlib.Core.Logic.{_⊎_, inl, inr}
-use mathlib.Core.Bool.{true, false}
+use mathlib.Core.Bool.{Bool, true, false}
 use Prim.Native.Nat.{ℕ, _≤_, _<_}
 use native.Mathlib.Omega.{arith}
 use Rattle.lists.specs.Cases.{split, eq-or-ne, not-both, refute}
+use Rattle.lists.specs.Tests.{_and_}
 use Rattle.format.specs.Diskette.{Bytes, Geometry, Sound, slotCount, slotsOn, Long}
 use Rattle.format.specs.Entries.{Rows, entryAt, withEntry, slotOf, userOf, used, withSlot}
-use Rattle.format.specs.Consistent.{consistent}
+use Rattle.format.specs.Dates.{isLabel, isDates, isFourth}
+use Rattle.format.specs.Consistent.{asideRight, consistent}
 use Rattle.format.specs.Notes.{isListed}
 use Rattle.facts.specs.Names.{like-intro, right-cong}
 use Rattle.rows.specs.Entries.{length-entryAt, entry-stored, entry-left}
@@ -22,6 +24,7 @@ record Put (G : Geometry) (d t : Rows) (e j v : ℕ) : Type 0 where
   head : (f : ℕ) → f < G .entries → Agree (t f) (d f) 0 16
   here : slotOf G (t e) j ≡ v
   elsewhere : (f k : ℕ) → f < G .entries → k < slotCount → ((f ≡ e) × (k ≡ j) → ⊥) → slotOf G (t f) k ≡ slotOf G (d f) k
+  left : (f : ℕ) → f < G .entries → (e ≡ f → ⊥) → t f ≡ d f
 
 module _ (G : Geometry) (d t : Rows) (e j v : ℕ) (p : Put G d t e j v) where
   same-user : (f : ℕ) → f < G .entries → userOf (t f) ≡ userOf (d f)
@@ -48,7 +51,7 @@ module _ (G : Geometry) (d t : Rows) (e j v : ℕ) (p : Put G d t e j v) where
       (λ q. inr (old (λ w. q (w .0))))
 
   -- a block past the directory that stands nowhere may be put
-  module _ (c : Consistent G d) (below : e < G .entries) (unlisted : isListed G d v ≡ false) (low : G .area ≤ v) (high : v < G .blocks) where
+  module _ (S : Sound G) (uses : used (d e) ≡ true) (c : Consistent G d) (below : e < G .entries) (unlisted : isListed G d v ≡ false) (low : G .area ≤ v) (high : v < G .blocks) where
     nowhere : (f k : ℕ) → Stands G d v f k → ⊥
     nowhere f k s = not-both _ (somewhere-listed G d v f k s) unlisted
 
@@ -88,10 +91,22 @@ module _ (G : Geometry) (d t : Rows) (e j v : ℕ) (p : Put G d t e j v) where
           run = sym (a .run) ∙ s .run ∙ b .run;
         }
 
+    still-dates : (f : ℕ) → f < G .entries → isDates (t f) ≡ isDates (d f)
+    unfolding isDates
+    still-dates f h = rw (same-user f h)
+
+    still-label : (f : ℕ) → f < G .entries → isLabel (t f) ≡ isLabel (d f)
+    unfolding isLabel
+    still-label f h = rw (same-user f h)
+
     put-facts : Consistent G t
     put-facts = record {
       fine = put-fine;
-      other = λ f h u. empty-cong (t f) (d f) (same-user f h) ∙ c .other f h (sym (still-used f h) ∙ u);
+      other = λ f h u z. let old = sym (still-used f h) ∙ u in
+          ap asideRight (p .left f h (λ q. not-both (used (d e)) uses (ap (λ (x : ℕ). used (d x)) q ∙ old)))
+          ∙ c .other f h old (sym (empty-cong (t f) (d f) (same-user f h)) ∙ z);
+      dates = λ f h. still-dates f h ∙ c .dates f h ∙ ap (λ (b : Bool). isFourth f and b) (sym (still-dates 3 (omega (arith, S .fours, S .some-entry))));
+      label = λ f g h l x y. c .label f g h l (sym (still-label f h) ∙ x) (sym (still-label g l) ∙ y);
       once-entry = λ b f k g m s r. put-once b f k g m s r .0;
       once-slot = λ b f k g m s r. put-once b f k g m s r .1;
       apart = λ f g h l u w s. c .apart f g h l (sym (still-used f h) ∙ u) (sym (still-used g l) ∙ w) (put-same f g h l s);
@@ -125,13 +140,15 @@ module _ {G : Geometry} (S : Sound G) (img : Bytes) (long : Long G img) (e j v :
     elsewhere = λ f k h l ne. split (eq-or-ne e f)
         (λ q. rw (← q, put-row) (slot-withSlot-other G (entryAt G img e) j v real k (λ z. ne (sym q, z))))
         (λ q. rw (put-left f h q));
+    left = put-left;
   }
 
   -- a block past the directory that no entry lists may be put into a slot
-  pub slot-allowed : consistent G img ≡ true → isListed G (entryAt G img) v ≡ false → G .area ≤ v → v < G .blocks → consistent G (imageSlot G img e j v) ≡ true
-  slot-allowed right unlisted low high =
+  pub slot-allowed : used (entryAt G img e) ≡ true → consistent G img ≡ true → isListed G (entryAt G img) v ≡ false → G .area ≤ v → v < G .blocks
+      → consistent G (imageSlot G img e j v) ≡ true
+  slot-allowed uses right unlisted low high =
       facts-image G (imageSlot G img e j v)
-      (put-facts G (entryAt G img) (entryAt G (imageSlot G img e j v)) e j v put-image (image-facts G img right) below unlisted low high)
+      (put-facts G (entryAt G img) (entryAt G (imageSlot G img e j v)) e j v put-image S uses (image-facts G img right) below unlisted low high)
 
   -- a number of the directory's blocks, or past the last block, may not
   pub slot-refused : used (entryAt G img e) ≡ true → (v ≡ 0 → ⊥) → (v < G .area) ⊎ (G .blocks ≤ v) → consistent G (imageSlot G img e j v) ≡ false

@@ -25,18 +25,19 @@ use Rattle.model.specs.Lent.{Lent, lend, Outcome, ends, ended}
 use Rattle.model.specs.Kinds.{isCall, kindOf, usesFcb}
 use Rattle.model.specs.Calls.{createdAt, created}
 use Rattle.model.specs.Entering.{madeRow}
-use Rattle.model.specs.Step.{effect, step}
+use Rattle.model.specs.Table.{timeRight}
+use Rattle.model.specs.Step.{effect, stamped, step}
 use Rattle.fields.specs.Entering.{length-copied}
 use Rattle.fields.specs.Making.{length-madeRow}
 use Rattle.fields.specs.Erased.{ErasedDisk, all-erased, erased-consistent}
 use Rattle.table.specs.Total.{total, total-refused}
-use Rattle.effects.specs.Book.{acceptedAnswer}
+use Rattle.table.specs.Accepted.{acceptedAnswer}
 use Rattle.demands.specs.Runs.{Request, Disk, lentTo, outcomeOf, left, accepts, after, run}
 use Rattle.demands.specs.Reading.{Gives, atRecord, recordNumber}
 use Rattle.demands.specs.ReadBack.{readFcb}
 use Rattle.demands.specs.Begins.{Asks}
 use Rattle.demands.specs.Eight.{eight-read-back, eight-begins}
-use Rattle.examples.specs.Erased.{start, blank, notes, fitting, space-step, erased-count}
+use Rattle.examples.specs.Erased.{ask-right, start, blank, notes, fitting, space-step, erased-count}
 use Rattle.examples.specs.OneFile.{oneFile, fileFcb, length-fileFcb, file-count, InRange, Entry, entryOf, drive-low, fcb-name, one-long, one-consistent, one-count, one-sized}
 
 -- a build answers a call by its place in a run, counted from 0, and by what is asked, lent and handed on
@@ -74,7 +75,7 @@ askedBack b k d w asked buffer =
     }
 
 -- a build that takes a write and does not give it back: on the disk that its own calls left `step` accepts the write, the build says that it
--- did too, and 33 with a buffer of 128 bytes is not answered 0, 0 with the bytes that were written
+-- did too, and 33 with a time in BCD and a buffer of 128 bytes is not answered 0, 0 with the bytes that were written
 pub record Forgets (b : Build) : Type 0 where
   pub begin : Disk
   pub earlier : List Request
@@ -84,6 +85,7 @@ pub record Forgets (b : Build) : Type 0 where
   pub taken : acceptedAnswer (write .asked .number) (doneBy b (length earlier) (runBy b 0 begin earlier) write .answer) ≡ true
   pub reading : Asked
   pub reads : reading .number ≡ 33
+  pub time : timeRight reading ≡ true
   pub buffer : Bytes
   pub buffer-long : length buffer ≡ recordBytes
   pub lost : Gives (askedBack b (length earlier) (runBy b 0 begin earlier) write reading buffer) (write .buffer) → ⊥
@@ -92,7 +94,7 @@ pub record Forgets (b : Build) : Type 0 where
 pub right-remembers : Forgets right → ⊥
 unfolding outcomeOf after run readFcb
 right-remembers f =
-    f .lost (eight-read-back (runBy right 0 (f .begin) (f .earlier)) (f .write) (f .writes) (f .accepted) [] tt (f .reading) (f .reads) (f .buffer) (f .buffer-long))
+    f .lost (eight-read-back (runBy right 0 (f .begin) (f .earlier)) (f .write) (f .writes) (f .accepted) [] tt (f .reading) (f .reads) (f .time) (f .buffer) (f .buffer-long))
 
 -- ---- what the builds are run on: what fits, with an FCB of file A
 -- what a log-in leaves, and the outcome of a call on it
@@ -104,11 +106,11 @@ onLogged n img = step eightInch (ask n) (lentAfter img) (ended start)
 
 module _ (img : Bytes) (long : Long eightInch img) (right : consistent eightInch img ≡ true) where
   space-answers : (onLogged 46 img .answer .a ≡ 0) × (onLogged 46 img .answer .h ≡ 0)
-  space-answers = let two = space-step eightInch img long right notes fileFcb blank start (fitting fileFcb length-fileFcb) (ask 0) in (rw two, rw two)
+  space-answers = let two = space-step eightInch img long right notes fileFcb blank start (fitting fileFcb length-fileFcb) (ask 0) (ask-right 0) in (rw two, rw two)
 
   space-byte : (count : ℕ) → freeCount eightInch (freshMap eightInch (entryAt eightInch img)) ≡ count → getD (onLogged 46 img .lent .buffer) 0 0 ≡ 8 * count % 256
   unfolding splice
-  space-byte count q = let two = space-step eightInch img long right notes fileFcb blank start (fitting fileFcb length-fileFcb) (ask 0) in rw (two, q)
+  space-byte count q = let two = space-step eightInch img long right notes fileFcb blank start (fitting fileFcb length-fileFcb) (ask 0) (ask-right 0) in rw (two, q)
 
 -- a file of r records in block 2
 abbrev small : ℕ → Entry
@@ -120,10 +122,10 @@ in-range r = record { extent = omega arith; low = omega arith; high = omega arit
 module _ (img : Bytes) (erased : ErasedDisk eightInch img) where
   -- the erased disk: 46 answers 0, 0, and the first byte is 88H
   erased-answers : (onLogged 46 img .answer .a ≡ 0) × (onLogged 46 img .answer .h ≡ 0)
-  erased-answers = space-answers img (erased .long) (erased-consistent eightInch img erased)
+  erased-answers = space-answers img (erased .long) (erased-consistent eightInch img erased eight-sound)
 
   erased-byte : getD (onLogged 46 img .lent .buffer) 0 0 ≡ 136
-  erased-byte = space-byte img (erased .long) (erased-consistent eightInch img erased) 241 (erased-count eight-sound img erased)
+  erased-byte = space-byte img (erased .long) (erased-consistent eightInch img erased eight-sound) 241 (erased-count eight-sound img erased)
 
   -- with a file of r records: the first byte is 80H, and file A has r records
   one-byte : (r : ℕ) → getD (onLogged 46 (oneFile img (small r)) .lent .buffer) 0 0 ≡ 128
@@ -133,7 +135,7 @@ module _ (img : Bytes) (erased : ErasedDisk eightInch img) where
 
   one-size : (r : ℕ) → r ≤ 128 → getD (onLogged 35 (oneFile img (small r)) .lent .fcb) 33 0 ≡ r
   unfolding splice fileFcb
-  one-size r h = let two = one-sized img erased (small r) (in-range r) notes blank start refl (fitting fileFcb length-fileFcb) (ask 0) in rw (two, file-count (small r) h) (omega arith)
+  one-size r h = let two = one-sized img erased (small r) (in-range r) notes blank start refl (fitting fileFcb length-fileFcb) (ask 0) (ask-right 0) in rw (two, file-count (small r) h) (omega arith)
 
 -- ---- a write that `step` accepts: the first one to a file made on an erased disk that is logged in
 abbrev asking : ℕ → Bytes → Bytes → Request
@@ -152,7 +154,7 @@ abbrev firstWrite : Bytes → Request
 firstWrite img = asking 21 (outcomeOf eightInch (logged img) making .lent .fcb) (replicate 128 1)
 
 length-made : (img : Bytes) → length (outcomeOf eightInch (logged img) making .lent .fcb) ≡ fcbBytes
-unfolding outcomeOf effect kindOf created createdAt
+unfolding outcomeOf effect stamped kindOf created createdAt
 length-made img =
     let d = logged img in
     let row : Bytes = madeRow (d .session .user) fileFcb in
@@ -164,10 +166,10 @@ first-accepted : (img : Bytes) → ErasedDisk eightInch img → accepts eightInc
 unfolding fileFcb
 first-accepted img erased =
     let asks : (n : ℕ) → Asks (asking n fileFcb blank) n =
-    λ n. record { number = refl; fcb = length-fileFcb; buffer = length-replicate {A = ℕ} 128 0 } in
+    λ n. record { number = refl; time = ask-right n; fcb = length-fileFcb; buffer = length-replicate {A = ℕ} 128 0 } in
     eight-begins (atHand img) erased (length-replicate {A = ℕ} 243 0) record { user = omega arith; place = omega arith }
     (asking 13 fileFcb blank) making (firstWrite img) (asks 13) (asks 22) drive-low fcb-name (omega arith) (omega arith)
-    record { number = refl; fcb = length-made img; buffer = length-replicate {A = ℕ} 128 1 } refl .2
+    record { number = refl; time = ask-right 21; fcb = length-made img; buffer = length-replicate {A = ℕ} 128 1 } refl .2
 
 -- ---- one that refuses all: A and H are never both 0, whatever the codes; the table of codes has that pair for an accepted call alone
 abbrev pub RefusesAll : Build → Type 0
@@ -258,6 +260,7 @@ module _ (img : Bytes) (erased : ErasedDisk eightInch img) where
     taken = refl;
     reading = ask 33;
     reads = refl;
+    time = ask-right 33;
     buffer = blank;
     buffer-long = length-replicate {A = ℕ} 128 0;
     lost = λ g. let z : _≡_ {A = ℕ} 0 1 = ap (λ (x : Bytes). getD x 0 0) (g .is-buffer) in omega arith;

@@ -8,3 +8,4 @@ pub mod Find
 pub mod Naming
 pub mod Current
 pub mod Names
+pub mod Beside

@@ -30,8 +30,8 @@ module _ (G : Geometry) (img : Bytes) (erased : ErasedDisk G img) where
   pub erased-unused : (e : ℕ) → e < G .entries → used (entryAt G img e) ≡ false
   erased-unused e h = empty-unused (entryAt G img e) (erased-empty e h)
 
-  pub erased-consistent : consistent G img ≡ true
-  erased-consistent = facts-image G img (all-empty G (entryAt G img) erased-empty)
+  pub erased-consistent : Sound G → consistent G img ≡ true
+  erased-consistent S = facts-image G img (all-empty G (entryAt G img) S erased-empty)
 
   pub erased-unlisted : (b : ℕ) → (b ≡ 0 → ⊥) → isListed G (entryAt G img) b ≡ false
   erased-unlisted b real =

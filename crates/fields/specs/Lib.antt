@@ -1,6 +1,7 @@
 pub mod Agree
 pub mod Closing
 pub mod Images
+pub mod Stamps
 pub mod Entering
 pub mod Making
 pub mod Fine

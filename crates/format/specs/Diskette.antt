@@ -106,6 +106,9 @@ pub record Sound (G : Geometry) : Type 0 where
   -- every record of every block lies in the image
   pub image-holds : (d : ℕ) → d < G .perBlock * G .blocks → sectorsBefore G d < G .records
   pub slots-hold : extentRecords ≤ slotsOn G * G .perBlock
+  -- the directory's records are full: entries come in fours, and there are some
+  pub fours : G .entries % entriesPerRecord ≡ 0
+  pub some-entry : 0 < G .entries
 
 -- the byte of the image at which disk record d starts
 unfoldable pub offsetOf : Geometry → ℕ → ℕ

@@ -1,6 +1,7 @@
 -- The invariant where picked rows change and the others stay: the picked entries become empty and their blocks free, or they get
 -- another name and nothing else.
 use mathlib.Core.Path.{_≡_, refl, ap, sym, _∙_, subst}
+use mathlib.Core.Logic.{inl}
 use mathlib.Core.Bool.{Bool, true, false, not}
 use Prim.Native.Nat.{ℕ, _*_, _+_, _/_, _%_, _≤_, _<_}
 use native.Mathlib.Omega.{arith}
@@ -80,6 +81,7 @@ module _ (G : Geometry) (d : Rows) (picked : ℕ → Bool) (b : ℕ) where
 -- ---- a delete
 module _ {G : Geometry} (S : Sound G) (d d′ : Rows) (m m′ : ℕ → ℕ) (v : Inv G d m) (picked : ℕ → Bool)
     (kept : (k : ℕ) → k < G .entries → picked k ≡ false → d′ k ≡ d k)
+    (uses : (k : ℕ) → k < G .entries → picked k ≡ true → used (d k) ≡ true)
     (gone : (k : ℕ) → k < G .entries → picked k ≡ true → empty (d′ k) ≡ true)
     (note : (b : ℕ) → b < G .blocks → m′ b ≡ releasedNote G d picked b (m b)) where
   left : (k : ℕ) → k < G .entries → used (d′ k) ≡ true → picked k ≡ false
@@ -93,7 +95,7 @@ module _ {G : Geometry} (S : Sound G) (d d′ : Rows) (m m′ : ℕ → ℕ) (v 
 
   erased-dir : Consistent G d′
   erased-dir =
-      change-dir G d d′ (v .dir) picked kept
+      change-dir G d d′ S (v .dir) picked kept (λ k l p. inl (uses k l p))
       (λ k l p u. not-both (picked k) p (left k l u)) (λ k l p u. gone k l p)
       (λ b e j f k s u. v .dir .once-entry b e j f k (back b e j s) (back b f k u)) (λ b e j f k s u. v .dir .once-slot b e j f k (back b e j s) (back b f k u))
       (λ k f l h p q u w s. not-both (picked k) p (left k l u)) (λ k f l h p q u w s. not-both (picked k) p (left k l u))
@@ -173,7 +175,7 @@ module _ {G : Geometry} (S : Sound G) (d d′ : Rows) (m : ℕ → ℕ) (v : Inv
 
   renamed-dir : Consistent G d′
   renamed-dir =
-      change-dir G d d′ (v .dir) picked kept (λ k l p u. renamed k l p .fine) (λ k l p u. not-both (used (d′ k)) (used-same k l p) u)
+      change-dir G d d′ S (v .dir) picked kept (λ k l p. inl (uses k l p)) (λ k l p u. renamed k l p .fine) (λ k l p u. not-both (used (d′ k)) (used-same k l p) u)
       (λ b e j f k s u. v .dir .once-entry b e j f k (slots-back b e j s) (slots-back b f k u))
       (λ b e j f k s u. v .dir .once-slot b e j f k (slots-back b e j s) (slots-back b f k u))
       (λ k f l h p q u w s. let r = renamed k l p in let t = renamed f h q in

@@ -1,7 +1,7 @@
 -- The invariant where an entry is closed: its file stays, its ex and s2 stay in range, and each of its slots stays or, having been 0,
 -- gets a block that was noted pending for it, which is recorded now.
 use mathlib.Core.Path.{_≡_, refl, ap, sym, _∙_, subst}
-use mathlib.Core.Logic.{_⊎_}
+use mathlib.Core.Logic.{_⊎_, inl}
 use mathlib.Core.Bool.{true, false}
 use Prim.Native.Nat.{ℕ, _≤_, _<_}
 use native.Mathlib.Omega.{arith}
@@ -121,7 +121,8 @@ module _ {G : Geometry} (S : Sound G) (d d′ : Rows) (m m′ : ℕ → ℕ) (v 
 
   closed-dir : Consistent G d′
   closed-dir =
-      change-dir G d d′ (v .dir) (λ k. eqb k e) (λ k l p. there k l (eqb-false k e p))
+      change-dir G d d′ S (v .dir) (λ k. eqb k e) (λ k l p. there k l (eqb-false k e p))
+      (λ k l p. inl (subst (λ (x : ℕ). used (d x) ≡ true) (sym (eqb-true k e p)) uses))
       (λ k l p u. subst (λ (x : ℕ). Fine G (d′ x)) (sym (eqb-true k e p)) closed-fine)
       (λ k l p u. not-both (used (d′ k)) (subst (λ (x : ℕ). used (d′ x) ≡ true) (sym (eqb-true k e p)) still-used) u)
       once-entry once-slot

@@ -7,3 +7,4 @@ pub mod Good
 pub mod Updates
 pub mod CloseGood
 pub mod RecordCalls
+pub mod Stamps

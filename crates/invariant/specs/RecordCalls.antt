@@ -35,10 +35,10 @@ module _ {G : Geometry} (S : Sound G) (n : ℕ) (l : Lent) (s : Session) (g : Go
   unfolding presentEntry
   present-current = current-says G (rowsOf G l) (l .drive .map) (s .user) (l .fcb) e at
 
-  present-below : e < G .entries
+  pub present-below : e < G .entries
   present-below = current-below S (l .drive .image) (l .drive .map) g (s .user) (f .user-low) (l .fcb) e present-current
 
-  present-used : used (rowsOf G l e) ≡ true
+  pub present-used : used (rowsOf G l e) ≡ true
   present-used = current-used S (l .drive .image) (l .drive .map) g (s .user) (f .user-low) (l .fcb) e present-current
 
   pub slot-below : targetSlot G n (l .fcb) < slotCount

@@ -1,6 +1,7 @@
 -- The invariant where rows stay (whatever becomes of the records past the directory, and where a map is made anew or a block is
 -- taken), and where an entry is made.
 use mathlib.Core.Path.{_≡_, refl, ap, sym, _∙_, subst}
+use mathlib.Core.Logic.{inr}
 use mathlib.Core.Bool.{true, false}
 use Prim.Native.Nat.{ℕ, _<_}
 use lib.Dec.{eqb}
@@ -8,13 +9,14 @@ use borrow.Author.Tests.{eqb-true, eqb-false}
 use Rattle.lists.specs.Cases.{split, eq-or-ne, not-both, clash}
 use Rattle.format.specs.Diskette.{Geometry, Sound, slotCount, slotsOn}
 use Rattle.format.specs.Entries.{Rows, slotOf, used, empty}
+use Rattle.format.specs.Dates.{isDates, datesRight}
 use Rattle.format.specs.Notes.{freeNote, pendingFor, freshNote}
 use Rattle.consistency.specs.Facts.{Fine, Stands, SameFile, Consistent}
 use Rattle.consistency.specs.Reflect.{low-used, empty-elsewhere}
 use Rattle.notes.specs.Free.{free-spare}
 use Rattle.notes.specs.Right.{NoteOk, ok-pending, fresh-ok}
 use Rattle.invariant.specs.Inv.{Inv}
-use Rattle.invariant.specs.Carry.{stands-row, change-dir, note-on}
+use Rattle.invariant.specs.Carry.{stands-row, change-dir, note-on, dates-dir, dates-back, dates-forth, dates-used}
 
 -- ---- the map alone
 module _ (G : Geometry) (d : Rows) where
@@ -42,7 +44,7 @@ module _ {G : Geometry} (S : Sound G) (d d′ : Rows) (m m′ : ℕ → ℕ) (v 
 
   pub keep-dir : Consistent G d′
   keep-dir =
-      change-dir G d d′ (v .dir) (λ k. false) (λ k l p. rows k l) (λ k l p. clash (sym p)) (λ k l p. clash (sym p))
+      change-dir G d d′ S (v .dir) (λ k. false) (λ k l p. rows k l) (λ k l p. clash (sym p)) (λ k l p. clash (sym p)) (λ k l p. clash (sym p))
       (λ b e j f k s u. v .dir .once-entry b e j f k (back b e j s) (back b f k u)) (λ b e j f k s u. v .dir .once-slot b e j f k (back b e j s) (back b f k u))
       (λ k f l h p. clash (sym p)) (λ k f l h p. clash (sym p))
 
@@ -51,6 +53,14 @@ module _ {G : Geometry} (S : Sound G) (d d′ : Rows) (m m′ : ℕ → ℕ) (v 
     dir = keep-dir;
     map = λ b h. note-on S d d′ back forth (λ e l u. ap used (rows e l) ∙ u) b (m b) (m′ b) (notes b h) (v .map b h);
   }
+
+-- ---- date entries change, and stay right
+pub dates-inv : {G : Geometry} (S : Sound G) (d d′ : Rows) (m : ℕ → ℕ) → Inv G d m → ((k : ℕ) → k < G .entries → isDates (d k) ≡ false → d′ k ≡ d k)
+    → ((k : ℕ) → k < G .entries → isDates (d k) ≡ true → datesRight (d′ k) ≡ true) → Inv G d′ m
+dates-inv S d d′ m v kept right = record {
+  dir = dates-dir S d d′ (v .dir) kept right;
+  map = λ b h. note-on S d d′ (dates-back S d d′ (v .dir) kept right) (dates-forth S d d′ (v .dir) kept right) (dates-used S d d′ (v .dir) kept right) b (m b) (m b) refl (v .map b h);
+}
 
 -- ---- the empty entry t becomes a row without blocks, of a file and extent that no entry had
 module _ {G : Geometry} (S : Sound G) (d d′ : Rows) (m : ℕ → ℕ) (v : Inv G d m) (t : ℕ) (below : t < G .entries) (was : empty (d t) ≡ true)
@@ -70,7 +80,8 @@ module _ {G : Geometry} (S : Sound G) (d d′ : Rows) (m : ℕ → ℕ) (v : Inv
 
   made-dir : Consistent G d′
   made-dir =
-      change-dir G d d′ (v .dir) (λ k. eqb k t) (λ k l p. there k l (eqb-false k t p))
+      change-dir G d d′ S (v .dir) (λ k. eqb k t) (λ k l p. there k l (eqb-false k t p))
+      (λ k l p. inr (subst (λ (x : ℕ). empty (d x) ≡ true) (sym (eqb-true k t p)) was))
       (λ k l p u. subst (λ (x : ℕ). Fine G (d′ x)) (sym (eqb-true k t p)) fine)
       (λ k l p u. not-both (used (d′ k)) (subst (λ (x : ℕ). used (d′ x) ≡ true) (sym (eqb-true k t p)) (low-used (d′ t) (fine .user))) u)
       (λ b e j f k s u. v .dir .once-entry b e j f k (made-back b e j s) (made-back b f k u))

@@ -3,11 +3,15 @@ use mathlib.Core.Path.{_≡_, refl, ap, sym, _∙_, subst}
 use mathlib.Core.Bool.{Bool, true, false}
 use Prim.Native.Nat.{ℕ, _*_, _%_, _≤_, _<_}
 use lib.ListN.{length}
-use Rattle.lists.specs.Cases.{not-both}
-use Rattle.format.specs.Diskette.{Bytes, Geometry, Sound, recordBytes, withRecord, entryBytes, slotCount, slotsOn, Long}
+use borrow.Author.Tests.{eq-eqb}
+use native.Mathlib.Omega.{arith}
+use Rattle.lists.specs.Cases.{split, eq-or-ne, not-both}
+use Rattle.lists.specs.Tests.{and-both}
+use Rattle.format.specs.Diskette.{Bytes, Geometry, Sound, recordBytes, withRecord, entryBytes, entriesPerRecord, slotCount, slotsOn, Long}
 use Rattle.format.specs.Names.{nameRight}
 use Rattle.format.specs.Entries.{entryAt, withEntry, slotOf, used, empty, named, isFile}
 use Rattle.format.specs.Consistent.{consistent}
+use Rattle.format.specs.Dates.{isDates, datesRight, fourthOf, dated, withStamp}
 use Rattle.format.specs.Notes.{noteAt, freeNote, pendingFor, withNote, freshMap, freedMap, releasedMap}
 use Rattle.model.specs.Entering.{renamedRow}
 use Rattle.model.specs.Target.{placeIn}
@@ -25,10 +29,13 @@ use Rattle.fields.specs.Fine.{fine-renamed}
 use Rattle.fields.specs.Making.{length-renamedRow, user-renamed, name-renamed, extent-renamed, slot-renamed}
 use Rattle.fields.specs.Changing.{length-changedRows, row-picked, row-unpicked, length-erasedRow, empty-erased}
 use Rattle.facts.specs.Naming.{named-user, named-like, named-intro}
-use Rattle.consistency.specs.Reflect.{image-facts}
+use Rattle.consistency.specs.Reflect.{image-facts, dates-unused, dates-full, aside-dates}
+use Rattle.facts.specs.Beside.{fourth-below}
+use Rattle.fields.specs.Stamps.{StampOk, length-withStamp, row-withStamp, row-withStamp-other, dates-stamped}
 use Rattle.consistency.specs.Naming.{named-used}
 use Rattle.fields.specs.Target.{place-below}
-use Rattle.invariant.specs.Steps.{fresh-inv, take-inv, keep-inv, make-inv}
+use Rattle.invariant.specs.Steps.{fresh-inv, take-inv, keep-inv, make-inv, dates-inv}
+use Rattle.invariant.specs.Carry.{still-dates}
 use Rattle.invariant.specs.Change.{RenamedTo, erase-inv, rename-inv}
 use Rattle.invariant.specs.Good.{Good, good-consistent, good-right}
 
@@ -75,6 +82,50 @@ module _ {G : Geometry} (S : Sound G) (img map : Bytes) (g : Good G img map) whe
             (λ k l. entry-kept S img (g .image-long) (placeIn G b r) (block-past G b (r % G .perBlock) past) p bytes full k l) (λ c h. refl);
       }
 
+  -- on a disk with date entries, an entry that is none is not in the fourth position
+  pub not-fourth : dated (entryAt G img) ≡ true → (e : ℕ) → e < G .entries → isDates (entryAt G img e) ≡ false → e % entriesPerRecord < 3
+  not-fourth dates e below plain =
+      split (eq-or-ne (e % entriesPerRecord) 3)
+      (λ q. not-both (isDates (entryAt G img e)) (g .inv .dir .dates e below ∙ and-both _ _ (eq-eqb _ _ q) dates) plain) (λ q. omega arith)
+
+  -- and the fourth position of an entry's record is one
+  pub dates-beside : dated (entryAt G img) ≡ true → (e : ℕ) → e < G .entries → isDates (entryAt G img (fourthOf e)) ≡ true
+  dates-beside dates e below =
+      let fourth : fourthOf e % entriesPerRecord ≡ 3 = omega arith in
+      g .inv .dir .dates (fourthOf e) (fourth-below S e below) ∙ and-both _ _ (eq-eqb _ _ fourth) dates
+
+  -- a stamp beside an entry, on such a disk
+  module _ (dates : dated (entryAt G img) ≡ true) (e : ℕ) (below : e < G .entries) (beside : e % entriesPerRecord < 3)
+      (which : ℕ) (two : which < 2) (stamp : Bytes) (ok : StampOk stamp) where
+    -- every row but a date entry stays
+    pub stamp-kept : (k : ℕ) → k < G .entries → isDates (entryAt G img k) ≡ false → entryAt G (withStamp G img e which stamp) k ≡ entryAt G img k
+    stamp-kept k l n =
+        row-withStamp-other S img (g .image-long) e below beside which two stamp ok k l
+        (λ q. not-both (isDates (entryAt G img k)) (ap (λ (x : ℕ). isDates (entryAt G img x)) (sym q) ∙ (dates-beside dates e below)) n)
+
+    dates-right : (k : ℕ) → k < G .entries → isDates (entryAt G img k) ≡ true → datesRight (entryAt G img k) ≡ true
+    dates-right k l t =
+        aside-dates (entryAt G img k) t (g .inv .dir .other k l (dates-unused (entryAt G img k) t) (dates-full (entryAt G img k) t))
+
+    stamp-right : (k : ℕ) → k < G .entries → isDates (entryAt G img k) ≡ true → datesRight (entryAt G (withStamp G img e which stamp) k) ≡ true
+    stamp-right k l t =
+        split (eq-or-ne (fourthOf e) k)
+        (λ q. subst (λ (x : ℕ). datesRight (entryAt G (withStamp G img e which stamp) x) ≡ true) q
+        (ap datesRight (row-withStamp S img (g .image-long) e below beside which two stamp ok)
+        ∙ dates-stamped (entryAt G img (fourthOf e)) (whole (fourthOf e) (fourth-below S e below)) (e % entriesPerRecord) beside which two stamp ok
+        (dates-right (fourthOf e) (fourth-below S e below) (dates-beside dates e below))))
+        (λ q. ap datesRight (row-withStamp-other S img (g .image-long) e below beside which two stamp ok k l q) ∙ dates-right k l t)
+
+    pub dates-still : (k : ℕ) → k < G .entries → isDates (entryAt G (withStamp G img e which stamp) k) ≡ isDates (entryAt G img k)
+    dates-still = still-dates S (entryAt G img) (entryAt G (withStamp G img e which stamp)) (g .inv .dir) stamp-kept stamp-right
+
+    pub good-stamped : Good G (withStamp G img e which stamp) map
+    good-stamped = record {
+      image-long = long-on G (length-withStamp S img (g .image-long) e below beside which two stamp ok) (g .image-long);
+      map-long = g .map-long;
+      inv = dates-inv S (entryAt G img) (entryAt G (withStamp G img e which stamp)) (λ c. noteAt map c) (g .inv) stamp-kept stamp-right;
+    }
+
   -- a row without blocks in an empty entry, of a file and extent that no entry has
   module _ (t : ℕ) (below : t < G .entries) (was : empty (entryAt G img t) ≡ true) (row : Bytes) (full : length row ≡ entryBytes) (fine : Fine G row)
       (bare : (j : ℕ) → j < slotCount → slotOf G row j ≡ 0) (user : ℕ) (s : Bytes) (q ext : ℕ) (is : isFile G user s q ext row ≡ true)
@@ -93,14 +144,14 @@ module _ {G : Geometry} (S : Sound G) (img map : Bytes) (g : Good G img map) whe
         }
 
   -- 19: the rows that a test picks become empty, and their blocks free
-  pub good-erased : (picks : Bytes → Bool) → Good G (changedRows G picks erasedRow img) (releasedMap G (entryAt G img) (λ (e : ℕ). picks (entryAt G img e)) map)
-  good-erased picks =
+  pub good-erased : (picks : Bytes → Bool) → ((k : ℕ) → k < G .entries → picks (entryAt G img k) ≡ true → used (entryAt G img k) ≡ true) → Good G (changedRows G picks erasedRow img) (releasedMap G (entryAt G img) (λ (e : ℕ). picks (entryAt G img e)) map)
+  good-erased picks uses =
       record {
         image-long = long-on G (length-changedRows S picks erasedRow length-erasedRow img (g .image-long)) (g .image-long);
         map-long = length-released G (entryAt G img) (λ (e : ℕ). picks (entryAt G img e)) map;
         inv = erase-inv S (entryAt G img) (entryAt G (changedRows G picks erasedRow img)) (λ c. noteAt map c)
             (λ c. noteAt (releasedMap G (entryAt G img) (λ (e : ℕ). picks (entryAt G img e)) map) c) (g .inv) (λ (e : ℕ). picks (entryAt G img e))
-            (λ k l p. row-unpicked S picks erasedRow length-erasedRow img (g .image-long) k l p)
+            (λ k l p. row-unpicked S picks erasedRow length-erasedRow img (g .image-long) k l p) uses
             (λ k l p. ap empty (row-picked S picks erasedRow length-erasedRow img (g .image-long) k l p) ∙ empty-erased (entryAt G img k) (whole k l))
             (λ b h. released-at G (entryAt G img) (λ (e : ℕ). picks (entryAt G img e)) map b h);
       }

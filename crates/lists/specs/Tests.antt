@@ -120,3 +120,8 @@ agree-same true true h = refl
 agree-same true false h = sym h
 agree-same false true h = h
 agree-same false false h = refl
+
+pub same-agree : (a b : Bool) → a ≡ b → agree a b ≡ true
+unfolding agree
+same-agree true b h = sym h
+same-agree false b h = rw (← h)

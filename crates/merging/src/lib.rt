@@ -2,10 +2,11 @@
 ghost use mathlib.Core.Path.{_≡_};
 ghost use Prim.Native.Nat.{_≤_, _<_};
 ghost use lib.ListN.{length};
+ghost use Rattle.lists.specs.Below.{anyBelow};
 ghost use Rattle.lists.specs.Fold.{foldBelow};
 ghost use Rattle.format.specs.Diskette.{eightInch, entryBytes, slotBytes, slotCount};
 ghost use Rattle.format.specs.Fcb.{fcbBytes};
-ghost use Rattle.model.specs.Closing.{takesSlot, mergedByte, mergedSlots, endsLater, laterEnd, closedRow, closedNote};
+ghost use Rattle.model.specs.Closing.{takesSlot, mergedByte, mergedSlots, endsLater, laterEnd, closedRow, closedNote, closeChanges};
 ghost use Rattle.merging.specs.Merging.{closeKeeps};
 
 // Whether slot j takes the FCB's block: the entry has none there, and the FCB has one.
@@ -120,4 +121,29 @@ pub fn close_keeps(row: &[u8], fcb: &[u8]) -> bool
         return false;
     }
     !ends_later(row, fcb)
+}
+
+// Whether some slot takes the FCB's block.
+fn takes_any(es: [u8; 16], fs: [u8; 16]) -> bool
+    ensures { λ r. ⌜ r ≡ anyBelow (takesSlot eightInch es fs) slotCount ⌝ }
+{
+    let mut j = 0;
+    while j < format::SLOTS {
+        if takes_slot(es, fs, j) {
+            return true;
+        }
+        j += 1;
+    }
+    false
+}
+
+// Whether a close changes a row: exactly, for a stamp goes by it.
+pub fn close_changes(row: &[u8], fcb: &[u8]) -> bool
+    requires { ⌜ (entryBytes ≤ length (now row)) × (entryBytes ≤ length (now fcb)) ⌝ }
+    ensures { λ r. ⌜ r ≡ closeChanges eightInch (now (row .entry)) (now (fcb .entry)) ⌝ }
+{
+    if ends_later(row, fcb) {
+        return true;
+    }
+    takes_any(entries::slots(row), entries::slots(fcb))
 }

@@ -1,4 +1,5 @@
--- The calls of document 01, once: the number of each, its kind (what it may change besides A, H and the search), and how it uses the FCB.
+-- The calls of document 01, once: the number of each, its kind (what its own rule may change besides A, H and the search), and how it uses
+-- the FCB.
 use mathlib.Core.Bool.{Bool, true, false, cond, not}
 use mathlib.Core.List.{List, [], _∷_}
 use Prim.Native.Nat.{ℕ}

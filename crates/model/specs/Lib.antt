@@ -7,5 +7,6 @@ pub mod Target
 pub mod Search
 pub mod Table
 pub mod Calls
+pub mod Stamps
 pub mod Step
 pub mod Naming

@@ -1,5 +1,6 @@
--- One call: refused by the table with nothing changed, or carried out.
+-- One call: refused by the table with nothing changed, or carried out and stamped.
 use mathlib.Core.Bool.{cond}
+use mathlib.Core.List.{List, []}
 use Prim.Native.Nat.{ℕ}
 use lib.Dec.{eqb}
 use Rattle.format.specs.Diskette.{Bytes, Geometry}
@@ -17,6 +18,7 @@ use Rattle.model.specs.Lent.{Lent, Outcome, ends, ended}
 use Rattle.model.specs.Search.{patternOf}
 use Rattle.model.specs.Table.{verdict}
 use Rattle.model.specs.Calls.{Told, quietly, loggedIn, freed, userSet, opened, closed, searched, deleted, created, renamed, sized, positioned, space, read, written}
+use Rattle.model.specs.Stamps.{Stamp, stamps, stampedOutcome}
 
 -- "only a 17 that finds nothing, or an 18 with a search on that finds no more, ends the search"
 abbrev pub refusedSession : Code → Session → Session
@@ -65,5 +67,14 @@ module _ (G : Geometry) (asked : Asked) (l : Lent) (s : Session) where
   carriedOut Passed = effect
   carriedOut (Refused code) = refused code s l
 
+  -- and the stamps that it makes: a refusal stamps nothing
+  abbrev pub stampsMade : Verdict → List Stamp
+  stampsMade Passed = stamps G asked l s (kindOf (asked .number))
+  stampsMade (Refused code) = []
+
   unfoldable pub step : Outcome
-  step = carriedOut (verdict G asked l s)
+  step = stampedOutcome G (stampsMade (verdict G asked l s)) (carriedOut (verdict G asked l s))
+
+  -- what an accepted call leaves
+  unfoldable pub stamped : Outcome
+  stamped = stampedOutcome G (stamps G asked l s (kindOf (asked .number))) effect

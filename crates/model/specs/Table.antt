@@ -11,6 +11,7 @@ use Rattle.lists.specs.Below.{anyBelow}
 use Rattle.format.specs.Diskette.{Bytes, Geometry, isLong, recordBytes, extents, lastRecord}
 use Rattle.format.specs.Names.{nameRight}
 use Rattle.format.specs.Entries.{exOf, named, readOnly, findFile, findNamed, findEmpty}
+use Rattle.format.specs.Dates.{bcd}
 use Rattle.format.specs.Consistent.{extentRight, consistent}
 use Rattle.format.specs.Notes.{mapRight, findFree}
 use Rattle.format.specs.Fcb.{fcbBytes, crRight, randomOf}
@@ -28,16 +29,21 @@ use Rattle.model.specs.Target.{targetExtent, presentEntry, targetEntry, 
 use Rattle.model.specs.Search.{patternOf, findHit}
 
 -- ---- the tests
+-- hour and minute in BCD
+unfoldable pub timeRight : Asked → Bool
+timeRight asked = bcd (asked .hour) and bcd (asked .minute)
+
 module _ (G : Geometry) (l : Lent) where
   unfoldable pub lengthsRight : Bool
   lengthsRight =
       isLong G (l .drive .image) and eqb (length (l .drive .map)) (G .blocks) and eqb (length (l .fcb)) fcbBytes
       and eqb (length (l .buffer)) recordBytes
 
-  -- a length, the session's user or place, or byte 0 of an FCB that is used
+  -- a length, the session's user or place, the time, or byte 0 of an FCB that is used
   unfoldable pub parametersRight : Asked → Session → Bool
   parametersRight asked s =
-      lengthsRight and leb (s .user) 15 and leb (s .place) (G .entries) and (not (usesFcb (asked .number)) or leb (getD (l .fcb) 0 0) 1)
+      lengthsRight and leb (s .user) 15 and leb (s .place) (G .entries) and timeRight asked
+      and (not (usesFcb (asked .number)) or leb (getD (l .fcb) 0 0) 1)
 
   unfoldable pub diskRight : Asked → Bool
   diskRight asked = consistent G (l .drive .image) and (eqb (asked .number) 13 or mapRight G (rowsOf G l) (l .drive .map))

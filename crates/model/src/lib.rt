@@ -1,11 +1,14 @@
 // What the calls do, as definitions in specs/: the table of refusals, and the accepted effect of each call. Here stand the types in
 // which a call is asked for and answered.
 
-// What is asked: the call's number and its argument.
+// What is asked: the call's number and its argument; and the time: the day, 1 January 1978 being 1, hour and minute in BCD.
 #[repr(C)]
 pub struct Asked {
     pub number: u8,
     pub argument: u8,
+    pub day: u16,
+    pub hour: u8,
+    pub minute: u8,
 }
 
 // What passes from call to call: the user, and a search with its pattern, its next place, and whether it is on (any but 0).

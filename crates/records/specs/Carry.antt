@@ -29,6 +29,7 @@ use Rattle.model.specs.declared.Kind.the-variants.{Write}
 use Rattle.model.specs.Calls.{done, readAt, reading, writtenAt, writing}
 use Rattle.model.specs.Step.{refusedSession}
 use Rattle.table.specs.OwnStep.{ownStep}
+use Rattle.table.specs.Plans.{entryOf}
 use Rattle.targets.specs.declared.Target.{Target}
 use Rattle.targets.specs.Target.{TargetOf}
 use Rattle.rulings.specs.declared.Ruling.the-variants.{Refuse, Follow}
@@ -42,12 +43,7 @@ arrived G ext l (Stay e b) = l
 arrived G ext l (Move e t b) = moved G ext l e t
 arrived G ext l (Make e t b) = made G ext l e t
 
--- the target's entry and block
-abbrev pub entryOf : Plan → ℕ
-entryOf (Stay e b) = e
-entryOf (Move e t b) = t
-entryOf (Make e t b) = t
-
+-- the target's block
 abbrev pub blockOf : Plan → ℕ
 blockOf (Stay e b) = b
 blockOf (Move e t b) = b

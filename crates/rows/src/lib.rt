@@ -10,6 +10,9 @@ ghost use Rattle.rows.specs.Entries.{rowOf};
 use format::ENTRIES_PER_RECORD;
 use format::ENTRY_BYTES;
 
+// All but the last of a record's rows.
+pub const THREE_ROWS: usize = 3 * ENTRY_BYTES;
+
 // The place of an entry in the image.
 pub fn entry_place(e: usize) -> usize
     requires { ⌜ e < eightInch .entries ⌝ }
@@ -47,19 +50,30 @@ pub fn row_at(four: &[u8], at: usize) -> &[u8]
     &four[at..end]
 }
 
-// Whether none of four rows is in use, as in most records of a directory that is not full.
-pub fn all_empty(four: &[u8]) -> bool
+// Whether the first three of four rows are empty, as in most records of a directory with date entries that is not full.
+pub fn three_empty(four: &[u8]) -> bool
     requires { ⌜ length (now four) ≡ recordBytes ⌝ }
-    ensures { λ b. ⌜ b ≡ allBelow (λ (i : ℕ). empty (rowOf (now (four .entry)) i)) entriesPerRecord ⌝ }
+    ensures { λ b. ⌜ b ≡ allBelow (λ (i : ℕ). empty (rowOf (now (four .entry)) i)) 3 ⌝ }
 {
     let mut at = 0;
-    while at < format::RECORD_BYTES {
+    while at < THREE_ROWS {
         if four[at] != 0xE5 {
             return false;
         }
         at += ENTRY_BYTES;
     }
     true
+}
+
+// Whether all four are, as in most records of a directory without date entries.
+pub fn all_empty(four: &[u8]) -> bool
+    requires { ⌜ length (now four) ≡ recordBytes ⌝ }
+    ensures { λ b. ⌜ b ≡ allBelow (λ (i : ℕ). empty (rowOf (now (four .entry)) i)) entriesPerRecord ⌝ }
+{
+    if !three_empty(four) {
+        return false;
+    }
+    four[THREE_ROWS] == 0xE5
 }
 
 // The row of an entry by value, for a caller that goes on to change the image.

@@ -1,5 +1,5 @@
--- Lists of calls as code is handed them. A script has four numbers a call: its own, its argument, and the lengths of its FCB and of its
--- buffer. The FCBs stand one after the other in one slice, the buffers in another.
+-- Lists of calls as code is handed them. A script has seven numbers a call: its own, its argument, the time (day, hour and minute), and the
+-- lengths of its FCB and of its buffer. The FCBs stand one after the other in one slice, the buffers in another.
 use mathlib.Core.Path.{_≡_, refl, ap, sym, _∙_}
 use mathlib.Core.List.{List, [], _∷_, _++_, append-assoc}
 use Prim.Native.Nat.{ℕ, suc, _+_, _-_, _%_, _≤_, _<_}
@@ -17,48 +17,66 @@ use Rattle.script.specs.declared.Point.{Point}
 abbrev pub request : Asked → Bytes → Bytes → Request
 request asked fcb buffer = record { asked = asked; fcb = fcb; buffer = buffer }
 
--- a call's number and argument are bytes
-abbrev pub askedBy : ℕ → ℕ → Asked
-askedBy n a = record { number = n % 256; argument = a % 256 }
+-- a call's numbers are bytes, but for the day, which is two
+abbrev pub askedBy : ℕ → ℕ → ℕ → ℕ → ℕ → Asked
+askedBy n a d h m = record { number = n % 256; argument = a % 256; day = d % 65536; hour = h % 256; minute = m % 256 }
 
 -- the calls that a script stands for. One that ends within a call ends before it; where FCBs or buffers run out, what is left is lent
 unfoldable pub requests : List ℕ → Bytes → Bytes → List Request
-requests (n ∷ a ∷ f ∷ b ∷ script) fcbs buffers = request (askedBy n a) (take f fcbs) (take b buffers) ∷ requests script (drop f fcbs) (drop b buffers)
+requests (n ∷ a ∷ d ∷ h ∷ m ∷ f ∷ b ∷ script) fcbs buffers =
+    request (askedBy n a d h m) (take f fcbs) (take b buffers) ∷ requests script (drop f fcbs) (drop b buffers)
 requests [] fcbs buffers = []
 requests (n ∷ []) fcbs buffers = []
 requests (n ∷ a ∷ []) fcbs buffers = []
-requests (n ∷ a ∷ f ∷ []) fcbs buffers = []
+requests (n ∷ a ∷ d ∷ []) fcbs buffers = []
+requests (n ∷ a ∷ d ∷ h ∷ []) fcbs buffers = []
+requests (n ∷ a ∷ d ∷ h ∷ m ∷ []) fcbs buffers = []
+requests (n ∷ a ∷ d ∷ h ∷ m ∷ f ∷ []) fcbs buffers = []
 
 abbrev pub diskOf : Bytes → Bytes → Session → Disk
 diskOf image map s = record { drive = record { image = image; map = map }; session = s }
 
--- every list of calls of bytes is that of a script
+-- every list of calls whose numbers are in range is that of a script
 abbrev numbersOf : List Request → List ℕ
 numbersOf [] = []
-numbersOf (q ∷ qs) = q .asked .number ∷ q .asked .argument ∷ length (q .fcb) ∷ length (q .buffer) ∷ numbersOf qs
+numbersOf (q ∷ qs) =
+    q .asked .number ∷ q .asked .argument ∷ q .asked .day ∷ q .asked .hour ∷ q .asked .minute ∷ length (q .fcb) ∷ length (q .buffer) ∷ numbersOf qs
 
 abbrev joined : (Request → Bytes) → List Request → Bytes
 joined bytes [] = []
 joined bytes (q ∷ qs) = bytes q ++ joined bytes qs
 
-abbrev AllBytes : List Request → Type 0
-AllBytes [] = Unit {0}
-AllBytes (q ∷ qs) = (q .asked .number < 256) × (q .asked .argument < 256) × AllBytes qs
+pub record InRange (asked : Asked) : Type 0 where
+  pub number : asked .number < 256
+  pub argument : asked .argument < 256
+  pub day : asked .day < 65536
+  pub hour : asked .hour < 256
+  pub minute : asked .minute < 256
 
-pub scripted : (qs : List Request) → AllBytes qs → requests (numbersOf qs) (joined (λ (q : Request). q .fcb) qs) (joined (λ (q : Request). q .buffer) qs) ≡ qs
+abbrev AllInRange : List Request → Type 0
+AllInRange [] = Unit {0}
+AllInRange (q ∷ qs) = InRange (q .asked) × AllInRange qs
+
+asked-again : (asked : Asked) → InRange asked → askedBy (asked .number) (asked .argument) (asked .day) (asked .hour) (asked .minute) ≡ asked
+asked-again asked r =
+    let n : asked .number % 256 ≡ asked .number = omega (arith, r .number) in
+    let a : asked .argument % 256 ≡ asked .argument = omega (arith, r .argument) in
+    let d : asked .day % 65536 ≡ asked .day = omega (arith, r .day) in
+    let h : asked .hour % 256 ≡ asked .hour = omega (arith, r .hour) in
+    let m : asked .minute % 256 ≡ asked .minute = omega (arith, r .minute) in
+    rw (n, a, d, h, m)
+
+pub scripted : (qs : List Request) → AllInRange qs → requests (numbersOf qs) (joined (λ (q : Request). q .fcb) qs) (joined (λ (q : Request). q .buffer) qs) ≡ qs
 unfolding requests
 scripted [] all = refl
 scripted (q ∷ qs) all =
-    let n : q .asked .number % 256 ≡ q .asked .number = omega (arith, all .0) in
-    let a : q .asked .argument % 256 ≡ q .asked .argument = omega (arith, all .1) in
     rw (
-      n,
-      a,
+      asked-again (q .asked) (all .0),
       take-append-seam (q .fcb) (joined (λ (r : Request). r .fcb) qs),
       take-append-seam (q .buffer) (joined (λ (r : Request). r .buffer) qs),
       drop-append-seam (q .fcb) (joined (λ (r : Request). r .fcb) qs),
       drop-append-seam (q .buffer) (joined (λ (r : Request). r .buffer) qs),
-      scripted qs (all .2),
+      scripted qs (all .1),
     )
 
 -- ---- the loop that makes them
@@ -108,25 +126,36 @@ past-part bytes part from n to e h =
 next : (xs : List ℕ) (k m : ℕ) → k < length xs → m ≡ suc k → drop k xs ≡ getD xs k 0 ∷ drop m xs
 next xs k m h q = rw q (drop-cons xs k 0 h)
 
-four : (xs : List ℕ) (at : ℕ) → at + 4 ≤ length xs
-    → drop at xs ≡ getD xs at 0 ∷ getD xs (at + 1) 0 ∷ getD xs (at + 2) 0 ∷ getD xs (at + 3) 0 ∷ drop (at + 4) xs
-four xs at h =
-    next xs at (at + 1) (omega arith) (omega arith)
-    ∙ ap (λ (r : List ℕ). getD xs at 0 ∷ r) (next xs (at + 1) (at + 2) (omega arith) (omega arith)
-    ∙ ap (λ (r : List ℕ). getD xs (at + 1) 0 ∷ r) (next xs (at + 2) (at + 3) (omega arith) (omega arith)
-    ∙ ap (λ (r : List ℕ). getD xs (at + 2) 0 ∷ r) (next xs (at + 3) (at + 4) (omega arith) (omega arith))))
+seven : (xs : List ℕ) (at : ℕ) → at + 7 ≤ length xs
+    → drop at xs
+    ≡ getD xs at 0 ∷ getD xs (at + 1) 0 ∷ getD xs (at + 2) 0 ∷ getD xs (at + 3) 0 ∷ getD xs (at + 4) 0 ∷ getD xs (at + 5) 0 ∷ getD xs (at + 6) 0
+    ∷ drop (at + 7) xs
+seven xs at h =
+    rw (
+      next xs at (at + 1) (omega arith) (omega arith),
+      next xs (at + 1) (at + 2) (omega arith) (omega arith),
+      next xs (at + 2) (at + 3) (omega arith) (omega arith),
+      next xs (at + 3) (at + 4) (omega arith) (omega arith),
+      next xs (at + 4) (at + 5) (omega arith) (omega arith),
+      next xs (at + 5) (at + 6) (omega arith) (omega arith),
+      next xs (at + 6) (at + 7) (omega arith) (omega arith),
+    )
 
-none-left : (xs : List ℕ) (fcbs buffers : Bytes) → length xs < 4 → requests xs fcbs buffers ≡ []
+none-left : (xs : List ℕ) (fcbs buffers : Bytes) → length xs < 7 → requests xs fcbs buffers ≡ []
 unfolding requests
-none-left [] fcbs buffers h = refl
-none-left (n ∷ []) fcbs buffers h = refl
-none-left (n ∷ a ∷ []) fcbs buffers h = refl
-none-left (n ∷ a ∷ f ∷ []) fcbs buffers h = refl
-none-left (n ∷ a ∷ f ∷ b ∷ xs) fcbs buffers h = absurd (omega arith)
+none-left [] fcbs buffers l = refl
+none-left (n ∷ []) fcbs buffers l = refl
+none-left (n ∷ a ∷ []) fcbs buffers l = refl
+none-left (n ∷ a ∷ d ∷ []) fcbs buffers l = refl
+none-left (n ∷ a ∷ d ∷ h ∷ []) fcbs buffers l = refl
+none-left (n ∷ a ∷ d ∷ h ∷ m ∷ []) fcbs buffers l = refl
+none-left (n ∷ a ∷ d ∷ h ∷ m ∷ f ∷ []) fcbs buffers l = refl
+none-left (n ∷ a ∷ d ∷ h ∷ m ∷ f ∷ b ∷ xs) fcbs buffers l = absurd (omega arith)
 
 -- what the call at a place asks for
 abbrev pub askedAt : List ℕ → ℕ → Asked
-askedAt script at = askedBy (getD script at 0) (getD script (at + 1) 0)
+askedAt script at =
+    askedBy (getD script at 0) (getD script (at + 1) 0) (getD script (at + 2) 0) (getD script (at + 3) 0) (getD script (at + 4) 0)
 
 -- a slice whose part came back
 abbrev pub mended : Bytes → ℕ → ℕ → Bytes → Bytes
@@ -141,7 +170,7 @@ length-mended get o p meets bytes from n to e h =
     ∙ sym (length-append (take from bytes) (drop from bytes)) ∙ ap length (take-append-drop from bytes)
 
 module _ (script : List ℕ) (at : ℕ) (fcbs buffers image map : Bytes) (p : Point) where
-  pub calls-none : length script - at < 4 → callsLeft script at fcbs buffers image map p ≡ diskOf image map (p .session)
+  pub calls-none : length script - at < 7 → callsLeft script at fcbs buffers image map p ≡ diskOf image map (p .session)
   unfolding callsLeft run
   calls-none h =
       let q = length-drop at script in
@@ -149,23 +178,23 @@ module _ (script : List ℕ) (at : ℕ) (fcbs buffers image map : Bytes) (p : Po
       ap (run eightInch (diskOf image map (p .session))) none
 
   -- one call is made
-  pub calls-next : at + 4 ≤ length script → (f b : ℕ) → Ends fcbs (p .fcbs) (getD script (at + 2) 0) f → Ends buffers (p .buffers) (getD script (at + 3) 0) b
+  pub calls-next : at + 7 ≤ length script → (f b : ℕ) → Ends fcbs (p .fcbs) (getD script (at + 5) 0) f → Ends buffers (p .buffers) (getD script (at + 6) 0) b
       → (asked : Asked) → asked ≡ askedAt script at → (o : Outcome)
       → o ≡ step eightInch asked
       (lend image map (take (f - p .fcbs) (drop (p .fcbs) fcbs)) (take (b - p .buffers) (drop (p .buffers) buffers))) (p .session)
       → length (o .lent .fcb) ≡ length (take (f - p .fcbs) (drop (p .fcbs) fcbs))
       → length (o .lent .buffer) ≡ length (take (b - p .buffers) (drop (p .buffers) buffers))
-      → callsLeft script (at + 4) (mended fcbs (p .fcbs) f (o .lent .fcb)) (mended buffers (p .buffers) b (o .lent .buffer)) (o .lent .drive .image) (o .lent .drive .map)
+      → callsLeft script (at + 7) (mended fcbs (p .fcbs) f (o .lent .fcb)) (mended buffers (p .buffers) b (o .lent .buffer)) (o .lent .drive .image) (o .lent .drive .map)
       record { fcbs = f; buffers = b; session = o .answer .session }
       ≡ callsLeft script at fcbs buffers image map p
   unfolding callsLeft run requests after outcomeOf
   calls-next h f b ef eb asked q o meets lf lb =
-      let x : ℕ = getD script (at + 2) 0 in
-      let y : ℕ = getD script (at + 3) 0 in
+      let x : ℕ = getD script (at + 5) 0 in
+      let y : ℕ = getD script (at + 6) 0 in
       rw (
         past-part fcbs (o .lent .fcb) (p .fcbs) x f ef (lf ∙ part-long fcbs (p .fcbs) x f ef),
         past-part buffers (o .lent .buffer) (p .buffers) y b eb (lb ∙ part-long buffers (p .buffers) y b eb),
-        four script at h,
+        seven script at h,
         meets,
         q,
         ef .taken,

@@ -8,8 +8,8 @@ ghost use Rattle.script.specs.Script.{askedAt, requests, callsLeft, Ends
 use model::Asked;
 use model::Session;
 
-// The numbers of a call in a script: its own, its argument, and the lengths of its FCB and of its buffer.
-const CALL_NUMBERS: usize = 4;
+// The numbers of a call in a script: its own, its argument, day, hour and minute, and the lengths of its FCB and of its buffer.
+const CALL_NUMBERS: usize = 7;
 
 // Where a run stands: past the FCBs and the buffers of the calls that were made, and the session that these left.
 struct Point {
@@ -18,14 +18,17 @@ struct Point {
     session: Session,
 }
 
-// What a call of a script asks for: its first two numbers, as bytes. The call is there whole: the loop's test.
+// What a call of a script asks for: its first five numbers, each in its range. The call is there whole: the loop's test.
 fn asked_at(script: &[usize], at: usize) -> Asked
-    requires { ⌜ at + 4 ≤ length (now script) ⌝ }
+    requires { ⌜ at + 7 ≤ length (now script) ⌝ }
     ensures { λ r. ⌜ r ≡ askedAt (now (script .entry)) at ⌝ }
 {
     Asked {
         number: (script[at] % 256) as u8,
         argument: (script[at + 1] % 256) as u8,
+        day: (script[at + 2] % 65536) as u16,
+        hour: (script[at + 3] % 256) as u8,
+        minute: (script[at + 4] % 256) as u8,
     }
 }
 
@@ -51,16 +54,16 @@ fn make_call(
     map: &mut [u16],
     p: Point,
 ) -> Point
-    requires { ⌜ (at + 4 ≤ length (now script)) × (p .fcbs ≤ length (now fcbs)) × (p .buffers ≤ length (now buffers)) ⌝ }
-    ensures { λ r. ⌜ (callsLeft (now (script .entry)) (at + 4) (now (fcbs .exit)) (now (buffers .exit)) (now (image .exit)) (now (map .exit)) r
+    requires { ⌜ (at + 7 ≤ length (now script)) × (p .fcbs ≤ length (now fcbs)) × (p .buffers ≤ length (now buffers)) ⌝ }
+    ensures { λ r. ⌜ (callsLeft (now (script .entry)) (at + 7) (now (fcbs .exit)) (now (buffers .exit)) (now (image .exit)) (now (map .exit)) r
         ≡ callsLeft (now (script .entry)) at (now (fcbs .entry)) (now (buffers .entry)) (now (image .entry)) (now (map .entry)) p)
         × (r .fcbs ≤ length (now (fcbs .entry))) × (r .buffers ≤ length (now (buffers .entry))) ⌝ }
 {
     let s = p.session;
     let fcb_from = p.fcbs;
-    let fcb_to = ends_at(fcbs, fcb_from, script[at + 2]);
+    let fcb_to = ends_at(fcbs, fcb_from, script[at + 5]);
     let from = p.buffers;
-    let to = ends_at(buffers, from, script[at + 3]);
+    let to = ends_at(buffers, from, script[at + 6]);
     let asked = asked_at(script, at);
     let r = bdos::call(
         asked,

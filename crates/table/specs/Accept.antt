@@ -201,4 +201,4 @@ module _ (G : Geometry) (asked : Asked) (l : Lent) (s : Session) where
   passes t r o =
       verdict-rows G asked l s t
       ∙ none-passed (rowsFor G asked l s)
-      (ap not (parameters-right G asked l s (r .fits) (r .drive)) & ap not (disk-right G asked l s (r .image-right) (r .map-right)) & o)
+      (ap not (parameters-right G asked l s (r .fits) (r .time) (r .drive)) & ap not (disk-right G asked l s (r .image-right) (r .map-right)) & o)

@@ -20,7 +20,7 @@ use Rattle.model.specs.declared.Asked.{Asked}
 use Rattle.model.specs.declared.Kind.{Kind}
 use Rattle.model.specs.declared.Kind.the-variants.{Unlisted, Quiet, Search, User, Settle, Close, Delete, Create, Rename, Read, Write}
 use Rattle.model.specs.Kinds.{usesFcb, kindOf, isCall}
-use Rattle.model.specs.Table.{askedEntry, ownRows}
+use Rattle.model.specs.Table.{timeRight, askedEntry, ownRows}
 use Rattle.table.specs.First.{NoneHolds}
 
 -- the lengths, the user and the search place are right
@@ -98,6 +98,7 @@ module _ (G : Geometry) (l : Lent) (s : Session) where
 -- what the first three rows say of every call that they pass
 pub record Ready (G : Geometry) (asked : Asked) (l : Lent) (s : Session) : Type 0 where
   pub fits : Fits G l s
+  pub time : timeRight asked ≡ true
   pub drive : usesFcb (asked .number) ≡ true → getD (l .fcb) 0 0 ≤ 1
   pub image-right : consistent G (l .drive .image) ≡ true
   pub map-right : (asked .number ≡ 13 → ⊥) → mapRight G (rowsOf G l) (l .drive .map) ≡ true

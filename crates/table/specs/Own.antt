@@ -20,11 +20,11 @@ use Rattle.model.specs.Table.{parametersRight, diskRight, Row, when, firstRow, 
 
 -- the same asked of the call with this number
 abbrev pub calling : ℕ → Asked → Asked
-calling n asked = record { number = n; argument = asked .argument }
+calling n asked = record { number = n; argument = asked .argument; day = asked .day; hour = asked .hour; minute = asked .minute }
 
 -- a call with nothing said besides its number
 abbrev pub ask : ℕ → Asked
-ask n = record { number = n; argument = 0 }
+ask n = record { number = n; argument = 0; day = 0; hour = 0; minute = 0 }
 
 -- what holds of each number of a list holds of one of them
 abbrev pub AtEach : (ℕ → Type 0) → List ℕ → Type 0

@@ -1,19 +1,21 @@
 -- One call once the first three rows have passed it: its own rows decide, and then it is carried out. What a call's own function does.
-use mathlib.Core.Path.{_≡_, sym, ap, _∙_}
+use mathlib.Core.Path.{_≡_, refl, sym, ap, _∙_}
 use mathlib.Core.Bool.{true, not}
 use Prim.Native.Nat.{ℕ}
 use Rattle.format.specs.Diskette.{Geometry}
 use Rattle.model.specs.declared.Asked.{Asked}
 use Rattle.model.specs.declared.Session.{Session}
+use Rattle.model.specs.declared.Kind.{Kind}
+use Rattle.model.specs.declared.Kind.the-variants.{Unlisted, Quiet, Search, User, Settle, Close, Delete, Create, Rename, Read, Write}
 use Rattle.model.specs.declared.Answer.{Answer}
 use Rattle.model.specs.declared.Code.{Code}
 use Rattle.model.specs.declared.Code.the-variants.{BadParameter, BadDisk}
-use Rattle.model.specs.declared.Kind.the-variants.{Quiet}
 use Rattle.model.specs.Kinds.{kindOf, isCall}
 use Rattle.model.specs.Lent.{Lent, Outcome, outcome, answerOf}
 use Rattle.model.specs.Table.{parametersRight, diskRight, when, firstRow, ownRows, verdict}
 use Rattle.model.specs.Calls.{quietly}
-use Rattle.model.specs.Step.{refusedSession, refused, told, effect, carriedOut, step}
+use Rattle.model.specs.Step.{refusedSession, refused, told, pattern, place, settled, does, effect, carriedOut, stampsMade, step}
+use Rattle.model.specs.Stamps.{stampedOutcome}
 use Rattle.table.specs.First.{NoneHolds, Decides, first-passes, none-passed, decides-refused}
 use Rattle.table.specs.Own.{calling, verdict-rows}
 use Rattle.table.specs.Facts.{Ready}
@@ -52,15 +54,31 @@ module _ (G : Geometry) (asked : Asked) (l : Lent) (s : Session) where
   pub verdict-own : isCall (asked .number) ≡ true → Ready G asked l s → verdict G asked l s ≡ firstRow (ownRows G asked l s)
   verdict-own t r =
       verdict-rows G asked l s t
-      ∙ first-passes (when (not (parametersRight G l asked s)) BadParameter) _ (ap not (parameters-right G asked l s (r .fits) (r .drive)))
+      ∙ first-passes (when (not (parametersRight G l asked s)) BadParameter) _ (ap not (parameters-right G asked l s (r .fits) (r .time) (r .drive)))
       ∙ first-passes (when (not (diskRight G l asked)) BadDisk) _ (ap not (disk-right G asked l s (r .image-right) (r .map-right)))
 
-  -- the step of a call is its own step
-  pub step-own : isCall (asked .number) ≡ true → Ready G asked l s → step G asked l s ≡ ownStep
+  -- the step of a call is its own step, stamped
+  pub step-own : isCall (asked .number) ≡ true → Ready G asked l s → step G asked l s ≡ stampedOutcome G (stampsMade G asked l s (firstRow (ownRows G asked l s))) ownStep
   unfolding step ownStep
   step-own t r = rw (verdict-own t r)
 
--- what a call does goes by its number and its argument
+-- ---- what a call does goes by its number and its argument, whatever the time
+module _ (G : Geometry) (asked other : Asked) (l : Lent) (s : Session) (number : other .number ≡ asked .number) (argument : other .argument ≡ asked .argument) where
+  pub does-same : (k : Kind) → does G other l s k ≡ does G asked l s k
+  unfolding told pattern place settled
+  does-same Unlisted = refl
+  does-same Quiet = rw number
+  does-same Search = rw number
+  does-same User = rw argument
+  does-same Settle = rw number
+  does-same Close = refl
+  does-same Delete = refl
+  does-same Create = refl
+  does-same Rename = refl
+  does-same Read = rw number
+  does-same Write = rw number
+
+-- the call with its own number asked is the call
 pub own-at : (G : Geometry) (asked : Asked) (l : Lent) (s : Session) (n : ℕ) → asked .number ≡ n
     → ownStep G (calling n asked) l s ≡ ownStep G asked l s
 own-at G asked l s n q = ap (λ (m : ℕ). ownStep G (calling m asked) l s) (sym q)

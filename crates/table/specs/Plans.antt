@@ -20,6 +20,12 @@ use Rattle.model.specs.Target.{targetRecord, presentEntry, stays, targetEntry, 
 use Rattle.table.specs.Present.{stays-within, target-present}
 use Rattle.table.specs.Facts.{Reads, Writes}
 
+-- the entry to which a plan brings the FCB
+abbrev pub entryOf : Plan → ℕ
+entryOf (Stay e b) = e
+entryOf (Move e t b) = t
+entryOf (Make e t b) = t
+
 module _ (G : Geometry) (n user : ℕ) (l : Lent) where
   -- the target's block: the one in its slot, or the first free one
   pub data Block (b : ℕ) : Type 0 where

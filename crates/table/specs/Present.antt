@@ -4,17 +4,18 @@ use mathlib.Core.Path.{_≡_, refl, sym, ap, _∙_}
 use mathlib.Core.Bool.{true, false}
 use Prim.Native.Nat.{ℕ, _/_, _≤_, _<_}
 use native.Mathlib.Omega.{arith}
-use lib.Dec.{eqb, ltb}
-use borrow.Author.Tests.{eqb-true, eqb-false, eq-eqb, leb-true, ne-eqb, ltb-true}
+use lib.Dec.{ltb}
+use borrow.Author.Tests.{eqb-true, eqb-false, eq-eqb, leb-true, ltb-true}
 use Rattle.lists.specs.Cases.{split, bool-cases}
-use Rattle.lists.specs.Tests.{and-left, and-right, or-then}
+use Rattle.lists.specs.Tests.{and-left, and-right}
 use Rattle.lists.specs.Below.{all-at}
 use Rattle.format.specs.Diskette.{Bytes, Geometry, extents}
-use Rattle.format.specs.Entries.{entryAt, userOf, exOf, s2Of, slotOf, empty, extentOf, runOf, covers, findFile}
+use Rattle.format.specs.Entries.{entryAt, userOf, exOf, s2Of, slotOf, extentOf, runOf, covers, findFile}
 use Rattle.format.specs.Consistent.{extentRight, entryRight, consistentRows, consistent}
 use Rattle.facts.specs.Found.{FoundAt, at-once, at-not-nothing}
 use Rattle.facts.specs.Find.{file-says, find-run}
 use Rattle.facts.specs.Naming.{run-s2, file-user, file-run}
+use Rattle.consistency.specs.Reflect.{low-used, numbers-intro, fine-elim}
 use Rattle.facts.specs.Current.{current-says}
 use Rattle.format.specs.declared.Found.{Found}
 use Rattle.format.specs.declared.Found.the-variants.{At, Nothing}
@@ -23,10 +24,7 @@ use Rattle.model.specs.Target.{targetExtent, targetRecord, targetSlot, presentE
 
 -- a row that is right and whose byte 0 is a user has ex and s2 in range
 pub user-numbers : (G : Geometry) (r : Bytes) → entryRight G r ≡ true → userOf r ≤ 15 → extentRight r ≡ true
-unfolding entryRight empty
-user-numbers G r h low =
-    let full : eqb (userOf r) 229 ≡ false = ne-eqb (userOf r) 229 (λ q. omega arith) in
-    and-left _ _ (and-right _ _ (and-right _ _ (sym (or-then _ _ full) ∙ h)))
+user-numbers G r h low = numbers-intro r (fine-elim G r (low-used r low) h .numbers)
 
 pub numbers-extent : (r : Bytes) → extentRight r ≡ true → extentOf r < extents
 unfolding extentOf

@@ -24,7 +24,7 @@ use Rattle.model.specs.Lent.{Lent, rowsOf}
 use Rattle.model.specs.declared.Asked.{Asked}
 use Rattle.model.specs.Kinds.{usesFcb}
 use Rattle.table.specs.Own.{calling}
-use Rattle.model.specs.Table.{lengthsRight, parametersRight, diskRight, anyNamed, anyReadOnly, positionRight}
+use Rattle.model.specs.Table.{timeRight, lengthsRight, parametersRight, diskRight, anyNamed, anyReadOnly, positionRight}
 use Rattle.table.specs.Facts.{Fits, Positions, Ready}
 
 -- ---- tests of look-ups
@@ -70,17 +70,21 @@ module _ (G : Geometry) (asked : Asked) (l : Lent) (s : Session) where
 
   pub drive-of : parametersRight G l asked s ≡ true → usesFcb (asked .number) ≡ true → getD (l .fcb) 0 0 ≤ 1
   unfolding parametersRight
-  drive-of h u = leb-true _ _ (sym (or-then _ _ (ap not u)) ∙ and-right _ _ (and-right _ _ (and-right _ _ h)))
+  drive-of h u = leb-true _ _ (sym (or-then _ _ (ap not u)) ∙ and-right _ _ (and-right _ _ (and-right _ _ (and-right _ _ h))))
+
+  pub time-of : parametersRight G l asked s ≡ true → timeRight asked ≡ true
+  unfolding parametersRight
+  time-of h = and-left _ _ (and-right _ _ (and-right _ _ (and-right _ _ h)))
 
   drive-right : (usesFcb (asked .number) ≡ true → getD (l .fcb) 0 0 ≤ 1) → (not (usesFcb (asked .number)) or leb (getD (l .fcb) 0 0) 1) ≡ true
   drive-right d = split (bool-cases (usesFcb (asked .number))) (λ t. or-right _ _ (le-leb _ _ (d t))) (λ f. or-left _ _ (ap not f))
 
-  pub parameters-right : Fits G l s → (usesFcb (asked .number) ≡ true → getD (l .fcb) 0 0 ≤ 1) → parametersRight G l asked s ≡ true
+  pub parameters-right : Fits G l s → timeRight asked ≡ true → (usesFcb (asked .number) ≡ true → getD (l .fcb) 0 0 ≤ 1) → parametersRight G l asked s ≡ true
   unfolding parametersRight lengthsRight
-  parameters-right f d =
+  parameters-right f t d =
       and-both _ _
       (and-both _ _ (long-is G (l .drive .image) (f .image-long)) (and-both _ _ (eq-eqb _ _ (f .map-long)) (and-both _ _ (eq-eqb _ _ (f .fcb-long)) (eq-eqb _ _ (f .buffer-long)))))
-      (and-both _ _ (le-leb _ _ (f .user-low)) (and-both _ _ (le-leb _ _ (f .place-low)) (drive-right d)))
+      (and-both _ _ (le-leb _ _ (f .user-low)) (and-both _ _ (le-leb _ _ (f .place-low)) (and-both _ _ t (drive-right d))))
 
   -- ---- the image and the map
   pub image-of : diskRight G l asked ≡ true → consistent G (l .drive .image) ≡ true
@@ -100,12 +104,12 @@ module _ (G : Geometry) (asked : Asked) (l : Lent) (s : Session) where
 
   -- what the first three rows say where they pass
   pub ready-of : parametersRight G l asked s ≡ true → diskRight G l asked ≡ true → Ready G asked l s
-  ready-of p d = record { fits = fits-of p; drive = drive-of p; image-right = image-of d; map-right = map-of d }
+  ready-of p d = record { fits = fits-of p; time = time-of p; drive = drive-of p; image-right = image-of d; map-right = map-of d }
 
 -- a log-in takes any map, and no FCB
-pub login-ready : (G : Geometry) (asked : Asked) (l : Lent) (s : Session) → Fits G l s → consistent G (l .drive .image) ≡ true → Ready G (calling 13 asked) l s
-unfolding usesFcb
-login-ready G asked l s f c = record { fits = f; drive = λ u. clash (sym u); image-right = c; map-right = λ ne. absurd (ne refl) }
+pub login-ready : (G : Geometry) (asked : Asked) (l : Lent) (s : Session) → Fits G l s → timeRight asked ≡ true → consistent G (l .drive .image) ≡ true → Ready G (calling 13 asked) l s
+unfolding usesFcb timeRight
+login-ready G asked l s f t c = record { fits = f; time = t; drive = λ u. clash (sym u); image-right = c; map-right = λ ne. absurd (ne refl) }
 
 -- ---- the tests of single calls
 module _ (G : Geometry) (l : Lent) (s : Session) where

@@ -205,7 +205,7 @@ module _ (G : Geometry) (asked : Asked) (l : Lent) (s : Session) where
   refused-own code t r d =
       verdict-rows G asked l s t
       ∙ decides-refused code (rowsFor G asked l s)
-      (later (ap not (parameters-right G asked l s (r .fits) (r .drive))) (later (ap not (disk-right G asked l s (r .image-right) (r .map-right))) d))
+      (later (ap not (parameters-right G asked l s (r .fits) (r .time) (r .drive))) (later (ap not (disk-right G asked l s (r .image-right) (r .map-right))) d))
 
   -- ---- a consistent image with a right map is never refused for the disk
   bad-disk : (code : Code) → eqb (hOf code) 1 ≡ true → Refuses code → diskRight G l asked ≡ false

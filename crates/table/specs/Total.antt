@@ -20,7 +20,7 @@ use Rattle.model.specs.Kinds.{kindOf, isCall}
 use Rattle.model.specs.Lent.{Lent, Outcome, ended, withUser}
 use Rattle.model.specs.Search.{findHit}
 use Rattle.model.specs.Table.{ownRows, table, verdict}
-use Rattle.model.specs.Step.{refusedSession, refused, place, effect, step}
+use Rattle.model.specs.Step.{refusedSession, refused, place, effect, stamped, step}
 use Rattle.table.specs.First.{NoneHolds, Decides, passed-none, refused-same, refused-decides}
 use Rattle.table.specs.Facts.{Ready, AcceptedCall}
 use Rattle.table.specs.Accept.{accepted, own-at, passes}
@@ -48,7 +48,7 @@ module _ (G : Geometry) (asked : Asked) (l : Lent) (s : Session) where
     -- no row of the table holds
     pub none : NoneHolds (table G asked l s)
     pub facts : AcceptedCall G asked l s
-    pub is : step G asked l s ≡ effect G asked l s
+    pub is : step G asked l s ≡ stamped G asked l s
     -- A, H and the session
     pub done : Done G asked l s (kindOf (asked .number)) (step G asked l s)
 
@@ -56,8 +56,8 @@ module _ (G : Geometry) (asked : Asked) (l : Lent) (s : Session) where
   unfolding step
   refused-is c q = rw q
 
-  passed-is : verdict G asked l s ≡ Passed → step G asked l s ≡ effect G asked l s
-  unfolding step
+  passed-is : verdict G asked l s ≡ Passed → step G asked l s ≡ stamped G asked l s
+  unfolding step stamped
   passed-is q = rw q
 
   -- a code that ends no search is another than that of a search that is over
@@ -85,9 +85,10 @@ module _ (G : Geometry) (asked : Asked) (l : Lent) (s : Session) where
         session = rw is (session-of c q);
       }
 
-  effect-done : AcceptedCall G asked l s → Done G asked l s (kindOf (asked .number)) (effect G asked l s)
-  unfolding effect
-  effect-done c = carried-done G asked l s c (kindOf (asked .number)) refl
+  effect-done : AcceptedCall G asked l s → Done G asked l s (kindOf (asked .number)) (stamped G asked l s)
+  unfolding effect stamped
+  effect-done c =
+      let d = carried-done G asked l s c (kindOf (asked .number)) refl in record { answers = d .answers; no-error = d .no-error; leaves = d .leaves }
 
   pub total-accepted : verdict G asked l s ≡ Passed → CarriedOut
   unfolding verdict
@@ -102,7 +103,7 @@ module _ (G : Geometry) (asked : Asked) (l : Lent) (s : Session) where
       }
 
   -- a call whose facts hold is carried out
-  pub step-carried : isCall (asked .number) ≡ true → Ready G asked l s → NoneHolds (ownRows G asked l s) → step G asked l s ≡ effect G asked l s
+  pub step-carried : isCall (asked .number) ≡ true → Ready G asked l s → NoneHolds (ownRows G asked l s) → step G asked l s ≡ stamped G asked l s
   step-carried t r o = passed-is (passes G asked l s t r o)
 
   -- a call that a row of its own refuses is refused

@@ -1,11 +1,12 @@
 //! Chooses what happens next, steered so that every cause of the table comes
 //! up and most calls still have something to work on.
 
-use crate::disks::{nearly, plain_name, some_disk, some_rc, Cast, Name};
+use crate::disks::{dates_row, label_row, nearly, plain_name, some_disk, some_rc, Cast, Name, Row};
+use crate::faults::{is_bad_bcd, DIGITS_OF_DATES, DIGITS_OF_LABEL};
 use crate::laws::count;
 use crate::random::Random;
-use crate::sequence::{Ask, Step};
-use crate::world::{World, FCBS, MOST_OVER};
+use crate::sequence::{Ask, Step, Time};
+use crate::world::{asks, World, DATES, EMPTY, FCBS, LABEL, MOST_OVER};
 use reference::{Session, FCB_BYTES, LISTED};
 
 /// An FCB's bytes.
@@ -28,33 +29,39 @@ enum Choice {
     WriteRun,
     ReadRun,
     SearchRun,
+    StampRun,
     WithoutFcb,
     CopyFcb,
     DamagedImage,
+    DamagedDates,
     DamagedMap,
     WrongLength,
     OddSession,
     WrongSession,
     WrongDrive,
+    WrongTime,
     Unlisted,
     Noise,
 }
 
 /// How likely each choice is. Some make several calls.
-const CHOICES: [(usize, Choice); 15] = [
+const CHOICES: [(usize, Choice); 18] = [
     (300, Choice::ByName),
     (330, Choice::ByFcb),
     (22, Choice::WriteRun),
     (12, Choice::ReadRun),
     (18, Choice::SearchRun),
+    (84, Choice::StampRun),
     (75, Choice::WithoutFcb),
     (25, Choice::CopyFcb),
     (22, Choice::DamagedImage),
+    (46, Choice::DamagedDates),
     (22, Choice::DamagedMap),
     (12, Choice::WrongLength),
     (16, Choice::OddSession),
     (8, Choice::WrongSession),
     (8, Choice::WrongDrive),
+    (8, Choice::WrongTime),
     (6, Choice::Unlisted),
     (14, Choice::Noise),
 ];
@@ -91,20 +98,31 @@ impl Chooser {
         if !world.is_sound() && self.random.chance(70) {
             return vec![Step::Call(Ask::new(13, 0, NOISY))];
         }
+        let mut steps = self.chosen(world);
+        if self.random.chance(40) {
+            steps.insert(0, self.time());
+        }
+        steps
+    }
+
+    fn chosen(&mut self, world: &World) -> Vec<Step> {
         match self.random.weighted(&CHOICES) {
             Choice::ByName => self.by_name(world),
             Choice::ByFcb => self.by_fcb(world),
             Choice::WriteRun => self.write_run(world),
             Choice::ReadRun => self.read_run(world),
             Choice::SearchRun => self.search_run(world),
+            Choice::StampRun => self.stamp_run(world),
             Choice::WithoutFcb => self.without_fcb(),
             Choice::CopyFcb => self.copy_fcb(world),
             Choice::DamagedImage => self.damaged_image(world),
+            Choice::DamagedDates => self.damaged_dates(world),
             Choice::DamagedMap => self.damaged_map(world),
             Choice::WrongLength => self.wrong_length(),
             Choice::OddSession => self.odd_session(world),
             Choice::WrongSession => self.wrong_session(world),
             Choice::WrongDrive => self.wrong_drive(world),
+            Choice::WrongTime => self.wrong_time(world),
             Choice::Unlisted => self.unlisted(),
             Choice::Noise => self.noise(world),
         }
@@ -206,6 +224,11 @@ impl Chooser {
                 false => self.random.bytes(),
             },
         }
+    }
+
+    /// Another time from now on.
+    fn time(&mut self) -> Step {
+        Step::Time(self.cast.time(&mut self.random))
     }
 
     /// Sets FCB `which`, and asks for a call with it.
@@ -495,6 +518,74 @@ impl Chooser {
         vec![Step::Fcb { which, bytes }]
     }
 
+    /// Calls that stamp, one after the other, where the disk has date entries
+    /// or a label.
+    fn stamp_run(&mut self, world: &World) -> Vec<Step> {
+        if !world.is_dated() && world.of_kind(LABEL).next().is_none() {
+            return self.by_fcb(world);
+        }
+        match self.random.chance(50) {
+            true => self.make_run(world),
+            false => self.move_run(world),
+        }
+    }
+
+    /// A file is made, written, closed and opened, or only some of that.
+    fn make_run(&mut self, world: &World) -> Vec<Step> {
+        let which = self.which();
+        let mut fcb = [0; FCB_BYTES];
+        fcb[1..12].copy_from_slice(&match self.random.chance(50) {
+            true => plain_name(&mut self.random),
+            false => self.name(world),
+        });
+        let mut steps = self.ask_with(22, which, fcb);
+        for (number, chance) in [(21, 60), (16, 80), (16, 30), (15, 40), (19, 40)] {
+            if self.random.chance(30) {
+                steps.push(self.time());
+            }
+            if self.random.chance(chance) {
+                steps.push(Step::Call(Ask::new(number, 0, which)));
+            }
+        }
+        steps
+    }
+
+    /// The last record of an extent is written or read, and then one of the
+    /// next: a move, that makes an entry in some cases.
+    fn move_run(&mut self, world: &World) -> Vec<Step> {
+        let which = self.which();
+        // An entry that a write of its last record changes, if one is met.
+        let mut met: Vec<usize> = (0..4).filter_map(|_| self.entry(world)).collect();
+        let stays = |&entry: &usize| {
+            let row = world.entry(entry);
+            let read_only = row[9] >= 0x80;
+            read_only || (count(row[15]) == 128 && row[31] != 0)
+        };
+        met.sort_by_key(stays);
+        let Some(&entry) = met.first() else {
+            return self.make_run(world);
+        };
+        let mut bytes = self.fcb_of(world, entry);
+        bytes[32] = 127;
+        let mut steps = vec![Step::Fcb {
+            which: which as u8,
+            bytes,
+        }];
+        let first = self.random.one_of(&[21, 21, 21, 20]);
+        steps.push(Step::Call(Ask::new(first, 0, which)));
+        steps.push(self.time());
+        let number = self.random.one_of(&[21, 21, 21, 20]);
+        steps.push(Step::Call(Ask::new(number, 0, which)));
+        if self.random.chance(40) {
+            steps.push(Step::Call(Ask::new(16, 0, which)));
+        }
+        // Room for the next entry that a move makes.
+        if self.random.chance(25) {
+            steps.push(Step::Call(Ask::new(19, 0, which)));
+        }
+        steps
+    }
+
     /// An FCB is copied over another. Whatever happens to the one, the other
     /// will not know.
     fn copy_fcb(&mut self, world: &World) -> Vec<Step> {
@@ -586,7 +677,8 @@ impl Chooser {
                 1 => self.wrong_length(),
                 2 => self.wrong_session(world),
                 3 => self.wrong_drive(world),
-                4..=6 => self.noise(world),
+                4 => self.wrong_time(world),
+                5..=6 => self.noise(world),
                 _ => {
                     let ask = Ask::new(self.listed(), self.argument(), self.which());
                     vec![Step::Call(ask)]
@@ -625,7 +717,11 @@ impl Chooser {
         let high = u8::from(self.random.chance(30)) << 7;
         let slot = self.random.from_to(16, 31);
         match self.random.below(12) {
-            0 => vec![(0, self.random.one_of(&[16, 17, 31, 127, 0xE4, 0xE6, 255]))],
+            0 => vec![(
+                0,
+                self.random
+                    .one_of(&[16, 17, 0x1F, 0x22, 127, 0xE4, 0xE6, 255]),
+            )],
             1 => vec![(1, 0x20 | high)],
             2 => vec![(at, self.random.one_of(&[0x1F, 0, 0x0D]) | high)],
             3 => vec![(at, 0x7F | high)],
@@ -676,19 +772,169 @@ impl Chooser {
         }
     }
 
+    /// Makes labels or date entries wrong for sure, makes calls, and puts them
+    /// right.
+    fn damaged_dates(&mut self, world: &World) -> Vec<Step> {
+        let rows = self.wrong_rows(world);
+        let change = |row: &dyn Fn(usize, usize) -> u8| -> Vec<Step> {
+            let mut steps = Vec::new();
+            for (i, (entry, _)) in rows.iter().enumerate() {
+                let place = World::entry_place(*entry) as u32;
+                let bytes = (0..32).filter(|&at| rows[i].1[at] != world.entry(*entry)[at]);
+                steps.extend(bytes.map(|at| Step::Byte {
+                    place: place + at as u32,
+                    byte: row(i, at),
+                }));
+            }
+            steps
+        };
+        let mut steps = change(&|i, at| rows[i].1[at]);
+        steps.extend(self.some_calls(world));
+        steps.extend(change(&|i, at| world.entry(rows[i].0)[at]));
+        steps
+    }
+
+    /// Entries, and rows for them that make the image not consistent.
+    fn wrong_rows(&mut self, world: &World) -> Vec<(usize, Row)> {
+        match self.random.below(16) {
+            0 | 1 => self.dates_missing(world),
+            2 | 3 => {
+                // Any that is not the fourth of its record.
+                let entry = self.random.below(48) * 4 / 3;
+                vec![(entry, dates_row(&mut self.random, &self.cast))]
+            }
+            4 | 5 => {
+                let labels: Vec<usize> = world.of_kind(LABEL).collect();
+                let many = 2 - labels.len().min(1);
+                let places = self.some_places(world, many);
+                let asked = self.random.one_of(&[0, asks::UPDATE, asks::CREATE]);
+                let row = label_row(&mut self.random, &self.cast, asked);
+                places.into_iter().map(|entry| (entry, row)).collect()
+            }
+            6 => self.changed_label(world, &|row, _| row[12] |= asks::CREATE | asks::ACCESS),
+            7..=9 => self.changed_label(world, &|row, random| {
+                let at = random.one_of(&DIGITS_OF_LABEL);
+                row[at] = bad_bcd(random, row[at]);
+            }),
+            _ => self.bad_dates(world),
+        }
+    }
+
+    /// A fourth entry that is no date entry beside others that are.
+    fn dates_missing(&mut self, world: &World) -> Vec<(usize, Row)> {
+        let one = 4 * self.random.below(16) + 3;
+        if !world.is_dated() {
+            // One alone, or all but one.
+            let alone = self.random.chance(50);
+            let places = (3..64).step_by(4).filter(|&entry| (entry == one) == alone);
+            let row = dates_row(&mut self.random, &self.cast);
+            return places.map(|entry| (entry, row)).collect();
+        }
+        let mut row = dates_row(&mut self.random, &self.cast);
+        match self.random.below(3) {
+            0 => row[0] = EMPTY,
+            1 if world.of_kind(LABEL).next().is_none() => {
+                row = label_row(&mut self.random, &self.cast, 0);
+            }
+            _ => {
+                row = [0; 32];
+                row[0] = world.session.user;
+                row[1..12].copy_from_slice(&plain_name(&mut self.random));
+                row[14] = 63;
+            }
+        }
+        vec![(one, row)]
+    }
+
+    /// Different entries that are neither labels nor date entries.
+    fn some_places(&mut self, world: &World, many: usize) -> Vec<usize> {
+        let aside = |entry: &usize| [LABEL, DATES].contains(&world.entry(*entry)[0]);
+        let mut places: Vec<usize> = (0..64).filter(|entry| !aside(entry)).collect();
+        self.random.shuffle(&mut places);
+        places.truncate(many);
+        places
+    }
+
+    /// The label, or a new one where there is none, changed.
+    fn changed_label(
+        &mut self,
+        world: &World,
+        change: &dyn Fn(&mut Row, &mut Random),
+    ) -> Vec<(usize, Row)> {
+        let label = world.of_kind(LABEL).next();
+        let (entry, mut row) = match label {
+            Some(entry) => (entry, row_of(world, entry)),
+            None => {
+                let entry = self.some_places(world, 1)[0];
+                (entry, label_row(&mut self.random, &self.cast, 0))
+            }
+        };
+        change(&mut row, &mut self.random);
+        vec![(entry, row)]
+    }
+
+    /// Bad BCD in a date entry; on an undated disk all date entries come with
+    /// it.
+    fn bad_dates(&mut self, world: &World) -> Vec<(usize, Row)> {
+        let beside = self.entry_with_dates(world);
+        let mut rows: Vec<(usize, Row)> = match world.is_dated() {
+            true => vec![(beside | 3, row_of(world, beside | 3))],
+            false => (3..64)
+                .step_by(4)
+                .map(|entry| (entry, dates_row(&mut self.random, &self.cast)))
+                .collect(),
+        };
+        // Four of the bytes that have to be in BCD are the entry's.
+        let at = DIGITS_OF_DATES[4 * (beside % 4) + self.random.below(4)];
+        for (_, row) in rows.iter_mut().filter(|(entry, _)| *entry == beside | 3) {
+            row[at] = bad_bcd(&mut self.random, row[at]);
+        }
+        rows
+    }
+
+    /// An entry that a date entry stands for or would: a file's, or an empty
+    /// one, of three empty ones in many cases.
+    fn entry_with_dates(&mut self, world: &World) -> usize {
+        let is_empty = |entry: usize| world.entry(entry)[0] == EMPTY;
+        let (used, of_three) = (self.random.chance(50), self.random.chance(50));
+        let fits = |&entry: &usize| match (used, of_three) {
+            (true, _) => world.is_used(entry),
+            (false, true) => (entry / 4 * 4..entry | 3).all(is_empty),
+            (false, false) => is_empty(entry),
+        };
+        let all: Vec<usize> = (0..64).filter(|entry| entry % 4 != 3).collect();
+        let fitting: Vec<usize> = all.iter().copied().filter(fits).collect();
+        match fitting.is_empty() {
+            true => self.random.one_of(&all),
+            false => self.random.one_of(&fitting),
+        }
+    }
+
     /// Makes a note wrong for sure, makes calls, and puts it right. A log-in
     /// among the calls puts it right itself.
     fn damaged_map(&mut self, world: &World) -> Vec<Step> {
+        let (block, wrong) = self.wrong_note(world);
+        let step = |note: u16| Step::Note {
+            block: block as u8,
+            note,
+        };
+        let mut steps = vec![step(wrong as u16)];
+        steps.extend(self.some_calls(world));
+        steps.push(step(world.map.cells()[block]));
+        steps
+    }
+
+    /// A block, and a note that it can't have.
+    fn wrong_note(&mut self, world: &World) -> (usize, usize) {
         let map = world.map.cells();
         let listed = |note: u16| (2..243).filter(move |&block| map[block] == note);
-        let is_used = |entry: usize| world.entry(entry)[0] != 0xE5;
-        let empty: Vec<usize> = (0..64).filter(|&entry| !is_used(entry)).collect();
+        let not_used: Vec<usize> = (0..64).filter(|&entry| !world.is_used(entry)).collect();
         let any = self.random.from_to(2, 242);
         let some = |random: &mut Random, blocks: Vec<usize>| match blocks.is_empty() {
             true => (any, 3),
             false => (random.one_of(&blocks), 0),
         };
-        let (block, note) = match self.random.below(8) {
+        match self.random.below(8) {
             0 => (self.random.below(2), self.random.one_of(&[0, 2, 16, 3])),
             1 => (any, 1),
             2 => some(&mut self.random, listed(2).collect()),
@@ -701,33 +947,19 @@ impl Chooser {
                 odd => odd,
             },
             5 => (any, self.random.from_to(3, 15)),
-            6 => (any, self.random.one_of(&[1_040, 1_041, 2_000, 65_535])),
-            _ => match empty.is_empty() {
-                true => (any, 1_040),
-                false => {
-                    let entry = self.random.one_of(&empty);
-                    (any, 16 + 16 * entry + self.random.below(16))
-                }
-            },
-        };
-        let block = block as u8;
-        let mut steps = vec![Step::Note {
-            block,
-            note: note as u16,
-        }];
-        steps.extend(self.some_calls(world));
-        steps.push(Step::Note {
-            block,
-            note: map[usize::from(block)],
-        });
-        steps
+            7 if !not_used.is_empty() => {
+                let entry = self.random.one_of(&not_used);
+                (any, 16 + 16 * entry + self.random.below(16))
+            }
+            _ => (any, self.random.one_of(&[1_040, 1_041, 2_000, 65_535])),
+        }
     }
 
     /// One of the four lengths is wrong, for one call.
     fn wrong_length(&mut self) -> Vec<Step> {
         let mut ask = Ask::new(self.listed(), self.argument(), self.which());
         if self.random.chance(5) {
-            ask.asked.number = self.random.byte();
+            ask.number = self.random.byte();
         }
         let lengths = &mut ask.lengths;
         let length = match self.random.below(4) {
@@ -771,12 +1003,32 @@ impl Chooser {
         let number = self.listed();
         let mut steps = self.ask_with(number, which, fcb);
         if let Some(Step::Call(ask)) = steps.last_mut() {
-            ask.asked.argument = self.argument();
+            ask.argument = self.argument();
         }
         fcb[0] = self.random.below(2) as u8;
         let which = which as u8;
         steps.push(Step::Fcb { which, bytes: fcb });
         steps
+    }
+
+    /// Bad BCD in the time, for one call.
+    fn wrong_time(&mut self, world: &World) -> Vec<Step> {
+        let Time { day, hour, minute } = world.time;
+        let (hour, minute) = match self.random.below(5) {
+            0 | 1 => (bad_bcd(&mut self.random, hour), minute),
+            2 | 3 => (hour, bad_bcd(&mut self.random, minute)),
+            _ => (0xFF, 0xFF),
+        };
+        let number = match self.random.chance(95) {
+            true => self.listed(),
+            false => self.random.byte(),
+        };
+        let ask = Ask::new(number, self.argument(), self.which());
+        vec![
+            Step::Time(Time { day, hour, minute }),
+            Step::Call(ask),
+            Step::Time(world.time),
+        ]
     }
 
     fn unlisted(&mut self) -> Vec<Step> {
@@ -810,10 +1062,27 @@ impl Chooser {
         let number = self.listed();
         let mut steps = self.ask_with(number, NOISY, fcb);
         if let Some(Step::Call(ask)) = steps.last_mut() {
-            ask.asked.argument = self.border();
+            ask.argument = self.border();
         }
         steps
     }
+}
+
+/// A byte that is not BCD: one digit over 9 in most cases.
+fn bad_bcd(random: &mut Random, was: u8) -> u8 {
+    let digit = random.from_to(10, 15) as u8;
+    let bad = match random.below(3) {
+        0 => was & 0xF0 | digit,
+        1 => was & 0x0F | digit << 4,
+        _ => random.one_of(&[0x0A, 0xA0, 0x9A, 0xA9, 0xFF]),
+    };
+    debug_assert!(is_bad_bcd(bad));
+    bad
+}
+
+/// The bytes of an entry.
+fn row_of(world: &World, entry: usize) -> Row {
+    std::array::from_fn(|i| world.entry(entry)[i])
 }
 
 /// The seven-bit name of an entry.

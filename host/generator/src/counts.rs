@@ -1,8 +1,9 @@
 //! Counts what came up in a run, and tells whether it is enough.
 
-use crate::faults::{self, Fault};
+use crate::faults::{self, BadBcd, Fault};
+use crate::laws::count;
 use crate::sequence::Ask;
-use crate::world::World;
+use crate::world::{asks, World};
 use reference::{Answer, Cause, LISTED};
 use std::fmt;
 
@@ -15,14 +16,18 @@ pub mod enough {
     /// Moves by each call, entries made by a move, deletes that free pending
     /// blocks, and each call that reads a count with one over 128.
     pub const EVENT: usize = 300;
-    /// Every fault of a disk.
+    /// Every kind of stamp.
+    pub const STAMP: usize = 1_000;
+    /// Every fault of a disk, and bad BCD in every place of it.
     pub const FAULT: usize = 100;
+    /// Every call, refused for bad BCD in the time.
+    pub const BAD_TIME: usize = 50;
 }
 
 /// Writes the events down as an enum with a list of all.
 macro_rules! events {
     ($($(#[$doc:meta])* $event:ident;)*) => {
-        /// What accepted calls did that not every one of them does.
+        /// What calls did that not every one of them does.
         #[derive(Clone, Copy, Debug, PartialEq, Eq)]
         pub enum Event {
             $($(#[$doc])* $event,)*
@@ -31,6 +36,14 @@ macro_rules! events {
         impl Event {
             /// Every event; `event as usize` is its place here.
             pub const ALL: &'static [Event] = &[$(Event::$event),*];
+
+            /// How often it has to come up in a run of 300,000 calls.
+            pub fn enough(self) -> usize {
+                match STAMPS.contains(&self) {
+                    true => enough::STAMP,
+                    false => enough::EVENT,
+                }
+            }
         }
     };
 }
@@ -98,6 +111,134 @@ events! {
     MoveFromOver128;
     /// A move to an entry with rc over 128.
     MoveToOver128;
+    /// A 22 that stamped create.
+    CreateBy22;
+    /// A 15 that stamped access.
+    AccessBy15;
+    /// A 16 that stamped update.
+    UpdateBy16;
+    /// A move that stamped update.
+    UpdateByMove;
+    /// A 22 beside whose entry a stamp became zero.
+    ZerosBy22;
+    /// A move that made an entry, beside which a stamp became zero.
+    ZerosByMove;
+    /// A 22 on a dated disk where nothing asks for create.
+    NotAskedBy22;
+    /// A 15 on a dated disk where nothing asks for access.
+    NotAskedBy15;
+    /// A 16 that changed its entry on a dated disk where nothing asks for
+    /// update.
+    NotAskedBy16;
+    /// A move that did the same.
+    NotAskedByMove;
+    /// A 22 on an undated disk whose label asks for create.
+    UndatedBy22;
+    /// A 15 on an undated disk whose label asks for access.
+    UndatedBy15;
+    /// A 16 that changed its entry on an undated disk whose label asks for
+    /// update.
+    UndatedBy16;
+    /// A move that did the same.
+    UndatedByMove;
+    /// A 16 that did not change its entry, where update is asked for.
+    UnchangedBy16;
+    /// A move that did not change the entry that it left, where update is asked
+    /// for.
+    UnchangedByMove;
+    /// A 22 that was refused on a dated disk whose label asks for create.
+    RefusedBy22;
+    /// A 15 that was refused on a dated disk whose label asks for access.
+    RefusedBy15;
+    /// A 16 that was refused on a dated disk whose label asks for update.
+    RefusedBy16;
+    /// A 20, 21, 33 or 34 of a current FCB that was refused there, where a
+    /// close would have changed the entry.
+    RefusedByMove;
+    /// A stamp that replaced a later one.
+    StampGoesBack;
+    /// A stamp that replaced an equal one.
+    StampRepeats;
+    /// A stamp of an hour over 23H or a minute over 59H.
+    StampOfOddTime;
+}
+
+/// The kinds of stamps.
+const STAMPS: [Event; 6] = [
+    Event::CreateBy22,
+    Event::AccessBy15,
+    Event::UpdateBy16,
+    Event::UpdateByMove,
+    Event::ZerosBy22,
+    Event::ZerosByMove,
+];
+
+/// A way to a stamp, and what is counted of it.
+struct Way {
+    /// The label's bit that asks for the stamp.
+    bit: u8,
+    /// Create or access (0), or update (1).
+    which: usize,
+    stamped: Event,
+    not_asked: Event,
+    undated: Event,
+    refused: Event,
+    /// Of an update: nothing was changed.
+    unchanged: Option<Event>,
+}
+
+const MAKE: Way = Way {
+    bit: asks::CREATE,
+    which: 0,
+    stamped: Event::CreateBy22,
+    not_asked: Event::NotAskedBy22,
+    undated: Event::UndatedBy22,
+    refused: Event::RefusedBy22,
+    unchanged: None,
+};
+
+const OPEN: Way = Way {
+    bit: asks::ACCESS,
+    which: 0,
+    stamped: Event::AccessBy15,
+    not_asked: Event::NotAskedBy15,
+    undated: Event::UndatedBy15,
+    refused: Event::RefusedBy15,
+    unchanged: None,
+};
+
+const CLOSE: Way = Way {
+    bit: asks::UPDATE,
+    which: 1,
+    stamped: Event::UpdateBy16,
+    not_asked: Event::NotAskedBy16,
+    undated: Event::UndatedBy16,
+    refused: Event::RefusedBy16,
+    unchanged: Some(Event::UnchangedBy16),
+};
+
+const MOVE: Way = Way {
+    bit: asks::UPDATE,
+    which: 1,
+    stamped: Event::UpdateByMove,
+    not_asked: Event::NotAskedByMove,
+    undated: Event::UndatedByMove,
+    refused: Event::RefusedByMove,
+    unchanged: Some(Event::UnchangedByMove),
+};
+
+impl Way {
+    /// The way of a call, where it stamps or would once it is accepted and, of
+    /// a record call, moves.
+    fn of(number: u8) -> Option<Way> {
+        match number {
+            22 => Some(MAKE),
+            15 => Some(OPEN),
+            16 => Some(CLOSE),
+            20 | 21 | 33 | 34 => Some(MOVE),
+            _ => None,
+        }
+    }
 }
 
 /// The calls that go by the counts of an FCB and an entry, each with its events
@@ -117,8 +258,10 @@ pub struct Counts {
     pub calls: usize,
     causes: Vec<usize>,
     accepted: [usize; 256],
+    bad_times: [usize; 256],
     events: Vec<usize>,
     faults: Vec<usize>,
+    bad_bcd: [usize; BadBcd::ALL.len()],
 }
 
 impl Default for Counts {
@@ -127,8 +270,10 @@ impl Default for Counts {
             calls: 0,
             causes: vec![0; Cause::ALL.len()],
             accepted: [0; 256],
+            bad_times: [0; 256],
             events: vec![0; Event::ALL.len()],
             faults: vec![0; Fault::ALL.len()],
+            bad_bcd: [0; BadBcd::ALL.len()],
         }
     }
 }
@@ -137,29 +282,39 @@ fn pending(world: &World) -> usize {
     world.map.cells().iter().filter(|&&note| note >= 16).count()
 }
 
-/// The entry that an FCB speaks of, if the session's user has it.
-fn entry_of(world: &World, fcb: &[u8]) -> Option<usize> {
-    let alike = |row: &[u8]| {
-        let name = |bytes: &[u8]| -> Vec<u8> { bytes[1..12].iter().map(|b| b & 0x7F).collect() };
-        row[0] == world.session.user
-            && name(row) == name(fcb)
-            && (row[12], row[14]) == (fcb[12], fcb[14])
-    };
-    world.used().find(|&entry| alike(world.entry(entry)))
-}
-
 /// The entry at whose end, 128 records on, the size in an FCB is.
 fn last_of(world: &World, fcb: &[u8]) -> Option<usize> {
     let size = u32::from_le_bytes([fcb[33], fcb[34], fcb[35], 0]);
-    let extent = (size / 128).checked_sub(1).filter(|_| size % 128 == 0)?;
+    let extent = (size / 128)
+        .checked_sub(1)
+        .filter(|_| size.is_multiple_of(128))?;
     let mut at = [0; 36];
     at.copy_from_slice(fcb);
     (at[12], at[14]) = ((extent % 32) as u8, (extent / 32) as u8);
-    entry_of(world, &at)
+    world.entry_of(&at)
 }
 
 fn recorded(world: &World) -> usize {
     world.map.cells().iter().filter(|&&note| note == 2).count()
+}
+
+/// Whether a call left its FCB in another extent.
+fn moved(before: &World, after: &World, ask: &Ask) -> bool {
+    let extent = |world: &World| {
+        let fcb = world.fcb(ask.fcb);
+        (fcb[12], fcb[14])
+    };
+    extent(before) != extent(after)
+}
+
+/// Whether a close would change the entry of an FCB: "a block recorded, or a
+/// larger count".
+fn close_changes(world: &World, fcb: &[u8]) -> bool {
+    world.entry_of(fcb).is_some_and(|entry| {
+        let row = world.entry(entry);
+        let mut slots = row[16..].iter().zip(&fcb[16..32]);
+        count(fcb[15]) > count(row[15]) || slots.any(|(&slot, &block)| slot == 0 && block != 0)
+    })
 }
 
 impl Counts {
@@ -175,95 +330,189 @@ impl Counts {
         self.calls += 1;
         match cause {
             Some(cause) => {
+                let bad_time = matches!(cause, Cause::TimeHour | Cause::TimeMinute);
                 self.causes[cause as usize] += 1;
-                let fault = match cause {
-                    Cause::Inconsistent => faults::in_image(before),
-                    Cause::MapWrong => faults::in_map(before),
-                    _ => None,
-                };
-                if let Some(fault) = fault {
-                    self.faults[fault as usize] += 1;
-                }
+                self.bad_times[usize::from(ask.number)] += usize::from(bad_time);
+                self.add_faults(before, cause);
+                self.add_refused(before, ask, cause);
             }
             None => {
-                self.accepted[usize::from(ask.asked.number)] += 1;
+                self.accepted[usize::from(ask.number)] += 1;
                 self.add_events(before, after, ask, answer);
+                self.add_transfers(before, after, ask);
+                self.add_counts(before, after, ask);
+                self.add_stamps(before, after, ask);
+                self.add_zeros(before, after, ask);
             }
         }
     }
 
-    fn add_events(&mut self, before: &World, after: &World, ask: &Ask, answer: Answer) {
-        let number = ask.asked.number;
-        let extent = |world: &World| {
-            let fcb = world.fcb(ask.fcb);
-            (fcb[12], fcb[14])
+    fn tally(&mut self, event: Event, is: bool) {
+        self.events[event as usize] += usize::from(is);
+    }
+
+    /// What is wrong with a disk that was refused.
+    fn add_faults(&mut self, before: &World, cause: Cause) {
+        let fault = match cause {
+            Cause::Inconsistent => faults::in_image(before),
+            Cause::MapWrong => faults::in_map(before),
+            _ => None,
         };
+        if let Some(fault) = fault {
+            self.faults[fault as usize] += 1;
+        }
+        if matches!(fault, Some(Fault::BadDates | Fault::BadLabel)) {
+            for (times, place) in self.bad_bcd.iter_mut().zip(BadBcd::ALL) {
+                *times += usize::from(place.is_in(before));
+            }
+        }
+    }
+
+    /// A call that would have stamped and was refused, by a row of its own.
+    fn add_refused(&mut self, before: &World, ask: &Ask, cause: Cause) {
+        let Some(way) = Way::of(ask.number) else {
+            return;
+        };
+        let own_row = cause as usize > Cause::MapWrong as usize;
+        if !own_row || !before.is_dated() || !before.asks(way.bit) {
+            return;
+        }
+        // The rows before it are tested first, whatever the FCB.
+        let is_current = cause as usize > Cause::NotCurrent34 as usize;
+        let due = match way.refused {
+            Event::RefusedByMove => is_current && close_changes(before, &before.fcb(ask.fcb)),
+            _ => true,
+        };
+        self.tally(way.refused, due);
+    }
+
+    fn add_events(&mut self, before: &World, after: &World, ask: &Ask, answer: Answer) {
         let changed = || (0..64).filter(|&entry| before.entry(entry) != after.entry(entry));
-        let moved = extent(before) != extent(after);
-        let made = || after.used().count() > before.used().count();
-        let records = || recorded(after) > recorded(before);
-        let mut add = |event: Event, is: bool| self.events[event as usize] += usize::from(is);
-        match number {
-            13 => add(Event::LogInThatChanges, before.map != after.map),
-            16 => add(Event::CloseThatRecords, records()),
+        let new_map = before.map != after.map;
+        match ask.number {
+            13 => self.tally(Event::LogInThatChanges, new_map),
+            16 => self.tally(Event::CloseThatRecords, recorded(after) > recorded(before)),
             19 => {
                 let freed = pending(after) < pending(before);
-                add(Event::DeleteThatFreesPending, freed);
-                add(Event::DeleteOfSeveral, changed().count() > 1);
+                self.tally(Event::DeleteThatFreesPending, freed);
+                self.tally(Event::DeleteOfSeveral, changed().count() > 1);
             }
-            20 => add(Event::MoveBy20, moved),
-            21 => {
-                add(Event::MoveBy21, moved);
-                add(Event::EntryMadeBy21, moved && made());
-            }
-            23 => add(Event::RenameOfSeveral, changed().count() > 1),
-            33 => add(Event::MoveBy33, moved),
-            34 => {
-                add(Event::MoveBy34, moved);
-                add(Event::EntryMadeBy34, moved && made());
-            }
-            98 => add(Event::FreeBlocksThatFrees, before.map != after.map),
+            23 => self.tally(Event::RenameOfSeveral, changed().count() > 1),
+            98 => self.tally(Event::FreeBlocksThatFrees, new_map),
             _ => {}
         }
-        if matches!(number, 20 | 21 | 33 | 34) {
-            add(Event::MoveThatRecords, moved && records());
-        }
-        if matches!(number, 21 | 34) {
-            let free = |world: &World| world.map.cells().iter().filter(|&&n| n == 0).count();
-            add(Event::WriteThatTakes, free(after) < free(before));
-        }
         let ended = before.session.on != 0 && answer.session.on == 0;
-        add(Event::EndOfSearch, ended);
-        self.add_counts(before, after, ask);
+        self.tally(Event::EndOfSearch, ended);
+    }
+
+    /// The same for reads and writes.
+    fn add_transfers(&mut self, before: &World, after: &World, ask: &Ask) {
+        let moved = moved(before, after, ask);
+        let made = moved && after.used().count() > before.used().count();
+        match ask.number {
+            20 => self.tally(Event::MoveBy20, moved),
+            21 => {
+                self.tally(Event::MoveBy21, moved);
+                self.tally(Event::EntryMadeBy21, made);
+            }
+            33 => self.tally(Event::MoveBy33, moved),
+            34 => {
+                self.tally(Event::MoveBy34, moved);
+                self.tally(Event::EntryMadeBy34, made);
+            }
+            _ => return,
+        }
+        let records = recorded(after) > recorded(before);
+        self.tally(Event::MoveThatRecords, moved && records);
+        let free = |world: &World| world.map.cells().iter().filter(|&&n| n == 0).count();
+        let takes = matches!(ask.number, 21 | 34) && free(after) < free(before);
+        self.tally(Event::WriteThatTakes, takes);
+    }
+
+    /// The same for stamps, made or not.
+    fn add_stamps(&mut self, before: &World, after: &World, ask: &Ask) {
+        let Some(way) = Way::of(ask.number) else {
+            return;
+        };
+        let is_update = way.bit == asks::UPDATE;
+        let stays = matches!(ask.number, 20 | 21 | 33 | 34) && !moved(before, after, ask);
+        // An update is beside the entry that is closed, which a move leaves.
+        let entry = match is_update {
+            true => before.entry_of(&before.fcb(ask.fcb)),
+            false => after.entry_of(&after.fcb(ask.fcb)),
+        };
+        let Some(entry) = entry.filter(|_| !stays) else {
+            return;
+        };
+        let due = !is_update || before.entry(entry) != after.entry(entry);
+        match (before.is_dated(), before.asks(way.bit), due) {
+            (true, true, true) => {
+                self.tally(way.stamped, true);
+                let stamp = |world: &World| world.stamps(entry)[way.which];
+                self.add_stamp(stamp(before), stamp(after));
+            }
+            (true, true, false) => {
+                if let Some(unchanged) = way.unchanged {
+                    self.tally(unchanged, true);
+                }
+            }
+            (true, false, true) => self.tally(way.not_asked, true),
+            (false, true, true) => self.tally(way.undated, true),
+            _ => {}
+        }
+    }
+
+    /// A stamp as it was and as it is.
+    fn add_stamp(&mut self, was: [u8; 4], is: [u8; 4]) {
+        let order = |stamp: [u8; 4]| [stamp[1], stamp[0], stamp[2], stamp[3]];
+        self.tally(Event::StampGoesBack, order(is) < order(was));
+        self.tally(Event::StampRepeats, is == was);
+        self.tally(Event::StampOfOddTime, is[2] > 0x23 || is[3] > 0x59);
+    }
+
+    /// Stamps beside a new entry that become zero.
+    fn add_zeros(&mut self, before: &World, after: &World, ask: &Ask) {
+        let event = match ask.number {
+            22 => Event::ZerosBy22,
+            21 | 34 => Event::ZerosByMove,
+            _ => return,
+        };
+        if !before.is_dated() {
+            return;
+        }
+        let mut made = after.used().filter(|&entry| !before.is_used(entry));
+        let zeros = made.any(|entry| {
+            let mut pairs = before.stamps(entry).into_iter().zip(after.stamps(entry));
+            pairs.any(|(was, is)| was != [0; 4] && is == [0; 4])
+        });
+        self.tally(event, zeros);
     }
 
     /// The same for counts over 128, in an entry or in the FCB.
     fn add_counts(&mut self, before: &World, after: &World, ask: &Ask) {
         let (was, is) = (before.fcb(ask.fcb), after.fcb(ask.fcb));
-        let number = ask.asked.number;
+        let number = ask.number;
         let over = |entry: Option<usize>| entry.is_some_and(|e| before.entry(e)[15] > 128);
-        let present = entry_of(before, &was);
+        let present = before.entry_of(&was);
         // The entry that the FCB has come to: of a close, its own.
-        let over_there = over(entry_of(before, &is));
+        let over_there = over(before.entry_of(&is));
         let over_in_fcb = was[15] > 128;
         let wrote = |entry: usize| before.entry(entry)[15] < 128 && after.entry(entry)[15] == 128;
         let wrote = over_in_fcb && present.is_some_and(wrote);
-        let mut add = |event: Event, is: bool| self.events[event as usize] += usize::from(is);
         for &(call, in_entry, in_fcb) in &READ_A_COUNT {
-            add(in_entry, call == number && over_there);
-            add(in_fcb, call == number && over_in_fcb);
+            self.tally(in_entry, call == number && over_there);
+            self.tally(in_fcb, call == number && over_in_fcb);
         }
         match number {
-            15 => add(Event::Over128By15, is[15] > 128),
-            16 => add(Event::CloseThatWrites128, wrote),
-            35 => add(Event::Over128By35, over(last_of(before, &is))),
+            15 => self.tally(Event::Over128By15, is[15] > 128),
+            16 => self.tally(Event::CloseThatWrites128, wrote),
+            35 => self.tally(Event::Over128By35, over(last_of(before, &is))),
             _ => {}
         }
-        let moved = (was[12], was[14]) != (is[12], is[14]);
-        if matches!(number, 20 | 21 | 33 | 34) && moved {
-            add(Event::MoveThatWrites128, wrote);
-            add(Event::MoveFromOver128, over(present));
-            add(Event::MoveToOver128, over_there);
+        if matches!(number, 20 | 21 | 33 | 34) && moved(before, after, ask) {
+            self.tally(Event::MoveThatWrites128, wrote);
+            self.tally(Event::MoveFromOver128, over(present));
+            self.tally(Event::MoveToOver128, over_there);
         }
     }
 
@@ -278,16 +527,25 @@ impl Counts {
             let times = self.accepted[usize::from(number)];
             (format!("accepted {number}"), times, enough::ACCEPTED)
         };
+        let bad_time = |&number: &u8| {
+            let times = self.bad_times[usize::from(number)];
+            (format!("255,  4  time, {number}"), times, enough::BAD_TIME)
+        };
         let event = |&event: &Event| {
             let times = self.events[event as usize];
-            (format!("{event:?}"), times, enough::EVENT)
+            (format!("{event:?}"), times, event.enough())
         };
         let fault = |&fault: &Fault| {
             let times = self.faults[fault as usize];
             (format!("255,  1  of them {fault:?}"), times, enough::FAULT)
         };
+        let bad_bcd = |(place, &times): (BadBcd, &usize)| {
+            (format!("255,  1  of them {place}"), times, enough::FAULT)
+        };
         let mut lines: Vec<_> = Cause::ALL.iter().map(cause).collect();
+        lines.extend(LISTED.iter().map(bad_time));
         lines.extend(Fault::ALL.iter().map(fault));
+        lines.extend(BadBcd::ALL.into_iter().zip(&self.bad_bcd).map(bad_bcd));
         lines.extend(LISTED.iter().map(accepted));
         lines.extend(Event::ALL.iter().map(event));
         lines

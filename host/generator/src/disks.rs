@@ -1,23 +1,26 @@
 //! Disks to start from: consistent ones of every fullness.
 
 use crate::random::Random;
-use crate::sequence::Step;
-use crate::world::World;
+use crate::sequence::{Step, Time};
+use crate::world::{asks, World, DATES, EMPTY, LABEL};
 use reference::diskette::{BLOCKS, DIRECTORY_PLACES, RECORD_BYTES};
 
 /// Name and type without attributes.
 pub type Name = [u8; 11];
 
 /// One entry.
-type Row = [u8; 32];
+pub type Row = [u8; 32];
 
-/// The names and users of a sequence. There are few, and they are alike, so
-/// that calls meet each other's files and nearly equal names.
+/// The names, users and times of a sequence. There are few, and they are alike,
+/// so that calls meet each other's files, nearly equal names and stamps of the
+/// same time.
 pub struct Cast {
     /// Names that obey the name rule.
     pub names: Vec<Name>,
     /// Users; the first is the session's as a rule.
     pub users: Vec<u8>,
+    /// Times in BCD.
+    pub times: Vec<Time>,
 }
 
 impl Cast {
@@ -38,8 +41,107 @@ impl Cast {
         for _ in 0..random.below(3) {
             users.push(random.below(16) as u8);
         }
-        Self { names, users }
+        let times = (0..3).map(|_| some_time(random)).collect();
+        Self {
+            names,
+            users,
+            times,
+        }
     }
+
+    /// A time: one of the cast's, or another.
+    pub fn time(&self, random: &mut Random) -> Time {
+        match random.chance(70) {
+            true => random.one_of(&self.times),
+            false => some_time(random),
+        }
+    }
+}
+
+/// Two decimal digits in a byte.
+fn some_bcd(random: &mut Random, most: usize) -> u8 {
+    let number = random.from_to(0, most) as u8;
+    16 * (number / 10) + number % 10
+}
+
+/// Any time in BCD, of a clock in most cases.
+pub fn some_time(random: &mut Random) -> Time {
+    let (hours, minutes) = match random.chance(70) {
+        true => (23, 59),
+        false => (99, 99),
+    };
+    Time {
+        day: match random.below(6) {
+            0 => random.one_of(&[0, 1, 255, 256, 65_535]),
+            _ => random.number() as u16,
+        },
+        hour: some_bcd(random, hours),
+        minute: some_bcd(random, minutes),
+    }
+}
+
+/// What stands on a disk beside files.
+#[derive(Clone, Copy, Debug)]
+struct Aside {
+    dates: bool,
+    /// What the label asks for, where there is one.
+    label: Option<u8>,
+}
+
+/// How likely each is. Nearly half the disks have neither.
+const ASIDES: [(usize, Aside); 14] = [
+    (112, aside(false, None)),
+    (4, aside(false, Some(0))),
+    (11, aside(false, Some(asks::CREATE | asks::UPDATE))),
+    (9, aside(false, Some(asks::ACCESS | asks::UPDATE))),
+    (2, aside(false, Some(asks::CREATE))),
+    (2, aside(false, Some(asks::ACCESS))),
+    (2, aside(false, Some(asks::UPDATE))),
+    (8, aside(true, None)),
+    (5, aside(true, Some(0))),
+    (7, aside(true, Some(asks::CREATE))),
+    (7, aside(true, Some(asks::ACCESS))),
+    (8, aside(true, Some(asks::UPDATE))),
+    (34, aside(true, Some(asks::CREATE | asks::UPDATE))),
+    (27, aside(true, Some(asks::ACCESS | asks::UPDATE))),
+];
+
+const fn aside(dates: bool, label: Option<u8>) -> Aside {
+    Aside { dates, label }
+}
+
+/// A stamp, of a time of the cast's in many cases.
+fn some_stamp(random: &mut Random, cast: &Cast) -> [u8; 4] {
+    match random.below(4) {
+        0 => [0; 4],
+        1 => some_time(random).stamp(),
+        _ => random.one_of(&cast.times).stamp(),
+    }
+}
+
+/// A date entry that is right: mode and reserved bytes may be anything.
+pub fn dates_row(random: &mut Random, cast: &Cast) -> Row {
+    let mut row: Row = random.bytes();
+    row[0] = DATES;
+    for at in [1, 5, 11, 15, 21, 25] {
+        row[at..at + 4].copy_from_slice(&some_stamp(random, cast));
+    }
+    row
+}
+
+/// A label that asks for some stamps, and right but for these. What else it
+/// holds may be anything, as the numbers of blocks that files have.
+pub fn label_row(random: &mut Random, cast: &Cast, asked: u8) -> Row {
+    let mut row: Row = random.bytes();
+    if random.chance(50) {
+        row[1..12].copy_from_slice(&random.one_of(&cast.names));
+    }
+    row[0] = LABEL;
+    row[12] = asked | row[12] & 0x8F;
+    for at in [24, 28] {
+        row[at..at + 4].copy_from_slice(&some_stamp(random, cast));
+    }
+    row
 }
 
 /// Name bytes at the borders of the rule and beside 3FH, and letters.
@@ -105,7 +207,8 @@ const fn fullness(entries: (usize, usize), blocks: (usize, usize), pending: usiz
 /// The steps that put a disk into a new world.
 pub fn some_disk(random: &mut Random, cast: &Cast) -> Vec<Step> {
     let fullness = random.weighted(&FULLNESSES);
-    let mut rows = some_rows(random, cast, fullness);
+    let aside = random.weighted(&ASIDES);
+    let mut rows = some_rows(random, cast, fullness, aside);
     let mut free = list_blocks(random, &mut rows, fullness);
     let mut steps = Vec::new();
     for (record, four) in rows.as_chunks::<4>().0.iter().enumerate() {
@@ -121,18 +224,23 @@ pub fn some_disk(random: &mut Random, cast: &Cast) -> Vec<Step> {
     steps
 }
 
-/// 64 entries, as many used as asked for, without blocks yet.
-fn some_rows(random: &mut Random, cast: &Cast, fullness: Fullness) -> [Row; 64] {
+/// 64 entries, as many used as asked for and as there is room for, without
+/// blocks yet.
+fn some_rows(random: &mut Random, cast: &Cast, fullness: Fullness, aside: Aside) -> [Row; 64] {
     let (low, high) = fullness.entries;
-    let count = random.from_to(low, high);
     let read_only = random.one_of(&[0, 5, 15, 30]);
-    let mut places: Vec<usize> = (0..64).collect();
+    let mut rows: [Row; 64] = std::array::from_fn(|_| empty_row(random, cast));
+    let mut places = put_aside(random, cast, aside, &mut rows);
     if random.chance(60) {
         random.shuffle(&mut places);
     }
-    let mut rows: [Row; 64] = std::array::from_fn(|_| empty_row(random, cast));
+    // What is left out is left out at the end: nearly full stays nearly full.
+    let count = random.from_to(low, high).saturating_sub(match low {
+        60.. => 64 - places.len(),
+        _ => 0,
+    });
     let mut taken = Vec::new();
-    for &place in &places[..count] {
+    for &place in places.iter().take(count) {
         let row = loop {
             let row = used_row(random, cast, read_only, &taken);
             if !taken.contains(&identity(&row)) {
@@ -143,6 +251,25 @@ fn some_rows(random: &mut Random, cast: &Cast, fullness: Fullness) -> [Row; 64] 
         rows[place] = row;
     }
     rows
+}
+
+/// Puts label and date entries on a disk, and gives the places that are left.
+fn put_aside(random: &mut Random, cast: &Cast, aside: Aside, rows: &mut [Row; 64]) -> Vec<usize> {
+    let mut places: Vec<usize> = (0..64).collect();
+    if aside.dates {
+        places.retain(|place| place % 4 != 3);
+        for fourth in (3..64).step_by(4) {
+            rows[fourth] = dates_row(random, cast);
+        }
+    }
+    if let Some(asked) = aside.label {
+        let at = match random.chance(50) {
+            true => 0,
+            false => random.below(places.len()),
+        };
+        rows[places.remove(at)] = label_row(random, cast, asked);
+    }
+    places
 }
 
 /// What tells an entry apart.
@@ -213,7 +340,7 @@ fn list_blocks(random: &mut Random, rows: &mut [Row; 64], fullness: Fullness) ->
     let mut blocks: Vec<u8> = (2..BLOCKS as u8).collect();
     random.shuffle(&mut blocks);
     let mut slots: Vec<(usize, usize)> = (0..64)
-        .filter(|&entry| rows[entry][0] != 0xE5)
+        .filter(|&entry| is_used(&rows[entry]))
         .flat_map(|entry| (16..32).map(move |slot| (entry, slot)))
         .collect();
     // From the front in some cases, anywhere in others.
@@ -229,16 +356,21 @@ fn list_blocks(random: &mut Random, rows: &mut [Row; 64], fullness: Fullness) ->
     blocks.split_off(count.min(blocks.len()))
 }
 
+/// Whether an entry is a file's.
+fn is_used(row: &Row) -> bool {
+    ![EMPTY, LABEL, DATES].contains(&row[0])
+}
+
 /// A note of 2 for every listed block.
 fn recorded_notes(rows: &[Row; 64]) -> Vec<Step> {
-    let used = rows.iter().filter(|row| row[0] != 0xE5);
+    let used = rows.iter().filter(|row| is_used(row));
     let listed = used.flat_map(|row| &row[16..]).filter(|&&block| block != 0);
     listed.map(|&block| Step::Note { block, note: 2 }).collect()
 }
 
 /// A pending note for each of some free blocks.
 fn pending_notes(random: &mut Random, rows: &[Row; 64], blocks: &[u8]) -> Vec<Step> {
-    let used: Vec<usize> = (0..64).filter(|&entry| rows[entry][0] != 0xE5).collect();
+    let used: Vec<usize> = (0..64).filter(|&entry| is_used(&rows[entry])).collect();
     if used.is_empty() {
         return Vec::new();
     }
@@ -279,15 +411,56 @@ mod tests {
 
     #[test]
     fn disks_are_of_every_fullness() {
-        let (mut empty, mut half, mut no_entry, mut no_block) = (0, 0, 0, 0);
-        for seed in 0..300 {
-            let world = world_with_disk(seed);
-            let used = world.used().count();
-            empty += usize::from(used == 0);
-            half += usize::from((20..50).contains(&used));
-            no_entry += usize::from(used == 64);
-            no_block += usize::from(!world.map.cells().contains(&0));
+        for dated in [false, true] {
+            let (mut empty, mut half, mut no_entry, mut no_block) = (0, 0, 0, 0);
+            for seed in 0..300 {
+                let world = world_with_disk(seed);
+                if world.is_dated() != dated {
+                    continue;
+                }
+                let used = world.used().count();
+                empty += usize::from(used == 0);
+                half += usize::from((20..45).contains(&used));
+                no_entry += usize::from(world.of_kind(EMPTY).next().is_none());
+                no_block += usize::from(!world.map.cells().contains(&0));
+            }
+            assert!(empty.min(half).min(no_entry).min(no_block) > 2, "{dated}");
         }
-        assert!(empty.min(half).min(no_entry).min(no_block) > 5);
+    }
+
+    #[test]
+    fn times_are_of_every_kind() {
+        let mut random = Random::new(9);
+        let times: Vec<Time> = (0..20_000).map(|_| some_time(&mut random)).collect();
+        for day in [0, 1, 255, 256, 65_535] {
+            assert!(times.iter().any(|time| time.day == day), "{day}");
+        }
+        let different = |part: fn(&Time) -> u8| {
+            let parts: std::collections::BTreeSet<u8> = times.iter().map(part).collect();
+            parts.len()
+        };
+        assert_eq!(different(|time| time.hour), 100);
+        assert_eq!(different(|time| time.minute), 100);
+        assert_eq!(different(|time| time.day.to_le_bytes()[0]), 256);
+        assert_eq!(different(|time| time.day.to_le_bytes()[1]), 256);
+    }
+
+    /// Many disks have neither date entries nor a label; the others have
+    /// labels of every kind, or none.
+    #[test]
+    fn disks_are_dated_and_labelled_in_every_way() {
+        let mut times = std::collections::BTreeMap::new();
+        for seed in 0..2_000 {
+            let world = world_with_disk(seed);
+            let label = world.of_kind(LABEL).next();
+            let asked = label.map(|entry| world.entry(entry)[12] & 0x70);
+            *times.entry((world.is_dated(), asked)).or_insert(0) += 1;
+        }
+        assert_eq!(times.len(), 14, "{times:?}");
+        assert!(times.values().all(|&times| times > 5), "{times:?}");
+        assert!(times[&(false, None)] > 800, "{times:?}");
+        let undated = times.iter().filter(|((dated, _), _)| !dated);
+        let undated: usize = undated.map(|(_, times)| times).sum();
+        assert!(undated > 1_000, "{times:?}");
     }
 }

@@ -82,7 +82,7 @@ fn call(
     side: &str,
 ) -> Result<Answer, String> {
     catch_unwind(AssertUnwindSafe(|| world.call(implementation, ask)))
-        .map_err(|_| format!("{side}: a panic in call {}", ask.asked.number))
+        .map_err(|_| format!("{side}: a panic in call {}", ask.number))
 }
 
 /// Tells what differs, the first cell of each buffer.

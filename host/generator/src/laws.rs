@@ -2,11 +2,11 @@
 //! otherwise. Two implementations that agree could still both be wrong; these
 //! laws are asked of one alone.
 
-use crate::faults;
+use crate::faults::{self, is_bad_bcd};
 use crate::sequence::Ask;
-use crate::world::{World, FCBS, RIGHT_LENGTHS};
+use crate::world::{asks, Implementation, World, DATES, FCBS, LABEL, RIGHT_LENGTHS};
 use reference::diskette::{self, DIRECTORY_PLACES, RECORD_BYTES};
-use reference::{Answer, Cause, Session, LISTED};
+use reference::{Answer, Asked, Cause, Session, LISTED};
 
 /// The records that an rc counts: "the smaller of rc and 128".
 pub fn count(rc: u8) -> u8 {
@@ -69,7 +69,7 @@ impl Laws {
         if inconsistent != (cause == Some(Cause::Inconsistent)) {
             return Err("an image was misjudged");
         }
-        let asks_map = ask.asked.number != 13 && !inconsistent;
+        let asks_map = ask.number != 13 && !inconsistent;
         let wrong = asks_map && faults::in_map(&self.before).is_some();
         if wrong != (cause == Some(Cause::MapWrong)) {
             return Err("a map was misjudged");
@@ -107,7 +107,7 @@ impl Laws {
 
     /// What every accepted call keeps to.
     fn check_accepted(&self, after: &World, ask: &Ask, answer: Answer) -> Result<(), &'static str> {
-        let number = ask.asked.number;
+        let number = ask.number;
         if !LISTED.contains(&number) || ask.lengths != RIGHT_LENGTHS {
             return Err("what can't be accepted was");
         }
@@ -121,6 +121,8 @@ impl Laws {
         self.check_fcbs(after, ask)?;
         self.check_image(after, ask)?;
         self.check_counts(after, ask)?;
+        self.check_aside(after)?;
+        self.check_stamps(after, ask)?;
         let takes_buffer = matches!(number, 17 | 18 | 20 | 33 | 46);
         if !takes_buffer && after.buffer != self.before.buffer {
             return Err("a call changed the buffer");
@@ -150,7 +152,7 @@ impl Laws {
     /// Only the lent FCB changes, and of it not byte 0; random records only by
     /// 35 and 36.
     fn check_fcbs(&self, after: &World, ask: &Ask) -> Result<(), &'static str> {
-        let number = ask.asked.number;
+        let number = ask.number;
         for which in 0..FCBS {
             let (was, is) = (self.before.fcb(which), after.fcb(which));
             let lent = which == ask.fcb % FCBS && !WITHOUT_FCB.contains(&number);
@@ -173,7 +175,7 @@ impl Laws {
     /// Sectors of no block are never touched, the directory by some calls
     /// only, and of the rest just the record written.
     fn check_image(&self, after: &World, ask: &Ask) -> Result<(), &'static str> {
-        let number = ask.asked.number;
+        let number = ask.number;
         let written = matches!(number, 21 | 34).then(|| {
             let fcb = after.fcb(ask.fcb);
             // Afterwards cr is one past the record, or for 34 the record.
@@ -181,7 +183,8 @@ impl Laws {
             let block = fcb[16 + usize::from(record / 8) % 16];
             diskette::place(block.min(242), record) / RECORD_BYTES
         });
-        let takes_directory = matches!(number, 16 | 19..=23 | 33 | 34);
+        let opens = number == 15 && self.before.is_dated() && self.before.asks(asks::ACCESS);
+        let takes_directory = opens || matches!(number, 16 | 19..=23 | 33 | 34);
         for (sector, _) in differing(&self.before, after) {
             if !self.in_blocks[sector] {
                 return Err("a sector of no block changed");
@@ -202,7 +205,7 @@ impl Laws {
     /// the FCB, and only a close or a move writes one into an entry, where it
     /// is larger than the one that stood there.
     fn check_counts(&self, after: &World, ask: &Ask) -> Result<(), &'static str> {
-        let number = ask.asked.number;
+        let number = ask.number;
         let rc = after.fcb(ask.fcb)[15];
         if matches!(number, 21 | 34) && !(1..=128).contains(&rc) {
             return Err("a write left no count");
@@ -216,6 +219,66 @@ impl Laws {
             }
         }
         Ok(())
+    }
+
+    /// Labels stay as they are, and of date entries all that is no stamp:
+    /// mode and reserved bytes, and byte 0.
+    fn check_aside(&self, after: &World) -> Result<(), &'static str> {
+        for kind in [LABEL, DATES] {
+            if !self.before.of_kind(kind).eq(after.of_kind(kind)) {
+                return Err("a label or a date entry came or went");
+            }
+        }
+        let same = |entry: usize| self.before.entry(entry) == after.entry(entry);
+        if !self.before.of_kind(LABEL).all(same) {
+            return Err("a label changed");
+        }
+        let is_no_stamp = |at: &usize| !(1..30).contains(at) || (at - 1) % 10 > 7;
+        let rest = |world: &World, entry: usize| -> Vec<u8> {
+            let row = world.entry(entry);
+            (0..32).filter(is_no_stamp).map(|at| row[at]).collect()
+        };
+        let kept = |entry: usize| rest(&self.before, entry) == rest(after, entry);
+        match self.before.of_kind(DATES).all(kept) {
+            true => Ok(()),
+            false => Err("a date entry changed beside its stamps"),
+        }
+    }
+
+    /// Each stamp is what is due, beside every entry.
+    fn check_stamps(&self, after: &World, ask: &Ask) -> Result<(), &'static str> {
+        if !self.before.is_dated() {
+            return Ok(());
+        }
+        let is_due = |entry: usize| after.stamps(entry) == self.stamps_due(after, ask, entry);
+        match (0..64).filter(|entry| entry % 4 != 3).all(is_due) {
+            true => Ok(()),
+            false => Err("a stamp is not what is due"),
+        }
+    }
+
+    /// The stamps that are due beside an entry of a disk with date entries.
+    /// Beside a new entry: zeros, but create is the time after a 22 where the
+    /// label asks. Beside any other: access after a 15, update after a close or
+    /// move that changes the entry are the time where the label asks. In every
+    /// other case they are as they were.
+    fn stamps_due(&self, after: &World, ask: &Ask, entry: usize) -> [[u8; 4]; 2] {
+        let before = &self.before;
+        let (now, zero) = (before.time.stamp(), [0; 4]);
+        let [first, update] = before.stamps(entry);
+        if !before.is_used(entry) && after.is_used(entry) {
+            let created = ask.number == 22 && before.asks(asks::CREATE);
+            return [if created { now } else { zero }, zero];
+        }
+        let opened = ask.number == 15 && after.entry_of(&after.fcb(ask.fcb)) == Some(entry);
+        let changed = matches!(ask.number, 16 | 20 | 21 | 33 | 34)
+            && before.entry(entry) != after.entry(entry);
+        let accessed = opened && before.asks(asks::ACCESS);
+        let updated = changed && before.asks(asks::UPDATE);
+        [
+            if accessed { now } else { first },
+            if updated { now } else { update },
+        ]
     }
 
     /// Makes the kept world the present one.
@@ -232,6 +295,43 @@ impl Laws {
         self.before.fcbs[which].clone_from(&after.fcbs[which]);
         self.before.buffer.clone_from(&after.buffer);
         self.before.session = after.session;
+    }
+}
+
+/// An implementation that is handed another time where the time must not matter:
+/// on disks without date entries. Beside itself it has to do the same.
+pub fn at_another_time(implementation: &mut dyn Implementation) -> impl Implementation + '_ {
+    move |asked: Asked,
+          image: &mut [u8],
+          map: &mut [u16],
+          fcb: &mut [u8],
+          buffer: &mut [u8],
+          session: Session| {
+        let asked = match is_undated(image) {
+            true => another_time(asked),
+            false => asked,
+        };
+        implementation.call(asked, image, map, fcb, buffer, session)
+    }
+}
+
+/// Whether entry 3 is no date entry: a consistent image then has none.
+fn is_undated(image: &[u8]) -> bool {
+    image.get(World::entry_place(3)) != Some(&DATES)
+}
+
+/// The same at another time in BCD; what is not in BCD stays.
+fn another_time(asked: Asked) -> Asked {
+    // Nine less every digit is a digit.
+    let other = |byte: u8| match is_bad_bcd(byte) {
+        true => byte,
+        false => 0x99 - byte,
+    };
+    Asked {
+        day: !asked.day,
+        hour: other(asked.hour),
+        minute: other(asked.minute),
+        ..asked
     }
 }
 

@@ -1,11 +1,11 @@
 //! Random call sequences, and two implementations run side by side on them.
 //!
 //! [`run`] makes so many calls from a seed, on worlds whose disks are of every
-//! fullness, with steps that a [`Chooser`] steers so that every cause of the
-//! table comes up. After every call all of A, H, image, map, FCBs, transfer
-//! buffer and session are compared, and the guards around the buffers looked
-//! at. The left implementation has to keep the [`Laws`] as well, and
-//! [`Counts`] tells what came up.
+//! fullness, with date entries and labels or without, by steps that a
+//! [`Chooser`] steers so that every cause of the table comes up. After every
+//! call all of A, H, image, map, FCBs, transfer buffer and session are compared,
+//! and the guards around the buffers looked at. The left implementation has to
+//! keep the [`Laws`] as well, and [`Counts`] tells what came up.
 //!
 //! Anything with the signature of [`reference::call`] is an
 //! [`Implementation`]; so a library behind a foreign interface needs one small
@@ -38,9 +38,9 @@ mod world;
 pub use chooser::Chooser;
 pub use counts::Counts;
 pub use duel::{replay, Duel, Failure};
-pub use laws::Laws;
-pub use sequence::{Ask, Sequence, Step};
-pub use world::{Guarded, Implementation, World, FCBS, MOST_OVER, RIGHT_LENGTHS};
+pub use laws::{at_another_time, Laws};
+pub use sequence::{Ask, Sequence, Step, Time};
+pub use world::{asks, Guarded, Implementation, World, FCBS, MOST_OVER, RIGHT_LENGTHS};
 
 use random::Random;
 

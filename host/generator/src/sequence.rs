@@ -12,6 +12,7 @@
 //! fcb WHICH HEX             an FCB
 //! buffer HEX                the transfer buffer
 //! session USER HEX PLACE ON the session, its pattern in the middle
+//! time DAY HOUR MINUTE      the time that calls are handed, 0 0 0 at first
 //! call NUMBER ARGUMENT FCB [IMAGE MAP FCB BUFFER]
 //! ```
 //!
@@ -37,11 +38,32 @@ pub struct Lengths {
     pub buffer: usize,
 }
 
+/// The time that calls are handed: hour and minute as bytes, BCD or not.
+#[derive(Clone, Copy, Debug, Default, PartialEq, Eq)]
+pub struct Time {
+    /// The day.
+    pub day: u16,
+    /// The hour.
+    pub hour: u8,
+    /// The minute.
+    pub minute: u8,
+}
+
+impl Time {
+    /// As it stands in a stamp: the day, low byte first, hour and minute.
+    pub fn stamp(self) -> [u8; 4] {
+        let [low, high] = self.day.to_le_bytes();
+        [low, high, self.hour, self.minute]
+    }
+}
+
 /// A call to be made.
 #[derive(Clone, Copy, Debug, PartialEq, Eq)]
 pub struct Ask {
-    /// Its number and argument.
-    pub asked: Asked,
+    /// Its number.
+    pub number: u8,
+    /// Its argument.
+    pub argument: u8,
     /// Which FCB it is lent.
     pub fcb: usize,
     /// The lengths it is lent.
@@ -52,9 +74,21 @@ impl Ask {
     /// A call with buffers of the right lengths.
     pub fn new(number: u8, argument: u8, fcb: usize) -> Self {
         Self {
-            asked: Asked { number, argument },
+            number,
+            argument,
             fcb,
             lengths: RIGHT_LENGTHS,
+        }
+    }
+
+    /// What is asked for at a time.
+    pub fn at(&self, time: Time) -> Asked {
+        Asked {
+            number: self.number,
+            argument: self.argument,
+            day: time.day,
+            hour: time.hour,
+            minute: time.minute,
         }
     }
 }
@@ -97,6 +131,8 @@ pub enum Step {
     },
     /// The session is set.
     Session(Session),
+    /// The time is set.
+    Time(Time),
     /// A call is made.
     Call(Ask),
 }
@@ -133,9 +169,9 @@ impl fmt::Display for Step {
                 place,
                 on,
             }) => write!(f, "session {user} {} {place} {on}", Hex(pattern)),
+            Step::Time(Time { day, hour, minute }) => write!(f, "time {day} {hour} {minute}"),
             Step::Call(ask) => {
-                let Asked { number, argument } = ask.asked;
-                write!(f, "call {number} {argument} {}", ask.fcb)?;
+                write!(f, "call {} {} {}", ask.number, ask.argument, ask.fcb)?;
                 if ask.lengths == RIGHT_LENGTHS {
                     return Ok(());
                 }
@@ -240,21 +276,29 @@ fn read_step(kind: &str, words: &mut Words) -> Result<Step, &'static str> {
             place: words.number()?,
             on: words.number()?,
         }),
-        "call" => {
-            let mut ask = Ask::new(words.number()?, words.number()?, words.number_below(FCBS)?);
-            if words.0.clone().next().is_some() {
-                let right = RIGHT_LENGTHS;
-                ask.lengths = Lengths {
-                    image: words.number_below(right.image + MOST_OVER + 1)?,
-                    map: words.number_below(right.map + MOST_OVER + 1)?,
-                    fcb: words.number_below(right.fcb + MOST_OVER + 1)?,
-                    buffer: words.number_below(right.buffer + MOST_OVER + 1)?,
-                };
-            }
-            Step::Call(ask)
-        }
+        "time" => Step::Time(Time {
+            day: words.number()?,
+            hour: words.number()?,
+            minute: words.number()?,
+        }),
+        "call" => Step::Call(read_call(words)?),
         _ => return Err("no such step"),
     })
+}
+
+/// Reads a call, with lengths where they are given.
+fn read_call(words: &mut Words) -> Result<Ask, &'static str> {
+    let mut ask = Ask::new(words.number()?, words.number()?, words.number_below(FCBS)?);
+    if words.0.clone().next().is_some() {
+        let right = RIGHT_LENGTHS;
+        ask.lengths = Lengths {
+            image: words.number_below(right.image + MOST_OVER + 1)?,
+            map: words.number_below(right.map + MOST_OVER + 1)?,
+            fcb: words.number_below(right.fcb + MOST_OVER + 1)?,
+            buffer: words.number_below(right.buffer + MOST_OVER + 1)?,
+        };
+    }
+    Ok(ask)
 }
 
 impl FromStr for Sequence {
@@ -295,36 +339,46 @@ mod tests {
         let mut short = Ask::new(255, 17, 7);
         short.lengths.image -= 1;
         short.lengths.buffer += MOST_OVER;
+        let mut steps = preparations();
+        steps.extend([Step::Call(Ask::new(13, 0, 0)), Step::Call(short)]);
         Sequence {
             seed: u64::MAX,
-            steps: vec![
-                Step::Sector {
-                    number: 2001,
-                    bytes: [0xA5; 128],
-                },
-                Step::Byte {
-                    place: 256_255,
-                    byte: 255,
-                },
-                Step::Note {
-                    block: 242,
-                    note: 65_535,
-                },
-                Step::Fcb {
-                    which: 7,
-                    bytes: std::array::from_fn(|i| i as u8),
-                },
-                Step::Buffer { bytes: [9; 128] },
-                Step::Session(Session {
-                    user: 255,
-                    pattern: [0x3F; 12],
-                    place: 65_535,
-                    on: 255,
-                }),
-                Step::Call(Ask::new(13, 0, 0)),
-                Step::Call(short),
-            ],
+            steps,
         }
+    }
+
+    /// One of each step that is no call.
+    fn preparations() -> Vec<Step> {
+        vec![
+            Step::Sector {
+                number: 2001,
+                bytes: [0xA5; 128],
+            },
+            Step::Byte {
+                place: 256_255,
+                byte: 255,
+            },
+            Step::Note {
+                block: 242,
+                note: 65_535,
+            },
+            Step::Fcb {
+                which: 7,
+                bytes: std::array::from_fn(|i| i as u8),
+            },
+            Step::Buffer { bytes: [9; 128] },
+            Step::Session(Session {
+                user: 255,
+                pattern: [0x3F; 12],
+                place: 65_535,
+                on: 255,
+            }),
+            Step::Time(Time {
+                day: 65_535,
+                hour: 0x9A,
+                minute: 255,
+            }),
+        ]
     }
 
     #[test]
@@ -353,6 +407,10 @@ mod tests {
             "fcb 0 00",
             "buffer zz",
             "session 0 00 0 0",
+            "time 1 2",
+            "time 65536 0 0",
+            "time 1 256 0",
+            "time 1 2 3 4",
             "note 1 -1",
         ] {
             assert_eq!(bad(&format!("disk 1\n{line}")).line, 2, "{line}");

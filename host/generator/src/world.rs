@@ -3,9 +3,28 @@
 
 use crate::faults;
 use crate::random::Random;
-use crate::sequence::{Ask, Lengths, Step};
+use crate::sequence::{Ask, Lengths, Step, Time};
 use reference::diskette::{self, BLOCKS, DIRECTORY_PLACES, IMAGE_BYTES, RECORD_BYTES};
 use reference::{Answer, Asked, Session, FCB_BYTES};
+
+/// Byte 0 of an empty entry.
+pub const EMPTY: u8 = 0xE5;
+
+/// Byte 0 of a label.
+pub const LABEL: u8 = 0x20;
+
+/// Byte 0 of a date entry.
+pub const DATES: u8 = 0x21;
+
+/// Bits of a label's byte 12: the stamps that it asks for.
+pub mod asks {
+    /// When a file was made.
+    pub const CREATE: u8 = 0x10;
+    /// When an entry was changed.
+    pub const UPDATE: u8 = 0x20;
+    /// When a file was opened.
+    pub const ACCESS: u8 = 0x40;
+}
 
 /// FCBs a world holds.
 pub const FCBS: usize = 8;
@@ -118,6 +137,8 @@ pub struct World {
     pub buffer: Guarded<u8>,
     /// The session.
     pub session: Session,
+    /// The time that calls are handed.
+    pub time: Time,
 }
 
 impl World {
@@ -131,6 +152,7 @@ impl World {
             fcbs: std::array::from_fn(|_| Guarded::new(FCB_BYTES)),
             buffer: Guarded::new(RECORD_BYTES),
             session: Session::default(),
+            time: Time::default(),
         };
         let mut random = Random::new(seed);
         for eight in world.image.cells_mut().as_chunks_mut().0 {
@@ -158,9 +180,53 @@ impl World {
         &self.image.cells()[Self::entry_place(entry)..][..32]
     }
 
+    /// Whether an entry is a file's: neither empty nor a label or a date
+    /// entry.
+    pub fn is_used(&self, entry: usize) -> bool {
+        ![EMPTY, LABEL, DATES].contains(&self.entry(entry)[0])
+    }
+
     /// The numbers of the used entries.
     pub fn used(&self) -> impl Iterator<Item = usize> + '_ {
-        (0..64).filter(|&entry| self.entry(entry)[0] != 0xE5)
+        (0..64).filter(|&entry| self.is_used(entry))
+    }
+
+    /// The numbers of the entries that begin with a byte.
+    pub fn of_kind(&self, byte: u8) -> impl Iterator<Item = usize> + '_ {
+        (0..64).filter(move |&entry| self.entry(entry)[0] == byte)
+    }
+
+    /// Whether the disk has date entries.
+    pub fn is_dated(&self) -> bool {
+        self.of_kind(DATES).next().is_some()
+    }
+
+    /// Whether the label asks for a stamp, which is a bit of its byte 12.
+    pub fn asks(&self, stamp: u8) -> bool {
+        let mut labels = self.of_kind(LABEL);
+        labels.any(|entry| self.entry(entry)[12] & stamp != 0)
+    }
+
+    /// The two stamps beside an entry of a disk with date entries: create or
+    /// access, and update.
+    pub fn stamps(&self, entry: usize) -> [[u8; 4]; 2] {
+        let dates = self.entry(entry / 4 * 4 + 3);
+        [1, 5].map(|first| {
+            let at = first + 10 * (entry % 4);
+            std::array::from_fn(|i| dates[at + i])
+        })
+    }
+
+    /// The entry that an FCB speaks of, if the session's user has it.
+    pub fn entry_of(&self, fcb: &[u8]) -> Option<usize> {
+        let alike = |row: &[u8]| {
+            let name =
+                |bytes: &[u8]| -> Vec<u8> { bytes[1..12].iter().map(|b| b & 0x7F).collect() };
+            row[0] == self.session.user
+                && name(row) == name(fcb)
+                && (row[12], row[14]) == (fcb[12], fcb[14])
+        };
+        self.used().find(|&entry| alike(self.entry(entry)))
     }
 
     /// FCB `which`.
@@ -172,7 +238,7 @@ impl World {
     pub fn refusal(&self, ask: &Ask) -> Option<reference::Cause> {
         let lengths = ask.lengths;
         reference::refusal(
-            ask.asked,
+            ask.at(self.time),
             self.image.lent(lengths.image),
             self.map.lent(lengths.map),
             self.fcbs[ask.fcb % FCBS].lent(lengths.fcb),
@@ -190,7 +256,7 @@ impl World {
     pub fn call(&mut self, implementation: &mut dyn Implementation, ask: &Ask) -> Answer {
         let lengths = ask.lengths;
         let answer = implementation.call(
-            ask.asked,
+            ask.at(self.time),
             self.image.lent_mut(lengths.image),
             self.map.lent_mut(lengths.map),
             self.fcbs[ask.fcb % FCBS].lent_mut(lengths.fcb),
@@ -216,6 +282,7 @@ impl World {
             }
             Step::Buffer { bytes } => self.buffer.cells_mut().copy_from_slice(bytes),
             Step::Session(session) => self.session = *session,
+            Step::Time(time) => self.time = *time,
             Step::Call(_) => {}
         }
     }
@@ -248,6 +315,7 @@ impl World {
         let bytes = std::array::from_fn(|i| self.buffer.cells()[i]);
         steps.push(Step::Buffer { bytes });
         steps.push(Step::Session(self.session));
+        steps.push(Step::Time(self.time));
         steps
     }
 

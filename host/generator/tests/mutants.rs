@@ -1,8 +1,8 @@
 //! Implementations that are wrong in one small way. Each of them has to be
 //! found out, and its failing call has to fail again when replayed from text.
 
-use generator::{replay, run, Counts, Implementation, Sequence};
-use reference::diskette::DIRECTORY_PLACES;
+use generator::{asks, replay, run, Counts, Implementation, Sequence};
+use reference::diskette::{DIRECTORY_PLACES, IMAGE_BYTES};
 use reference::{call, refusal, Answer, Asked, Cause, Session};
 
 /// Calls in which a wrong implementation has to be found out.
@@ -74,29 +74,238 @@ fn extent(bytes: &[u8]) -> Option<(u8, u8)> {
     Some((*bytes.get(12)?, *bytes.get(14)?))
 }
 
-/// Runs a wrong implementation until it is found out.
-fn found_out(name: &str, mutant: fn(&mut Lent) -> Answer) {
-    struct Mutant(fn(&mut Lent) -> Answer);
-    impl Implementation for Mutant {
-        fn call(
-            &mut self,
-            asked: Asked,
-            image: &mut [u8],
-            map: &mut [u16],
-            fcb: &mut [u8],
-            buffer: &mut [u8],
-            session: Session,
-        ) -> Answer {
-            (self.0)(&mut Lent {
-                asked,
-                image,
-                map,
-                fcb,
-                buffer,
-                session,
-            })
+/// A stamp: day, hour and minute.
+type Stamp = [u8; 4];
+
+/// The 64 entries of an image of the right length.
+#[derive(Clone)]
+struct Rows([[u8; 32]; 64]);
+
+impl Rows {
+    fn of(image: &[u8]) -> Option<Rows> {
+        let row = |entry: usize| std::array::from_fn(|i| image[Self::place(entry) + i]);
+        (image.len() == IMAGE_BYTES).then(|| Rows(std::array::from_fn(row)))
+    }
+
+    fn place(entry: usize) -> usize {
+        DIRECTORY_PLACES[entry / 4] + 32 * (entry % 4)
+    }
+
+    fn put(&self, image: &mut [u8]) {
+        for (entry, row) in self.0.iter().enumerate() {
+            image[Self::place(entry)..][..32].copy_from_slice(row);
         }
     }
+
+    /// Takes back what is still as it was shown.
+    fn take_back(&mut self, shown: &Rows, before: &Rows) {
+        let [shown, before] = [shown, before].map(|rows| rows.0.as_flattened().iter());
+        for ((byte, shown), before) in self.0.as_flattened_mut().iter_mut().zip(shown).zip(before) {
+            if byte == shown {
+                *byte = *before;
+            }
+        }
+    }
+
+    fn is_used(&self, entry: usize) -> bool {
+        self.0[entry][0] < 16
+    }
+
+    fn is_dated(&self) -> bool {
+        self.0[3][0] == 0x21
+    }
+
+    fn asks(&self, bit: u8) -> bool {
+        let mut labels = self.0.iter().filter(|row| row[0] == 0x20);
+        labels.any(|row| row[12] & bit != 0)
+    }
+
+    /// The entries that are used now and were not before.
+    fn made_since(&self, before: &Rows) -> Vec<usize> {
+        let made = |&entry: &usize| self.is_used(entry) && !before.is_used(entry);
+        (0..64).filter(made).collect()
+    }
+
+    /// The entry of a user that an FCB speaks of.
+    fn entry_of(&self, user: u8, fcb: &[u8]) -> Option<usize> {
+        self.0
+            .iter()
+            .position(|row| is_named(row, user, fcb) && extent(row) == extent(fcb))
+    }
+
+    /// Where a stamp stands: create or access (0), or update (1).
+    fn stamp_mut(&mut self, entry: usize, which: usize) -> &mut [u8] {
+        let at = 1 + 10 * (entry % 4) + 4 * which;
+        &mut self.0[entry | 3][at..at + 4]
+    }
+
+    fn stamp(&self, entry: usize, which: usize) -> Stamp {
+        let at = 1 + 10 * (entry % 4) + 4 * which;
+        std::array::from_fn(|i| self.0[entry | 3][at + i])
+    }
+}
+
+/// Entries that are not the fourth of a record.
+fn before_dates() -> impl Iterator<Item = usize> {
+    (0..64).filter(|entry| entry % 4 != 3)
+}
+
+/// What an accepted call was given and left.
+struct Done {
+    number: u8,
+    user: u8,
+    now: Stamp,
+    before: Rows,
+    /// The FCB as it was, and as it is.
+    was: Vec<u8>,
+    is: Vec<u8>,
+}
+
+impl Done {
+    fn moved(&self) -> bool {
+        matches!(self.number, 20 | 21 | 33 | 34) && extent(&self.was) != extent(&self.is)
+    }
+
+    /// The entry that the FCB was current for.
+    fn present(&self) -> Option<usize> {
+        self.before.entry_of(self.user, &self.was)
+    }
+
+    /// The entry that was closed, by a 16 or a move.
+    fn closed(&self) -> Option<usize> {
+        self.present().filter(|_| self.number == 16 || self.moved())
+    }
+
+    /// Makes a stamp the time of the call.
+    fn stamp(&self, rows: &mut Rows, entry: usize, which: usize) {
+        rows.stamp_mut(entry, which).copy_from_slice(&self.now);
+    }
+
+    /// Makes a stamp what it was before the call.
+    fn unstamp(&self, rows: &mut Rows, entry: usize, which: usize) {
+        let was = self.before.stamp(entry, which);
+        rows.stamp_mut(entry, which).copy_from_slice(&was);
+    }
+}
+
+impl Lent<'_> {
+    fn now(&self) -> Stamp {
+        let [low, high] = self.asked.day.to_le_bytes();
+        [low, high, self.asked.hour, self.asked.minute]
+    }
+
+    /// Makes the call and, where it is accepted, spoils the entries that it
+    /// leaves.
+    fn call_and_spoil(&mut self, spoil: fn(&Done, &mut Rows)) -> Answer {
+        let accepted = self.refusal().is_none();
+        let (Some(before), true) = (Rows::of(self.image), accepted) else {
+            return self.call();
+        };
+        let was = self.fcb.to_vec();
+        let answer = self.call();
+        let done = Done {
+            number: self.number(),
+            user: self.session.user,
+            now: self.now(),
+            before,
+            was,
+            is: self.fcb.to_vec(),
+        };
+        if let Some(mut rows) = Rows::of(self.image) {
+            spoil(&done, &mut rows);
+            rows.put(self.image);
+        }
+        answer
+    }
+
+    /// The same on dated disks alone.
+    fn call_and_spoil_dates(&mut self, spoil: fn(&Done, &mut Rows)) -> Answer {
+        match Rows::of(self.image) {
+            Some(rows) if rows.is_dated() => self.call_and_spoil(spoil),
+            _ => self.call(),
+        }
+    }
+
+    /// Makes the call on other entries, and takes back what it has not changed.
+    fn call_disguised(&mut self, disguise: impl Fn(&mut Rows)) -> Answer {
+        let Some(before) = Rows::of(self.image) else {
+            return self.call();
+        };
+        let mut shown = before.clone();
+        disguise(&mut shown);
+        shown.put(self.image);
+        let answer = self.call();
+        if let Some(mut after) = Rows::of(self.image) {
+            after.take_back(&shown, &before);
+            after.put(self.image);
+        }
+        let found = usize::from(answer.session.place).checked_sub(1);
+        // What a search shows is what stands there.
+        if let (17 | 18, Some(entry), 0..4) = (self.number(), found, answer.a) {
+            let record = Rows::place(entry / 4 * 4);
+            self.buffer.copy_from_slice(&self.image[record..][..128]);
+        }
+        answer
+    }
+
+    /// Makes the call as if labels, or date entries, were files of the user's.
+    fn call_with_files(&mut self, kind: u8) -> Answer {
+        let user = self.session.user;
+        self.call_disguised(|rows| {
+            let entries = rows.0.iter_mut().enumerate();
+            for (entry, row) in entries.filter(|(_, row)| row[0] == kind) {
+                // A name that no other file has.
+                *row = [0; 32];
+                (row[0], row[12]) = (user, entry as u8 / 4);
+                row[1..12].fill(b'$');
+            }
+        })
+    }
+
+    /// The same where the image is not consistent as it is.
+    fn call_disguised_if_bad(&mut self, disguise: fn(&mut Rows)) -> Answer {
+        match self.refusal() {
+            Some(Cause::Inconsistent) => self.call_disguised(disguise),
+            _ => self.call(),
+        }
+    }
+
+    /// Makes the call at another time.
+    fn call_at(&mut self, hour: u8, minute: u8) -> Answer {
+        (self.asked.hour, self.asked.minute) = (hour, minute);
+        self.call()
+    }
+}
+
+fn is_bad(byte: u8) -> bool {
+    byte / 16 > 9 || byte % 16 > 9
+}
+
+/// A wrong implementation.
+struct Mutant(fn(&mut Lent) -> Answer);
+impl Implementation for Mutant {
+    fn call(
+        &mut self,
+        asked: Asked,
+        image: &mut [u8],
+        map: &mut [u16],
+        fcb: &mut [u8],
+        buffer: &mut [u8],
+        session: Session,
+    ) -> Answer {
+        (self.0)(&mut Lent {
+            asked,
+            image,
+            map,
+            fcb,
+            buffer,
+            session,
+        })
+    }
+}
+
+/// Runs a wrong implementation until it is found out.
+fn found_out(name: &str, mutant: fn(&mut Lent) -> Answer) {
     let mut mutant = Mutant(mutant);
     let mut counts = Counts::default();
     let done = run(11, CALLS, &mut call, &mut mutant, &mut counts);
@@ -110,20 +319,40 @@ fn found_out(name: &str, mutant: fn(&mut Lent) -> Answer) {
     }
 }
 
-/// Writes tests that each find one mutant out.
+/// Runs a wrong implementation beside itself: the laws have to find it out.
+fn breaks_laws(name: &str, mutant: fn(&mut Lent) -> Answer) {
+    let mut counts = Counts::default();
+    let (mut left, mut right) = (Mutant(mutant), Mutant(mutant));
+    let done = run(11, CALLS, &mut left, &mut right, &mut counts);
+    let failure = done.expect_err(&format!("{name} breaks no law"));
+    println!(
+        "{name}, alone: call {}: {}",
+        counts.calls, failure.difference
+    );
+}
+
+/// Finds a wrong implementation out beside the reference, and by the laws.
+fn found_out_both_ways(name: &str, mutant: fn(&mut Lent) -> Answer) {
+    found_out(name, mutant);
+    breaks_laws(name, mutant);
+}
+
+/// Writes tests that each find one mutant out, in one way.
 macro_rules! mutants {
-    ($($(#[$doc:meta])* $name:ident: $mutant:expr;)*) => {
+    ($found_out:ident; $($(#[$doc:meta])* $name:ident: $mutant:expr;)*) => {
         $(
             $(#[$doc])*
             #[test]
             fn $name() {
-                found_out(stringify!($name), $mutant);
+                $found_out(stringify!($name), $mutant);
             }
         )*
     };
 }
 
 mutants! {
+    found_out;
+
     /// "Freeing only recorded blocks at a delete."
     delete_keeps_pending_blocks: |lent| {
         let before = lent.map.to_vec();
@@ -529,5 +758,455 @@ mutants! {
     panics_on_full_disks: |lent| {
         assert!(lent.refusal() != Some(Cause::NoFreeBlock34), "no block");
         lent.call()
+    };
+}
+
+// Labels, date entries and stamps.
+mutants! {
+    found_out_both_ways;
+
+    /// Create or access comes first, update second.
+    stamps_the_other_way_round: |lent| lent.call_and_spoil_dates(|done, rows| {
+        for entry in before_dates() {
+            let [was, is] = [&done.before, &*rows].map(|r| [r.stamp(entry, 0), r.stamp(entry, 1)]);
+            for which in [0, 1] {
+                if was[which] != is[which] && was[1 - which] == is[1 - which] {
+                    rows.stamp_mut(entry, which).copy_from_slice(&was[which]);
+                    rows.stamp_mut(entry, 1 - which).copy_from_slice(&is[which]);
+                }
+            }
+        }
+    });
+
+    update_by_a_close_that_changes_nothing: |lent| lent.call_and_spoil_dates(|done, rows| {
+        if let (16, Some(entry), true) = (done.number, done.closed(), rows.asks(asks::UPDATE)) {
+            done.stamp(rows, entry, 1);
+        }
+    });
+
+    update_by_a_move_that_changes_nothing: |lent| lent.call_and_spoil_dates(|done, rows| {
+        if let (true, Some(entry), true) = (done.moved(), done.closed(), rows.asks(asks::UPDATE)) {
+            done.stamp(rows, entry, 1);
+        }
+    });
+
+    update_for_blocks_alone: |lent| lent.call_and_spoil_dates(|done, rows| {
+        if let Some(entry) = done.closed() {
+            if done.before.0[entry][16..] == rows.0[entry][16..] {
+                done.unstamp(rows, entry, 1);
+            }
+        }
+    });
+
+    update_for_a_larger_count_alone: |lent| lent.call_and_spoil_dates(|done, rows| {
+        if let Some(entry) = done.closed() {
+            if done.before.0[entry][15] == rows.0[entry][15] {
+                done.unstamp(rows, entry, 1);
+            }
+        }
+    });
+
+    a_move_stamps_no_update: |lent| lent.call_and_spoil_dates(|done, rows| {
+        if let (true, Some(entry)) = (done.moved(), done.closed()) {
+            done.unstamp(rows, entry, 1);
+        }
+    });
+
+    an_entry_made_by_a_move_keeps_its_stamps: |lent| lent.call_and_spoil_dates(|done, rows| {
+        if done.moved() {
+            for entry in rows.made_since(&done.before) {
+                for which in [0, 1] {
+                    done.unstamp(rows, entry, which);
+                }
+            }
+        }
+    });
+
+    an_entry_made_by_a_move_is_created: |lent| lent.call_and_spoil_dates(|done, rows| {
+        if done.moved() && rows.asks(asks::CREATE) {
+            for entry in rows.made_since(&done.before) {
+                done.stamp(rows, entry, 0);
+            }
+        }
+    });
+
+    make_keeps_the_update_stamp: |lent| lent.call_and_spoil_dates(|done, rows| {
+        if done.number == 22 {
+            for entry in rows.made_since(&done.before) {
+                done.unstamp(rows, entry, 1);
+            }
+        }
+    });
+
+    make_stamps_update_too: |lent| lent.call_and_spoil_dates(|done, rows| {
+        if done.number == 22 && rows.asks(asks::UPDATE) {
+            for entry in rows.made_since(&done.before) {
+                done.stamp(rows, entry, 1);
+            }
+        }
+    });
+
+    zeros_only_where_create_is_asked_for: |lent| lent.call_and_spoil_dates(|done, rows| {
+        if done.number == 22 && !rows.asks(asks::CREATE) {
+            for entry in rows.made_since(&done.before) {
+                done.unstamp(rows, entry, 0);
+            }
+        }
+    });
+
+    mode_and_reserved_bytes_start_at_zero: |lent| lent.call_and_spoil_dates(|done, rows| {
+        if done.number == 22 {
+            for entry in rows.made_since(&done.before) {
+                let at = 9 + 10 * (entry % 4);
+                rows.0[entry | 3][at..at + 2].fill(0);
+            }
+        }
+    });
+
+    access_by_a_move: |lent| lent.call_and_spoil_dates(|done, rows| {
+        let target = rows.entry_of(done.user, &done.is);
+        if let (true, Some(entry), true) = (done.moved(), target, rows.asks(asks::ACCESS)) {
+            done.stamp(rows, entry, 0);
+        }
+    });
+
+    access_by_a_search: |lent| lent.call_and_spoil_dates(|done, rows| {
+        let found = rows.entry_of(done.user, &done.is);
+        if let (17, Some(entry), true) = (done.number, found, rows.asks(asks::ACCESS)) {
+            done.stamp(rows, entry, 0);
+        }
+    });
+
+    access_whatever_the_label_asks: |lent| lent.call_and_spoil_dates(|done, rows| {
+        if let (15, Some(entry)) = (done.number, rows.entry_of(done.user, &done.is)) {
+            done.stamp(rows, entry, 0);
+        }
+    });
+
+    update_whatever_the_label_asks: |lent| lent.call_and_spoil_dates(|done, rows| {
+        if let Some(entry) = done.closed() {
+            if done.before.0[entry] != rows.0[entry] {
+                done.stamp(rows, entry, 1);
+            }
+        }
+    });
+
+    create_whatever_the_label_asks: |lent| lent.call_and_spoil_dates(|done, rows| {
+        if done.number == 22 {
+            for entry in rows.made_since(&done.before) {
+                done.stamp(rows, entry, 0);
+            }
+        }
+    });
+
+    /// "A refusal stamps nothing."
+    access_by_a_refused_open: |lent| {
+        let refused = lent.refusal() == Some(Cause::NothingMatches15);
+        let now = lent.now();
+        let answer = lent.call();
+        let rows = Rows::of(lent.image).filter(|rows| refused && rows.is_dated());
+        if let Some(mut rows) = rows.filter(|rows| rows.asks(asks::ACCESS)) {
+            let named = |row: &[u8; 32]| is_named(row, lent.session.user, lent.fcb);
+            if let Some(entry) = rows.0.iter().position(named) {
+                rows.stamp_mut(entry, 0).copy_from_slice(&now);
+                rows.put(lent.image);
+            }
+        }
+        answer
+    };
+
+    update_by_a_refused_write: |lent| {
+        let refused = lent.refusal() == Some(Cause::NoFreeBlock21);
+        let (now, user) = (lent.now(), lent.session.user);
+        let answer = lent.call();
+        let rows = Rows::of(lent.image).filter(|rows| refused && rows.is_dated());
+        if let Some(mut rows) = rows.filter(|rows| rows.asks(asks::UPDATE)) {
+            if let Some(entry) = rows.entry_of(user, lent.fcb) {
+                rows.stamp_mut(entry, 1).copy_from_slice(&now);
+                rows.put(lent.image);
+            }
+        }
+        answer
+    };
+
+    rename_stamps_update: |lent| lent.call_and_spoil_dates(|done, rows| {
+        if done.number == 23 && rows.asks(asks::UPDATE) {
+            for entry in before_dates() {
+                if done.before.0[entry] != rows.0[entry] {
+                    done.stamp(rows, entry, 1);
+                }
+            }
+        }
+    });
+
+    delete_clears_stamps: |lent| lent.call_and_spoil_dates(|done, rows| {
+        if done.number == 19 {
+            for entry in before_dates() {
+                if done.before.0[entry] != rows.0[entry] {
+                    rows.stamp_mut(entry, 0).fill(0);
+                }
+            }
+        }
+    });
+
+    /// "A disk without date entries is never stamped, whatever its label asks."
+    undated_disks_are_stamped: |lent| lent.call_and_spoil(|done, rows| {
+        let opened = rows.entry_of(done.user, &done.is).filter(|entry| entry % 4 != 3);
+        if let (15, Some(entry), false) = (done.number, opened, rows.is_dated()) {
+            if rows.asks(asks::ACCESS) {
+                done.stamp(rows, entry, 0);
+            }
+        }
+    });
+
+    create_and_access_bits_exchanged: |lent| lent.call_disguised(|rows| {
+        for row in rows.0.iter_mut().filter(|row| row[0] == 0x20) {
+            let kept = row[12] & !(asks::CREATE | asks::ACCESS);
+            let create = (row[12] & asks::ACCESS) >> 2;
+            let access = (row[12] & asks::CREATE) << 2;
+            row[12] = kept | create | access;
+        }
+    });
+
+    create_and_access_both_taken: |lent| lent.call_disguised_if_bad(|rows| {
+        const BOTH: u8 = asks::CREATE | asks::ACCESS;
+        for row in rows.0.iter_mut().filter(|row| row[0] == 0x20) {
+            if row[12] & BOTH == BOTH {
+                row[12] &= !asks::ACCESS;
+            }
+        }
+    });
+
+    only_extent_zero_is_stamped: |lent| lent.call_and_spoil_dates(|done, rows| {
+        for entry in before_dates() {
+            if extent(&rows.0[entry]) != Some((0, 0)) {
+                for which in [0, 1] {
+                    done.unstamp(rows, entry, which);
+                }
+            }
+        }
+    });
+
+    days_high_byte_first: |lent| lent.call_and_spoil_dates(|done, rows| {
+        for entry in before_dates() {
+            for which in [0, 1] {
+                if rows.stamp(entry, which) != done.before.stamp(entry, which) {
+                    rows.stamp_mut(entry, which).swap(0, 1);
+                }
+            }
+        }
+    });
+
+    hour_and_minute_exchanged: |lent| {
+        let (hour, minute) = (lent.asked.hour, lent.asked.minute);
+        match lent.refusal() {
+            None => lent.call_at(minute, hour),
+            _ => lent.call(),
+        }
+    };
+
+    /// "Time going back or repeating is stored as given."
+    stamps_never_go_back: |lent| lent.call_and_spoil_dates(|done, rows| {
+        let day = |stamp: Stamp| u16::from_le_bytes([stamp[0], stamp[1]]);
+        for entry in before_dates() {
+            let (was, is) = (done.before.stamp(entry, 0), rows.stamp(entry, 0));
+            if is == done.now && day(is) < day(was) {
+                rows.stamp_mut(entry, 0).copy_from_slice(&was);
+            }
+        }
+    });
+
+    the_label_is_stamped_too: |lent| lent.call_and_spoil_dates(|done, rows| {
+        if done.number == 22 && rows.asks(asks::UPDATE) {
+            for row in rows.0.iter_mut().filter(|row| row[0] == 0x20) {
+                row[28..].copy_from_slice(&done.now);
+            }
+        }
+    });
+
+    bcd_of_the_hours_only: |lent| lent.call_disguised_if_bad(|rows| {
+        for row in rows.0.iter_mut().filter(|row| row[0] == 0x21) {
+            for at in [4, 8, 14, 18, 24, 28] {
+                if is_bad(row[at]) {
+                    row[at] = 0;
+                }
+            }
+        }
+    });
+
+    bcd_of_the_low_digit_only: |lent| lent.call_disguised_if_bad(|rows| {
+        for row in rows.0.iter_mut().filter(|row| row[0] == 0x21) {
+            for at in [3, 4, 7, 8, 13, 14, 17, 18, 23, 24, 27, 28] {
+                if row[at] % 16 <= 9 {
+                    row[at] %= 16;
+                }
+            }
+        }
+    });
+
+    bcd_of_labels_not_asked: |lent| lent.call_disguised_if_bad(|rows| {
+        for row in rows.0.iter_mut().filter(|row| row[0] == 0x20) {
+            row[24..].fill(0);
+        }
+    });
+
+    /// "Beside empty entries too."
+    bcd_beside_used_entries_only: |lent| lent.call_disguised_if_bad(|rows| {
+        for entry in before_dates() {
+            if rows.0[entry | 3][0] == 0x21 && !rows.is_used(entry) {
+                rows.stamp_mut(entry, 0).fill(0);
+                rows.stamp_mut(entry, 1).fill(0);
+            }
+        }
+    });
+
+    /// Three empty entries are passed over with the date entry behind them.
+    dates_of_three_empty_entries_not_looked_at: |lent| lent.call_disguised_if_bad(|rows| {
+        for record in rows.0.as_chunks_mut::<4>().0 {
+            let [first, second, third, dates] = record;
+            if [first, second, third].iter().all(|row| row[0] == 0xE5) && dates[0] == 0x21 {
+                dates[1..].fill(0);
+            }
+        }
+    });
+
+    a_second_label_taken: |lent| lent.call_disguised_if_bad(|rows| {
+        for row in rows.0.iter_mut().filter(|row| row[0] == 0x20).skip(1) {
+            row[0] = 0xE5;
+        }
+    });
+
+    dates_elsewhere_taken: |lent| lent.call_disguised_if_bad(|rows| {
+        for entry in before_dates() {
+            if rows.0[entry][0] == 0x21 {
+                rows.0[entry][0] = 0xE5;
+            }
+        }
+    });
+
+    a_missing_date_entry_taken: |lent| lent.call_disguised_if_bad(|rows| {
+        if rows.0.iter().filter(|row| row[0] == 0x21).count() == 15 {
+            for entry in (3..64).step_by(4) {
+                if rows.0[entry][0] == 0xE5 {
+                    rows.0[entry] = [0; 32];
+                    rows.0[entry][0] = 0x21;
+                }
+            }
+        }
+    });
+
+    a_lone_date_entry_taken: |lent| lent.call_disguised_if_bad(|rows| {
+        if rows.0.iter().filter(|row| row[0] == 0x21).count() == 1 {
+            for row in rows.0.iter_mut().filter(|row| row[0] == 0x21) {
+                row[0] = 0xE5;
+            }
+        }
+    });
+
+    /// Neither kind lists a block.
+    labels_list_blocks: |lent| {
+        let lists = |row: &&[u8; 32]| row[0] == 0x20 && row[16..24].contains(&1);
+        let listed = Rows::of(lent.image).is_some_and(|rows| rows.0.iter().any(|r| lists(&r)));
+        if listed && lent.refusal().is_none() {
+            return lent.refuse(255, 1);
+        }
+        lent.call()
+    };
+
+    labels_are_empty_entries: |lent| {
+        match lent.number() {
+            22 if lent.refusal().is_none() => lent.call_disguised(|rows| {
+                for row in rows.0.iter_mut().filter(|row| row[0] == 0x20) {
+                    row[0] = 0xE5;
+                }
+            }),
+            _ => lent.call(),
+        }
+    };
+
+    /// Where no entry is empty.
+    date_entries_are_empty_entries: |lent| match lent.refusal() {
+        Some(Cause::NoEmptyEntry22) => lent.call_disguised(|rows| {
+            for row in rows.0.iter_mut().filter(|row| row[0] == 0x21) {
+                row[0] = 0xE5;
+            }
+        }),
+        _ => lent.call(),
+    };
+
+    labels_are_found: |lent| match (lent.number(), lent.refusal()) {
+        (17 | 18, None | Some(Cause::NothingMatches17 | Cause::NoMore18)) => {
+            lent.call_with_files(0x20)
+        }
+        _ => lent.call(),
+    };
+
+    date_entries_are_found: |lent| match (lent.number(), lent.refusal()) {
+        (17 | 18, None | Some(Cause::NothingMatches17 | Cause::NoMore18)) => {
+            lent.call_with_files(0x21)
+        }
+        _ => lent.call(),
+    };
+
+    labels_are_deleted: |lent| match (lent.number(), lent.refusal()) {
+        (19, None | Some(Cause::NothingMatches19)) => lent.call_with_files(0x20),
+        _ => lent.call(),
+    };
+
+    /// Neither kind holds a block that is pending.
+    blocks_pending_for_labels_taken: |lent| {
+        let aside = Rows::of(lent.image).filter(|_| lent.refusal() == Some(Cause::MapWrong));
+        let Some(rows) = aside else {
+            return lent.call();
+        };
+        let is_aside = |note: u16| {
+            let entry = usize::from(note).wrapping_sub(16) / 16;
+            rows.0.get(entry).is_some_and(|row| matches!(row[0], 0x20 | 0x21))
+        };
+        let kept = lent.map.to_vec();
+        lent.map.iter_mut().filter(|note| is_aside(**note)).for_each(|note| *note = 0);
+        let answer = lent.call();
+        for (note, was) in lent.map.iter_mut().zip(kept) {
+            if *note == 0 && is_aside(was) {
+                *note = was;
+            }
+        }
+        answer
+    };
+
+    bcd_of_the_times_hour_only: |lent| match lent.refusal() {
+        Some(Cause::TimeMinute) => lent.call_at(0, 0),
+        _ => lent.call(),
+    };
+
+    bcd_of_the_times_minute_only: |lent| match lent.refusal() {
+        Some(Cause::TimeHour) if !is_bad(lent.asked.minute) => lent.call_at(0, 0),
+        _ => lent.call(),
+    };
+
+    /// "Bad BCD in the time handed in is 255, 4", also in calls that stamp
+    /// nothing.
+    times_of_calls_that_stamp_nothing_not_asked: |lent| match lent.refusal() {
+        Some(Cause::TimeHour | Cause::TimeMinute) if lent.number() == 46 => lent.call_at(0, 0),
+        _ => lent.call(),
+    };
+
+    hours_over_23_refused: |lent| {
+        let accepted = lent.refusal().is_none();
+        if accepted && lent.asked.hour > 0x23 {
+            return lent.refuse(255, 4);
+        }
+        lent.call()
+    };
+
+    bad_disks_before_bad_times: |lent| match lent.refusal() {
+        Some(Cause::TimeHour | Cause::TimeMinute) => {
+            let (hour, minute) = (lent.asked.hour, lent.asked.minute);
+            (lent.asked.hour, lent.asked.minute) = (0, 0);
+            let bad = lent.refusal() == Some(Cause::Inconsistent);
+            (lent.asked.hour, lent.asked.minute) = (hour, minute);
+            if bad { lent.refuse(255, 1) } else { lent.call() }
+        }
+        _ => lent.call(),
     };
 }

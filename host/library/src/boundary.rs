@@ -2,11 +2,14 @@
 //! and the safe way to it. Nothing compares these declarations with the proved
 //! source; `tests/layout.rs` compares them with the C header.
 
+use crate::Time;
+
 /// The version of these types and of the function's parameters, the header's
 /// `BENZO_VERSION`.
-pub const VERSION: u32 = 1;
+pub const VERSION: u32 = 2;
 
-/// Which call is asked for: `benzo_asked`.
+/// Which call is asked for, and when: `benzo_asked`. The time may be anything
+/// here; [`Asked::new`] takes one that is right.
 #[repr(C)]
 #[derive(Clone, Copy, Debug, Default, PartialEq, Eq)]
 pub struct Asked {
@@ -14,6 +17,25 @@ pub struct Asked {
     pub number: u8,
     /// The argument byte, looked at by call 32 only.
     pub argument: u8,
+    /// The day, where 1 January 1978 is 1.
+    pub day: u16,
+    /// The hour, in BCD; anything else is refused with 255, 4.
+    pub hour: u8,
+    /// The minute, in BCD; anything else is refused with 255, 4.
+    pub minute: u8,
+}
+
+impl Asked {
+    /// A call, its argument, and the time.
+    pub const fn new(number: u8, argument: u8, time: Time) -> Asked {
+        Asked {
+            number,
+            argument,
+            day: time.day(),
+            hour: time.hour_bcd(),
+            minute: time.minute_bcd(),
+        }
+    }
 }
 
 /// What a caller keeps from one call to the next: `benzo_session`. It begins

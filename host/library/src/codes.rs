@@ -62,7 +62,7 @@ codes! {
     NotListed = 255, 255, [],
         "There is no call with this number.";
     BadCall = 255, 4, [],
-        "A buffer has a wrong length, the session's user is over 15, its search place is over 64, or the call uses the FCB and byte 0 of it is over 1.";
+        "A buffer has a wrong length, the session's user is over 15, its search place is over 64, the time's hour or minute is not in BCD, or the call uses the FCB and byte 0 of it is over 1.";
     BadDisk = 255, 1, [],
         "The directory of the image is not consistent, or the map does not fit it (13 takes any map, and makes it fit).";
     TooFar = 6, 0, [33, 34],
@@ -120,6 +120,41 @@ rc, in an entry or in an FCB, may be any byte: as a count of records, more than
 128 is read as 128. No call refuses a disk or an FCB for it.
 ";
 
+    /// What the help card says of labels and date entries that are wrong, in
+    /// lines of at most 80 characters.
+    pub const WRONG_DATES: &'static str = "\
+Labels and date entries make a directory not consistent where a date entry is
+not the fourth of four entries, where some fourth entries are date entries and
+others are not, where there are two labels, where the label asks for create and
+access stamps, and where an hour or a minute in any stamp is not in BCD.
+";
+
+    /// What the help card says of the time, in lines of at most 80 characters.
+    pub const THE_TIME: &'static str = "\
+Each call is handed the time: a day, where 1 January 1978 is 1, and hour and
+minute in BCD, two decimal digits a byte. A digit over 9 is 255, 4, also in
+calls that stamp nothing; otherwise any time is taken, 24H to 99H too, and
+stored as it is given, also where it repeats or goes back.
+";
+
+    /// What the help card says of stamps, in lines of at most 80 characters.
+    pub const STAMPS: &'static str = "\
+Only disks with date entries are stamped: entries whose byte 0 is 21H, the
+fourth of every four. Where the disk's label (byte 0 20H) asks for it, 22
+stamps create, 15 access, and a close or move that changes an entry update,
+beside that entry; a new entry's stamps start at zero. Nothing else is stamped,
+and a refused call stamps nothing.
+";
+
+    /// Everything that the help card says below its table, in its order.
+    pub const REMARKS: [&'static str; 5] = [
+        Code::ACCEPTED_CALLS,
+        Code::RECORD_COUNTS,
+        Code::WRONG_DATES,
+        Code::THE_TIME,
+        Code::STAMPS,
+    ];
+
     /// Reads an answer: A where the call was accepted, or why it was refused.
     /// `before` is the session that the call was given.
     pub fn read(asked: Asked, before: &Session, answer: &Answer) -> Result<u8, Code> {
@@ -153,12 +188,10 @@ impl std::error::Error for Code {}
 #[cfg(test)]
 mod tests {
     use super::*;
+    use crate::Time;
 
     fn read(number: u8, on: u8, a: u8, h: u8) -> Result<u8, Code> {
-        let asked = Asked {
-            number,
-            argument: 0,
-        };
+        let asked = Asked::new(number, 0, Time::ZERO);
         let session = Session {
             on,
             ..Session::default()

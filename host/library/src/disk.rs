@@ -1,7 +1,7 @@
 //! A disk: an image with what the calls need beside it.
 
 use crate::{
-    lend, Asked, Buffer, Call, Code, Entry, Fcb, Image, Map, Session, BUFFER_LEN, ENTRY_LEN,
+    lend, Asked, Buffer, Call, Code, Entry, Fcb, Image, Map, Session, Time, BUFFER_LEN, ENTRY_LEN,
     IMAGE_LEN, MAP_LEN,
 };
 use std::fmt;
@@ -9,13 +9,21 @@ use std::fmt;
 /// The byte that an erased disk is full of.
 const ERASED: u8 = 0xE5;
 
-/// An image, its map, a transfer buffer and a session. Nothing but the calls
-/// changes image, map and session.
+/// Byte 0 of a date entry.
+const DATES: u8 = 0x21;
+
+/// An image, its map, a transfer buffer, a session, and the time that calls are
+/// handed. Nothing but the calls changes image, map and session.
+///
+/// A disk begins at [`Time::ZERO`], and its time stands still until
+/// [`Disk::set_time`] is called: what a call does is decided by what it is given
+/// alone. The time is stored by disks with date entries, and by no others.
 #[derive(Clone, PartialEq, Eq)]
 pub struct Disk {
     image: Box<Image>,
     map: Box<Map>,
     session: Session,
+    time: Time,
     /// The transfer buffer: what writes take and reads give.
     pub buffer: Buffer,
 }
@@ -25,6 +33,7 @@ impl fmt::Debug for Disk {
     fn fmt(&self, f: &mut fmt::Formatter) -> fmt::Result {
         let mut shown = f.debug_struct("Disk");
         shown.field("session", &self.session);
+        shown.field("time", &self.time);
         shown.finish_non_exhaustive()
     }
 }
@@ -36,6 +45,34 @@ pub struct Found {
     pub number: usize,
     /// Its bytes.
     pub entry: Entry,
+    /// The stamps beside it, where the disk has date entries.
+    pub stamps: Option<Stamps>,
+}
+
+/// The two stamps beside an entry.
+#[derive(Clone, Copy, Debug, PartialEq, Eq)]
+pub struct Stamps {
+    /// When the entry was made or last opened: the disk's label says which of
+    /// the two is kept.
+    pub first: Time,
+    /// When a close or a move last changed the entry.
+    pub update: Time,
+}
+
+impl Stamps {
+    /// The stamps of one of the first three entries of a directory record.
+    fn beside(record: &Buffer, which: usize) -> Option<Stamps> {
+        let dates = &record[3 * ENTRY_LEN..];
+        let stamp = |at: usize| Time::from_stamp(std::array::from_fn(|i| dates[at + i]));
+        let at = 1 + 10 * which;
+        if dates[0] != DATES || which > 2 {
+            return None;
+        }
+        Some(Stamps {
+            first: stamp(at)?,
+            update: stamp(at + 4)?,
+        })
+    }
 }
 
 /// Bytes that are no image, for their number.
@@ -107,6 +144,7 @@ impl Disk {
             image,
             map,
             session,
+            time: Time::ZERO,
             buffer: [0; BUFFER_LEN],
         }
     }
@@ -126,12 +164,23 @@ impl Disk {
         self.session
     }
 
+    /// The time that calls are handed.
+    pub fn time(&self) -> Time {
+        self.time
+    }
+
+    /// Sets the time that calls are handed from now on.
+    pub fn set_time(&mut self, time: Time) {
+        self.time = time;
+    }
+
     /// The image alone.
     pub fn into_image(self) -> Vec<u8> {
         self.image.to_vec()
     }
 
-    /// Makes any call: A where it is accepted, or why it is refused.
+    /// Makes any call, with the time that stands in `asked`: A where it is
+    /// accepted, or why it is refused.
     pub fn ask(&mut self, asked: Asked, fcb: &mut Fcb) -> Result<u8, Code> {
         let before = self.session;
         let answer = lend(
@@ -148,9 +197,12 @@ impl Disk {
 
     /// Makes a listed call with argument 0.
     pub fn call(&mut self, call: Call, fcb: &mut Fcb) -> Result<u8, Code> {
-        let number = call.number();
-        let argument = 0;
-        self.ask(Asked { number, argument }, fcb)
+        self.call_with(call, 0, fcb)
+    }
+
+    /// Makes a listed call with an argument.
+    fn call_with(&mut self, call: Call, argument: u8, fcb: &mut Fcb) -> Result<u8, Code> {
+        self.ask(Asked::new(call.number(), argument, self.time), fcb)
     }
 
     /// A call that doesn't use the FCB.
@@ -193,6 +245,7 @@ impl Disk {
         Found {
             number: usize::from(self.session.place).saturating_sub(1),
             entry: std::array::from_fn(|i| self.buffer[start + i]),
+            stamps: Stamps::beside(&self.buffer, usize::from(a)),
         }
     }
 
@@ -224,22 +277,15 @@ impl Disk {
 
     /// Call 32 with argument 255: the user number.
     pub fn user(&mut self) -> Result<u8, Code> {
-        let asked = Asked {
-            number: Call::User.number(),
-            argument: 255,
-        };
-        self.ask(asked, &mut Fcb::ZERO.clone())
+        self.call_with(Call::User, 255, &mut Fcb::ZERO.clone())
     }
 
     /// Call 32: sets the user number, 0 to 15.
     pub fn set_user(&mut self, user: u8) -> Result<(), Code> {
         // 255 would ask for the user, and no other argument is a user's.
         let argument = user.min(254);
-        let asked = Asked {
-            number: Call::User.number(),
-            argument,
-        };
-        self.ask(asked, &mut Fcb::ZERO.clone()).map(|_| ())
+        self.call_with(Call::User, argument, &mut Fcb::ZERO.clone())
+            .map(|_| ())
     }
 
     /// Call 33: reads the FCB's random record into the buffer.

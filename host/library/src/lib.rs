@@ -19,6 +19,8 @@
 //! * [`Disk`] owns an image, its map, a transfer buffer and a session. Lengths
 //!   can't be wrong there, and only calls change the image.
 //! * [`Fcb`], [`Name`] and [`Pattern`] are what calls are given.
+//! * [`Time`] is what calls are handed and stamps hold. A disk begins at
+//!   [`Time::ZERO`]; `disk.set_time(Time::now()?)` makes it the system's clock.
 //! * [`Code`] says why a call was refused, in the help card's sentence.
 //! * [`lend`] is the archive's function itself, which takes buffers of any
 //!   length and any session: wrong ones are refused, not undefined.
@@ -35,13 +37,16 @@ mod codes;
 mod disk;
 mod fcb;
 mod names;
+mod time;
+mod zone;
 
 pub use boundary::{lend, Answer, Asked, Session, VERSION};
 pub use calls::Call;
 pub use codes::Code;
-pub use disk::{Disk, Found, NoDisk, WrongLength};
+pub use disk::{Disk, Found, NoDisk, Stamps, WrongLength};
 pub use fcb::Fcb;
 pub use names::{BadName, Name, Pattern};
+pub use time::{BadTime, Date, Time};
 
 /// Bytes of an image: 77 tracks of 26 sectors of 128 bytes.
 pub const IMAGE_LEN: usize = 256_256;

@@ -65,10 +65,11 @@ fn the_help_card_has_every_case_in_order() {
 }
 
 #[test]
-fn header_and_help_card_say_what_accepted_calls_answer_and_what_rc_counts() {
+fn header_and_help_card_say_the_same_beside_the_table() {
     for path in ["include/benzokamuri.h", "docs/HELP-CARD.md"] {
-        for said in [Code::ACCEPTED_CALLS, Code::RECORD_COUNTS] {
+        for said in Code::REMARKS {
             assert!(flat(&read(path)).contains(&flat(said)), "{path}: {said}");
+            assert!(said.ends_with('\n') && said.lines().all(|line| line.len() <= 80));
         }
     }
 }

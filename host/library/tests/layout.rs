@@ -2,7 +2,7 @@
 
 mod common;
 
-use benzokamuri::{Answer, Asked, Session, BUFFER_LEN, FCB_LEN, IMAGE_LEN, MAP_LEN, VERSION};
+use benzokamuri::{Answer, Asked, Session, Time, BUFFER_LEN, FCB_LEN, IMAGE_LEN, MAP_LEN, VERSION};
 use std::mem::{align_of, offset_of, size_of};
 
 /// What both sides have to have: a size or place, and its number.
@@ -11,6 +11,9 @@ fn rust_layout() -> Vec<(&'static str, usize)> {
         ("benzo_asked", size_of::<Asked>()),
         ("benzo_asked.number", offset_of!(Asked, number)),
         ("benzo_asked.argument", offset_of!(Asked, argument)),
+        ("benzo_asked.day", offset_of!(Asked, day)),
+        ("benzo_asked.hour", offset_of!(Asked, hour)),
+        ("benzo_asked.minute", offset_of!(Asked, minute)),
         ("benzo_session", size_of::<Session>()),
         ("benzo_session.user", offset_of!(Session, user)),
         ("benzo_session.pattern", offset_of!(Session, pattern)),
@@ -29,11 +32,14 @@ fn rust_layout() -> Vec<(&'static str, usize)> {
 }
 
 #[test]
-fn rust_has_the_sizes_and_places_of_version_1() {
+fn rust_has_the_sizes_and_places_of_version_2() {
     let expected = [
-        ("benzo_asked", 2),
+        ("benzo_asked", 6),
         ("benzo_asked.number", 0),
         ("benzo_asked.argument", 1),
+        ("benzo_asked.day", 2),
+        ("benzo_asked.hour", 4),
+        ("benzo_asked.minute", 5),
         ("benzo_session", 18),
         ("benzo_session.user", 0),
         ("benzo_session.pattern", 1),
@@ -43,13 +49,14 @@ fn rust_has_the_sizes_and_places_of_version_1() {
         ("benzo_answer.a", 0),
         ("benzo_answer.h", 1),
         ("benzo_answer.session", 2),
-        ("BENZO_VERSION", 1),
+        ("BENZO_VERSION", 2),
         ("BENZO_IMAGE_LEN", 256_256),
         ("BENZO_MAP_LEN", 243),
         ("BENZO_FCB_LEN", 36),
         ("BENZO_BUFFER_LEN", 128),
     ];
     assert_eq!(rust_layout(), expected);
+    assert_eq!(align_of::<Asked>(), 2);
     assert_eq!(align_of::<Session>(), 2);
     assert_eq!(align_of::<Answer>(), 2);
 }
@@ -64,68 +71,84 @@ fn c_has_the_same() {
     assert_eq!(printed, expected);
 }
 
+/// A session whose fields are told apart.
+const SESSION: Session = Session {
+    user: 11,
+    pattern: *b"ABCDEFGHIJKL",
+    place: 64,
+    on: 0xC3,
+};
+
+/// A time whose bytes are told apart.
+fn some_time() -> Time {
+    Time::from_bcd(0x1234, 0x56, 0x78).expect("BCD")
+}
+
+/// Makes a call on an erased disk.
+fn lend(asked: Asked, session: Session) -> Answer {
+    let mut image = vec![0xE5; IMAGE_LEN];
+    let (mut map, mut fcb, mut buffer) = ([0; MAP_LEN], [0; FCB_LEN], [0; BUFFER_LEN]);
+    map[..2].fill(1);
+    benzokamuri::lend(asked, &mut image, &mut map, &mut fcb, &mut buffer, session)
+}
+
 /// A wrong declaration on either side would mix these up.
 #[test]
 fn every_field_crosses_the_boundary() {
-    let session = Session {
-        user: 11,
-        pattern: *b"ABCDEFGHIJKL",
-        place: 0x0140,
-        on: 0xC3,
-    };
     // 255, 4 for the place, so all comes back as it went in.
-    let asked = Asked {
-        number: 46,
-        argument: 7,
+    let far = Session {
+        place: 0x0140,
+        ..SESSION
     };
-    let mut image = vec![0xE5; IMAGE_LEN];
-    let (mut map, mut fcb, mut buffer) = ([0; MAP_LEN], [0; FCB_LEN], [0; BUFFER_LEN]);
-    let mut lend = |asked, session| {
-        benzokamuri::lend(asked, &mut image, &mut map, &mut fcb, &mut buffer, session)
-    };
-    let refused = lend(asked, session);
-    assert_eq!((refused.a, refused.h, refused.session), (255, 4, session));
+    let refused = lend(Asked::new(46, 7, some_time()), far);
+    assert_eq!((refused.a, refused.h, refused.session), (255, 4, far));
 
-    // 13 makes the map, and 32 then looks at the argument and answers it.
-    let here = Session {
-        place: 64,
-        ..session
-    };
+    // 32 looks at the argument and answers it.
     let ended = Session {
         place: 0,
         on: 0,
-        ..session
+        ..SESSION
     };
-    let log_in = lend(
-        Asked {
-            number: 13,
-            argument: 200,
-        },
-        here,
-    );
+    let log_in = lend(Asked::new(13, 200, some_time()), SESSION);
     assert_eq!((log_in.a, log_in.h, log_in.session), (0, 0, ended));
-    let ask = lend(
-        Asked {
-            number: 32,
-            argument: 255,
-        },
-        here,
-    );
+    let ask = lend(Asked::new(32, 255, some_time()), SESSION);
     assert_eq!((ask.a, ask.h, ask.session), (11, 0, ended));
-    let set = lend(
-        Asked {
-            number: 32,
-            argument: 9,
-        },
-        here,
-    );
+    let set = lend(Asked::new(32, 9, some_time()), SESSION);
     assert_eq!((set.a, set.h, set.session.user), (0, 0, 9));
-    let bad = lend(
-        Asked {
-            number: 32,
-            argument: 16,
-        },
-        here,
-    );
-    assert_eq!((bad.a, bad.h, bad.session), (255, 0, here));
+    let bad = lend(Asked::new(32, 16, some_time()), SESSION);
+    assert_eq!((bad.a, bad.h, bad.session), (255, 0, SESSION));
+}
+
+#[test]
+fn hour_and_minute_are_looked_at_each_by_itself() {
+    for (hour, minute, due) in [
+        (0x99, 0x99, (0, 0)),
+        (0x9A, 0, (255, 4)),
+        (0, 0xA9, (255, 4)),
+    ] {
+        let asked = Asked {
+            hour,
+            minute,
+            ..Asked::new(13, 0, some_time())
+        };
+        let answer = lend(asked, SESSION);
+        assert_eq!((answer.a, answer.h), due, "{hour:02X}:{minute:02X}");
+    }
+}
+
+/// The time that is handed in is the stamp that is made, byte by byte.
+#[test]
+fn the_time_comes_out_as_a_stamp() {
+    let mut image = common::dated_image(0x10);
+    let (mut map, mut fcb, mut buffer) = ([0; MAP_LEN], [0; FCB_LEN], [0; BUFFER_LEN]);
+    fcb[1..12].copy_from_slice(b"STAMPED TXT");
+    for number in [13, 22] {
+        let asked = Asked::new(number, 0, some_time());
+        let session = Session::default();
+        let answer = benzokamuri::lend(asked, &mut image, &mut map, &mut fcb, &mut buffer, session);
+        assert_eq!(answer.h, 0, "call {number}");
+    }
+    let stamps = &image[common::entry_place(3) + 11..][..8];
+    assert_eq!(stamps, [0x34, 0x12, 0x56, 0x78, 0, 0, 0, 0]);
+    assert_eq!(stamps[..4], some_time().stamp());
 }

@@ -1,7 +1,7 @@
 //! Files on a disk, by its calls.
 
 use crate::layout::Row;
-use benzokamuri::{Code, Disk, Fcb, Found, Name, Pattern, BUFFER_LEN};
+use benzokamuri::{Code, Disk, Fcb, Found, Name, Pattern, Stamps, BUFFER_LEN};
 
 /// What fills up a file's last record.
 pub const FILLING: u8 = 0x1A;
@@ -45,6 +45,11 @@ impl File {
         };
         let set = NAMES.iter().enumerate().filter(|(at, _)| has(*at));
         set.map(|(_, name)| *name).collect()
+    }
+
+    /// Its stamps, where the disk has date entries: those of its first entry.
+    pub fn stamps(&self) -> Option<Stamps> {
+        self.entries.first().and_then(|found| found.stamps)
     }
 
     /// The blocks that its entries list.

@@ -44,7 +44,11 @@ pub fn all(desk: &mut Desk) -> Result<(), Trouble> {
     }
     writeln!(
         out,
-        "\n  -u USER is a user number from 0 to 15, and 0 where it is left out.\n"
+        "\n  -u USER is a user number from 0 to 15, and 0 where it is left out."
+    )?;
+    writeln!(
+        out,
+        "  --time \"2026-11-15 06:00\" is the time that calls are handed, from 1978-01-01\n  to 2157-06-05, and the local time where it is left out. Disks with date entries\n  are stamped with it.\n"
     )?;
     writeln!(
         out,
@@ -98,7 +102,8 @@ fn codes(desk: &mut Desk) -> Result<(), Trouble> {
         };
         writeln!(desk.out, "{:<10}  {calls:<19}  {code}", format!("{a}, {h}"))?;
     }
-    write!(desk.out, "\n{}", Code::ACCEPTED_CALLS)?;
-    write!(desk.out, "\n{}", Code::RECORD_COUNTS)?;
+    for remark in Code::REMARKS {
+        write!(desk.out, "\n{remark}")?;
+    }
     Ok(())
 }

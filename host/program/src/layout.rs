@@ -1,11 +1,23 @@
 //! The layout of the diskette, its directory and its map, read plainly: what
-//! `check`, `map` and `call` need to name a place. Nothing here changes an
-//! image.
+//! `check`, `map` and `call` need to name a place, and `free` to count entries.
+//! Nothing here changes an image.
 
 use benzokamuri::{Image, BUFFER_LEN, ENTRIES, ENTRY_LEN, IMAGE_LEN, MAP_LEN};
 
 /// Byte 0 of an empty entry, and every byte of an erased disk.
 pub const ERASED: u8 = 0xE5;
+
+/// Byte 0 of a label.
+pub const LABEL: u8 = 0x20;
+
+/// Byte 0 of a date entry.
+pub const DATES: u8 = 0x21;
+
+/// Where a label's own stamps begin: when it was made, and last changed.
+pub const LABEL_STAMPS: [usize; 2] = [24, 28];
+
+/// The bytes of a stamp: the day, low byte first, hour and minute.
+pub const STAMP_LEN: usize = 4;
 
 /// The block number past the last.
 pub const BLOCKS: usize = MAP_LEN;
@@ -59,7 +71,7 @@ impl<'a> Row<'a> {
         Row(&image[entry_place(entry)..][..ENTRY_LEN])
     }
 
-    /// Byte 0: E5H or the user.
+    /// Byte 0: the user, or what other kind of entry it is.
     pub fn user(self) -> u8 {
         self.0[0]
     }
@@ -67,6 +79,35 @@ impl<'a> Row<'a> {
     /// Whether the entry is a user's.
     pub fn is_used(self) -> bool {
         self.user() <= 15
+    }
+
+    /// Whether nothing stands here.
+    pub fn is_empty(self) -> bool {
+        self.user() == ERASED
+    }
+
+    /// Whether it is a label.
+    pub fn is_label(self) -> bool {
+        self.user() == LABEL
+    }
+
+    /// Whether it is a date entry.
+    pub fn is_dates(self) -> bool {
+        self.user() == DATES
+    }
+
+    /// Where its stamps begin, of which only labels and date entries have any.
+    pub fn stamps(self) -> &'static [usize] {
+        match self.user() {
+            LABEL => &LABEL_STAMPS,
+            DATES => &[1, 5, 11, 15, 21, 25],
+            _ => &[],
+        }
+    }
+
+    /// Whether a label asks for stamps of a kind.
+    pub fn asks_for(self, stamp: Stamp) -> bool {
+        self.0[Stamp::BYTE] & stamp.bit() != 0
     }
 
     /// Name and type with their attributes.
@@ -102,6 +143,43 @@ impl<'a> Row<'a> {
     /// The blocks that the slots list.
     pub fn blocks(self) -> impl Iterator<Item = u8> + 'a {
         self.slots().iter().copied().filter(|&block| block != 0)
+    }
+}
+
+/// What a label may ask for.
+#[derive(Clone, Copy, Debug, PartialEq, Eq)]
+pub enum Stamp {
+    /// When a file was made.
+    Create,
+    /// When it was last opened.
+    Access,
+    /// When it was last changed.
+    Update,
+}
+
+impl Stamp {
+    /// All of them. The first two share a place, so no label asks for both.
+    pub const ALL: [Stamp; 3] = [Stamp::Create, Stamp::Access, Stamp::Update];
+
+    /// The byte of a label that has the bits.
+    pub const BYTE: usize = 12;
+
+    /// Its bit there.
+    pub const fn bit(self) -> u8 {
+        match self {
+            Stamp::Create => 1 << 4,
+            Stamp::Update => 1 << 5,
+            Stamp::Access => 1 << 6,
+        }
+    }
+
+    /// What it is called.
+    pub const fn name(self) -> &'static str {
+        match self {
+            Stamp::Create => "create",
+            Stamp::Access => "access",
+            Stamp::Update => "update",
+        }
     }
 }
 

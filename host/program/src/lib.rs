@@ -1,15 +1,19 @@
 //! The program `benzokamuri`: files on diskette images of CP/M, by the proved
 //! calls.
 //!
-//! Everything a verb does on a disk goes through the calls of [`benzokamuri`];
-//! nothing else changes an image. A verb reads the image file, makes its calls
-//! on the copy in memory, and saves that copy at the end if all went well.
+//! A verb reads the image file, makes calls of [`benzokamuri`] on the copy in
+//! memory, and saves that copy at the end if all went well. Files are found,
+//! read and changed by calls alone. What is done beside them: `new` makes an
+//! image, short images are filled up and blank stamps made zeros as they are
+//! read ([`store`]), and `check`, `free`, `map` and `call` show what no call tells
+//! of ([`layout`]).
 
 #![forbid(unsafe_code)]
 #![warn(missing_docs)]
 
 pub mod changes;
 pub mod check;
+pub mod dates;
 pub mod files;
 mod help;
 mod hex;
@@ -22,23 +26,40 @@ pub mod trouble;
 mod verbs;
 mod words;
 
+use benzokamuri::{BadTime, Time};
 use std::ffi::OsString;
 use std::fmt;
 use std::io::{self, ErrorKind, Write};
 use trouble::Trouble;
 use words::{Shape, Words};
 
-/// Where a verb prints.
+/// Where a verb prints, and the clock that it looks at.
 pub struct Desk<'a> {
     /// What was asked for.
-    pub out: &'a mut dyn Write,
+    pub out: Heard<'a>,
     /// What went wrong, and what is worth a remark.
     pub err: &'a mut dyn Write,
     /// Whether `out` shows colours.
     pub colours: bool,
+    /// Says what time it is, where the command line does not.
+    pub clock: fn() -> Result<Time, BadTime>,
 }
 
-impl Desk<'_> {
+impl<'a> Desk<'a> {
+    /// A desk without colours, with the system's clock.
+    pub fn new(out: &'a mut dyn Write, err: &'a mut dyn Write) -> Desk<'a> {
+        Desk {
+            out: Heard {
+                out,
+                nowhere: false,
+                lost: false,
+            },
+            err,
+            colours: false,
+            clock: Time::now,
+        }
+    }
+
     /// Says what is worth a remark. That nobody reads it is no reason to stop.
     fn remark(&mut self, what: fmt::Arguments) {
         let _ = writeln!(self.err, "benzokamuri: {what}");
@@ -46,13 +67,20 @@ impl Desk<'_> {
 }
 
 /// What may lose its reader, as before `head`. The rest is then dropped, and
-/// the verb comes to the end that it would have come to.
-struct Heard<'a> {
+/// the verb comes to the end that it would have come to, unless it asks.
+pub struct Heard<'a> {
     out: &'a mut dyn Write,
+    /// Whether nobody gets what is printed, from the start.
+    pub nowhere: bool,
     lost: bool,
 }
 
 impl Heard<'_> {
+    /// Whether something that was printed, and flushed, reached nobody.
+    fn is_lost(&self) -> bool {
+        self.lost
+    }
+
     fn unless_lost<T>(&mut self, printed: io::Result<T>, instead: T) -> io::Result<T> {
         match printed {
             Err(error) if error.kind() == ErrorKind::BrokenPipe => {
@@ -66,6 +94,7 @@ impl Heard<'_> {
 
 impl Write for Heard<'_> {
     fn write(&mut self, bytes: &[u8]) -> io::Result<usize> {
+        self.lost |= self.nowhere;
         if self.lost {
             return Ok(bytes.len());
         }
@@ -98,14 +127,6 @@ struct Verb {
 /// Runs a command line, without the program's own name, and gives the exit
 /// status.
 pub fn run(words: &[OsString], desk: &mut Desk) -> u8 {
-    let desk = &mut Desk {
-        out: &mut Heard {
-            out: desk.out,
-            lost: false,
-        },
-        err: desk.err,
-        colours: desk.colours,
-    };
     let mut verb = None;
     let done = obey(words, &mut verb, desk).and_then(|()| Ok(desk.out.flush()?));
     let Err(trouble) = done else {
@@ -120,25 +141,29 @@ pub fn run(words: &[OsString], desk: &mut Desk) -> u8 {
     trouble.status()
 }
 
-/// Obeys a command line, and says which verb it has as soon as that is known.
-fn obey(
-    words: &[OsString],
-    found: &mut Option<&'static Verb>,
-    desk: &mut Desk,
-) -> Result<(), Trouble> {
-    // `-u` may stand before the verb too.
-    let before_verb = Shape {
+/// The words before the verb, and those from it on.
+fn split_before_verb(words: &[OsString]) -> Result<(Words, &[OsString]), Trouble> {
+    let shape = Shape {
         flags: &["--version"],
         valued: &[],
     };
     let is_option = |word: &OsString| word.to_str().is_some_and(|text| text.starts_with('-'));
     let mut at = 0;
     while words.get(at).is_some_and(is_option) {
-        let has_value = words[at] == "-u" || words[at] == "--user";
+        let has_value = words::ANYWHERE.iter().any(|&name| words[at] == name);
         at += if has_value { 2 } else { 1 };
     }
-    let at = at.min(words.len());
-    let first = Words::sorted(&words[..at], before_verb)?;
+    let (before, rest) = words.split_at(at.min(words.len()));
+    Ok((Words::sorted(before, shape)?, rest))
+}
+
+/// Obeys a command line, and says which verb it has as soon as that is known.
+fn obey(
+    words: &[OsString],
+    found: &mut Option<&'static Verb>,
+    desk: &mut Desk,
+) -> Result<(), Trouble> {
+    let (first, rest) = split_before_verb(words)?;
     if first.has("--version") {
         let version = env!("CARGO_PKG_VERSION");
         writeln!(
@@ -148,7 +173,7 @@ fn obey(
         )?;
         return Ok(());
     }
-    let Some((name, rest)) = words[at..].split_first() else {
+    let Some((name, rest)) = rest.split_first() else {
         return match first.help() {
             true => help::all(desk),
             false => Err(Trouble::usage("a verb is missing")),
@@ -165,7 +190,7 @@ fn obey(
     if first.help() {
         return help::verb(verb, desk);
     }
-    let words = Words::sorted(rest, verb.shape)?.or_user(first.given_user());
+    let words = Words::sorted(rest, verb.shape)?.after(&first);
     match words.help() {
         true => help::verb(verb, desk),
         false => (verb.run)(words, desk),

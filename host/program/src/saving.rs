@@ -97,8 +97,13 @@ impl Held {
             Err(error) if error.kind() == ErrorKind::Unsupported => {}
             locked => locked?,
         }
+        self.is_at(&self.path)
+    }
+
+    /// Whether a path leads to this file, by whatever links.
+    pub fn is_at(&self, path: &Path) -> io::Result<bool> {
         let this = self.file.metadata()?;
-        match fs::metadata(&self.path) {
+        match fs::metadata(path) {
             Ok(there) => Ok((this.dev(), this.ino()) == (there.dev(), there.ino())),
             Err(error) if error.kind() == ErrorKind::NotFound => Ok(false),
             Err(error) => Err(error),
@@ -325,11 +330,7 @@ mod tests {
         let mut ready = Ready::at(&path, b"new", false).unwrap();
         ready.folder = other;
         let (mut out, mut err) = (Vec::new(), Vec::new());
-        let mut desk = Desk {
-            out: &mut out,
-            err: &mut err,
-            colours: false,
-        };
+        let mut desk = Desk::new(&mut out, &mut err);
         assert!(ready.take_place(&mut desk).is_ok());
         assert_eq!(fs::read(&path).unwrap(), b"new");
         fs::remove_file(&path).unwrap();

@@ -1,10 +1,11 @@
 //! Images as files: read whole, and checked for their length.
 
+use crate::dates::fill_blank_stamps;
 use crate::layout::{place, Row, AREA, BLOCKS, BLOCK_RECORDS, ERASED};
 use crate::saving::{self, Held, Ready};
 use crate::trouble::Trouble;
 use crate::Desk;
-use benzokamuri::{Code, Disk, Image, NoDisk, WrongLength, BUFFER_LEN, ENTRIES, IMAGE_LEN};
+use benzokamuri::{Code, Disk, Image, NoDisk, Time, WrongLength, BUFFER_LEN, ENTRIES, IMAGE_LEN};
 use std::ffi::OsStr;
 use std::fmt;
 use std::fs::File;
@@ -14,15 +15,19 @@ use std::path::{Path, PathBuf};
 /// An image file, with what was read from it.
 pub struct ImageFile {
     path: PathBuf,
+    /// For calls to be made on.
     image: Box<Image>,
     /// How long the file is; less than an image where sectors at its end were
     /// never written.
     length: usize,
+    /// How many stamps were never written, and are zeros in the image.
+    blank_stamps: usize,
 }
 
 impl ImageFile {
-    /// Reads an image file to look at it. What is neither an image nor the
-    /// beginning of one is refused.
+    /// Reads an image file to look at it, as it stands there but for sectors
+    /// that it lacks. What is neither an image nor the beginning of one is
+    /// refused.
     pub fn read(path: &OsStr) -> Result<ImageFile, Trouble> {
         let path = Path::new(path);
         let file = saving::open(path).map_err(|error| Trouble::file(path.display(), &error))?;
@@ -46,6 +51,7 @@ impl ImageFile {
                 path,
                 image,
                 length,
+                blank_stamps: 0,
             }),
             Err(wrong) => Err(Trouble::Refused {
                 doing: format!("{}: {wrong}", path.display()),
@@ -54,12 +60,19 @@ impl ImageFile {
         }
     }
 
+    /// The same with zeros for stamps that were never written, so that calls
+    /// take it.
+    pub fn with_blank_stamps_read(mut self) -> ImageFile {
+        self.blank_stamps = fill_blank_stamps(&mut self.image);
+        self
+    }
+
     /// The name of the file as it was given.
     pub fn name(&self) -> String {
         self.path.display().to_string()
     }
 
-    /// The image as it was read.
+    /// The image as it was read, for calls to be made on.
     pub fn image(&self) -> &Image {
         &self.image
     }
@@ -74,8 +87,8 @@ impl ImageFile {
         IMAGE_LEN - self.length
     }
 
-    /// Logs in, as a user.
-    pub fn log_in(&self, user: u8) -> Result<Disk, Trouble> {
+    /// Logs in, as a user and at a time.
+    pub fn log_in(&self, user: u8, time: Time) -> Result<Disk, Trouble> {
         let refused = |code| Trouble::Refused {
             doing: self.name(),
             code,
@@ -84,6 +97,7 @@ impl ImageFile {
             NoDisk::Refused(code) => refused(code),
             NoDisk::WrongLength(wrong) => Trouble::failed(format!("{}: {wrong}", self.name())),
         })?;
+        disk.set_time(time);
         disk.set_user(user).map_err(refused)?;
         Ok(disk)
     }
@@ -97,18 +111,36 @@ impl ImageFile {
         beside: Option<(&Path, &str)>,
         desk: &mut Desk,
     ) -> Result<(), Trouble> {
-        let changed = disk.image() != self.image();
-        let image = changed.then(|| held.ready(disk.image())).transpose()?;
+        let image = self.ready(held, disk)?;
         let beside = beside.map(|(path, text)| Ready::at(path, text.as_bytes(), true));
         // Whatever can fail has been done for both by now, but for the renames.
-        for ready in [image, beside.transpose()?].into_iter().flatten() {
-            ready.take_place(desk)?;
-        }
-        if changed && self.lacks() > 0 {
+        let beside = beside.transpose()?;
+        self.take_place(image, desk)?;
+        beside.map_or(Ok(()), |ready| ready.take_place(desk))
+    }
+
+    /// A disk's image, ready to be saved, unless it is still the one that was
+    /// read.
+    pub fn ready(&self, held: &Held, disk: &Disk) -> Result<Option<Ready>, Trouble> {
+        let changed = disk.image() != self.image();
+        changed.then(|| held.ready(disk.image())).transpose()
+    }
+
+    /// Saves what is ready, and says what else becomes of the file by that.
+    pub fn take_place(&self, ready: Option<Ready>, desk: &mut Desk) -> Result<(), Trouble> {
+        let Some(ready) = ready else {
+            return Ok(());
+        };
+        ready.take_place(desk)?;
+        let (name, lacks, blank) = (self.name(), self.lacks(), self.blank_stamps);
+        if lacks > 0 {
             desk.remark(format_args!(
-                "{}: saved at its full length, {} bytes more than it had",
-                self.name(),
-                self.lacks()
+                "{name}: saved at its full length, {lacks} bytes more than it had"
+            ));
+        }
+        if blank > 0 {
+            desk.remark(format_args!(
+                "{name}: saved with zeros in {blank} stamps that were E5H, never written"
             ));
         }
         Ok(())

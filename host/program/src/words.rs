@@ -1,10 +1,15 @@
 //! The command line: options, and the words that are none.
 
 use crate::trouble::Trouble;
+use benzokamuri::Time;
 use std::collections::VecDeque;
 use std::ffi::{OsStr, OsString};
 
-/// What options a verb knows beside `-u` and `-h`.
+/// Options with a value that every verb knows. They may stand before the verb
+/// too.
+pub const ANYWHERE: [&str; 3] = ["-u", "--user", "--time"];
+
+/// What options a verb knows beside those and `-h`.
 #[derive(Clone, Copy)]
 pub struct Shape {
     /// Those that stand alone, as `-l`.
@@ -20,6 +25,7 @@ pub struct Words {
     flags: Vec<&'static str>,
     values: Vec<(&'static str, OsString)>,
     user: Option<u8>,
+    time: Option<Time>,
     help: bool,
 }
 
@@ -31,6 +37,7 @@ impl Words {
             flags: Vec::new(),
             values: Vec::new(),
             user: None,
+            time: None,
             help: false,
         };
         let mut rest = words.iter();
@@ -62,24 +69,14 @@ impl Words {
             self.flags.push(flag);
             return Ok(());
         }
-        let valued = ["-u", "--user"].iter().chain(shape.valued);
+        let valued = ANYWHERE.iter().chain(shape.valued);
         for &name in valued {
-            let Some(behind) = text.strip_prefix(name) else {
+            let Some(value) = value_in(text, name, rest)? else {
                 continue;
-            };
-            // `-u 3`, `-u3`, `--svg FILE`, `--svg=FILE`.
-            let long = name.starts_with("--");
-            let value = match behind.strip_prefix('=') {
-                _ if behind.is_empty() => match rest.next() {
-                    Some(value) => value.clone(),
-                    None => return Err(Trouble::usage(format!("{name} lacks its value"))),
-                },
-                Some(value) if long => value.into(),
-                None if !long => behind.into(),
-                _ => continue,
             };
             match name {
                 "-u" | "--user" => self.user = Some(user(&value)?),
+                "--time" => self.time = Some(time(&value)?),
                 _ => self.values.push((name, value)),
             }
             return Ok(());
@@ -108,7 +105,13 @@ impl Words {
         Some(value)
     }
 
-    /// The same as text.
+    /// All values of an option, in the order they were given.
+    pub fn values<'a>(&'a self, name: &'a str) -> impl Iterator<Item = &'a OsStr> {
+        let values = self.values.iter().filter(move |(given, _)| *given == name);
+        values.map(|(_, value)| value.as_os_str())
+    }
+
+    /// The value of an option as text.
     pub fn text(&self, name: &str) -> Result<Option<&str>, Trouble> {
         let value = self.value(name);
         let wrong = || Trouble::usage(format!("the value of {name} is no text"));
@@ -127,9 +130,16 @@ impl Words {
         self.user.unwrap_or(0)
     }
 
-    /// Sets the user where none was given yet.
-    pub fn or_user(mut self, user: Option<u8>) -> Words {
-        self.user = self.user.or(user);
+    /// The time that was given.
+    pub fn given_time(&self) -> Option<Time> {
+        self.time
+    }
+
+    /// Takes user and time from the words before the verb, where none were
+    /// given behind it.
+    pub fn after(mut self, before_verb: &Words) -> Words {
+        self.user = self.user.or(before_verb.user);
+        self.time = self.time.or(before_verb.time);
         self
     }
 
@@ -166,6 +176,28 @@ fn is_option(text: &str) -> bool {
     text.starts_with('-') && text != "-"
 }
 
+/// The value of an option in a word that begins with its name, or behind it:
+/// `-u 3`, `-u3`, `--svg FILE`, `--svg=FILE`.
+fn value_in<'a>(
+    text: &str,
+    name: &str,
+    rest: &mut impl Iterator<Item = &'a OsString>,
+) -> Result<Option<OsString>, Trouble> {
+    let Some(behind) = text.strip_prefix(name) else {
+        return Ok(None);
+    };
+    let long = name.starts_with("--");
+    match behind.strip_prefix('=') {
+        _ if behind.is_empty() => match rest.next() {
+            Some(value) => Ok(Some(value.clone())),
+            None => Err(Trouble::usage(format!("{name} lacks its value"))),
+        },
+        Some(value) if long => Ok(Some(value.into())),
+        None if !long => Ok(Some(behind.into())),
+        _ => Ok(None),
+    }
+}
+
 /// Several letters behind one dash, as `-la`, each of which is an option that
 /// stands alone.
 fn joined(text: &str, shape: Shape) -> Option<Vec<&'static str>> {
@@ -185,6 +217,15 @@ fn user(value: &OsStr) -> Result<u8, Trouble> {
     number
         .filter(|user| *user <= 15)
         .ok_or_else(|| Trouble::usage(format!("{} is no user: 0 to 15", value.display())))
+}
+
+fn time(value: &OsStr) -> Result<Time, Trouble> {
+    let wrong = |why: &dyn std::fmt::Display| {
+        let shown = value.display();
+        Trouble::usage(format!("{shown:?} is no time to hand in: {why}"))
+    };
+    let text = value.to_str().ok_or_else(|| wrong(&"it is no text"))?;
+    text.parse().map_err(|bad| wrong(&bad))
 }
 
 #[cfg(test)]
@@ -230,6 +271,25 @@ mod tests {
             let wrong = sorted(line).unwrap_err();
             assert_eq!(wrong.status(), crate::trouble::USAGE, "{line}");
         }
+    }
+
+    #[test]
+    fn options_that_are_given_again() {
+        let words = sorted("--svg a --svg=b x --svg c").unwrap();
+        assert!(words.values("--svg").eq(["a", "b", "c"]));
+        assert_eq!(words.value("--svg"), Some(OsStr::new("c")), "the last");
+        assert_eq!(words.values("-a").count(), 0);
+    }
+
+    #[test]
+    fn what_stands_before_the_verb_gives_way() {
+        let before = [OsString::from("--time=2000-01-02 03:04"), "-u5".into()];
+        let before = Words::sorted(&before, SHAPE).unwrap();
+        let words = sorted("a").unwrap().after(&before);
+        assert_eq!((words.user(), words.given_time()), (5, before.time));
+        assert_eq!(before.time, "2000-01-02 03:04".parse().ok());
+        assert_eq!(sorted("-u 3").unwrap().after(&before).user(), 3);
+        assert_eq!(sorted("-u 3").unwrap().given_time(), None);
     }
 
     #[test]

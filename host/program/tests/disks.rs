@@ -10,6 +10,8 @@
 //! ```
 
 mod common;
+#[path = "disks/dated.rs"]
+mod dated;
 #[path = "disks/packed.rs"]
 mod packed;
 
@@ -252,22 +254,28 @@ fn change_with_our_verbs(folder: &Folder, recipe: &Recipe) -> Vec<(u8, String, V
 #[test]
 fn kept_disks() {
     for recipe in &RECIPES {
-        let folder = Folder::new();
-        let text = std::fs::read_to_string(kept(recipe)).expect("the disk is kept");
-        let image = packed::unpack(&text).expect("a packed disk");
-        assert!(
-            image.len() < 256_256,
-            "cpmtools leaves out what it never wrote"
-        );
-        folder.write("disk.img", &image);
+        let folder = kept_disk(recipe.name);
         read_with_our_verbs(&folder, recipe);
         change_with_our_verbs(&folder, recipe);
     }
 }
 
-fn kept(recipe: &Recipe) -> PathBuf {
+/// A folder with a kept disk in it.
+fn kept_disk(name: &str) -> Folder {
+    let folder = Folder::new();
+    let text = std::fs::read_to_string(kept(name)).expect("the disk is kept");
+    let image = packed::unpack(&text).expect("a packed disk");
+    assert!(
+        image.len() < 256_256,
+        "cpmtools leaves out what it never wrote"
+    );
+    folder.write("disk.img", &image);
+    folder
+}
+
+fn kept(name: &str) -> PathBuf {
     let folder = Path::new(env!("CARGO_MANIFEST_DIR")).join("tests/disks");
-    folder.join(format!("{}.txt", recipe.name))
+    folder.join(format!("{name}.txt"))
 }
 
 /// What cpmtools 2.23 leaves of two files that take all 241 blocks: it says
@@ -305,20 +313,28 @@ fn cpmtools_is_there() -> bool {
 }
 
 fn cpmtool(name: &str) -> Command {
-    match std::env::var_os("BENZOKAMURI_CPMTOOLS") {
+    let mut command = match std::env::var_os("BENZOKAMURI_CPMTOOLS") {
         Some(folder) => {
             let mut command = Command::new(Path::new(&folder).join(name));
             command.env("LD_LIBRARY_PATH", folder);
             command
         }
         None => Command::new(name),
-    }
+    };
+    // It makes stamps of the local time.
+    command.env("TZ", "UTC0");
+    command
 }
 
 /// Runs one of cpmtools in a folder; it has to do what it is told.
 fn cpm(folder: &Folder, tool: &str, words: &[&str]) -> String {
+    cpm_as(FORMAT, folder, tool, words)
+}
+
+/// The same for a format.
+fn cpm_as(format: [&str; 2], folder: &Folder, tool: &str, words: &[&str]) -> String {
     let mut command = cpmtool(tool);
-    command.current_dir(folder.path()).args(FORMAT).args(words);
+    command.current_dir(folder.path()).args(format).args(words);
     let Ran { status, out, err } = ran(&mut command);
     let out = String::from_utf8_lossy(&out).into_owned();
     assert_eq!(status, Some(0), "{tool} {words:?}: {out}{err}");
@@ -427,10 +443,15 @@ fn live_disks_of_ours() {
 fn keep_disks() {
     assert!(cpmtools_is_there());
     for recipe in &RECIPES {
-        let image = made_by_cpmtools(recipe).read("disk.img");
-        let text = packed::pack(&image);
-        assert_eq!(packed::unpack(&text).as_ref(), Some(&image));
-        println!("{}: {} bytes in {}", recipe.name, image.len(), text.len());
-        std::fs::write(kept(recipe), text).expect("the disk can be kept");
+        keep(recipe.name, &made_by_cpmtools(recipe));
     }
+}
+
+/// Keeps the disk of a folder.
+fn keep(name: &str, folder: &Folder) {
+    let image = folder.read("disk.img");
+    let text = packed::pack(&image);
+    assert_eq!(packed::unpack(&text).as_ref(), Some(&image));
+    println!("{name}: {} bytes in {}", image.len(), text.len());
+    std::fs::write(kept(name), text).expect("the disk can be kept");
 }

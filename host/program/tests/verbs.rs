@@ -504,6 +504,7 @@ fn wrong_usage_has_status_2_and_says_what_is_right() {
         "call disk.img 15 -a 256",
         "call disk.img 15 00 --name a",
         "demo more",
+        "demo --time now",
         "help nosuch",
         "-x",
     ] {
@@ -551,10 +552,9 @@ fn help_for_everything() {
     let codes = folder.done("help codes");
     let (cases, below) = codes.split_once("\n\n").unwrap();
     assert_eq!(cases.lines().count(), 1 + 21, "a heading and the cases");
-    let (accepted, counts) = (Code::ACCEPTED_CALLS, Code::RECORD_COUNTS);
-    assert_eq!(below, format!("{accepted}\n{counts}"));
+    assert_eq!(below, Code::REMARKS.join("\n"));
     assert!(below.lines().all(|line| line.len() <= 80), "{below}");
-    assert!(folder.done("--version").contains("interface 1"));
+    assert!(folder.done("--version").contains("interface 2"));
 }
 
 #[test]
@@ -749,7 +749,7 @@ fn calls_without_a_state() {
 fn calls_on_an_image_that_is_not_consistent() {
     let folder = with_disk();
     let mut image = folder.read("disk.img");
-    image[6_656] = 0x20;
+    image[6_656] = 0x10;
     folder.write("disk.img", &image);
     assert!(folder.refused("call disk.img 13").contains("255, 1"));
     assert!(folder.refused("call disk.img 46").contains("255, 1"));
@@ -769,17 +769,6 @@ fn the_demo_is_the_double_job() {
     assert_eq!(folder.names(), [""; 0], "nothing is written");
 }
 
-/// Runs the program with nobody reading what it prints.
-fn unheard(folder: &Folder, line: &str) -> (Option<i32>, String) {
-    let (reader, writer) = std::io::pipe().expect("a pipe can be made");
-    drop(reader);
-    let mut command = folder.command();
-    let command = command.args(line.split(' ')).stdout(writer);
-    let output = command.stderr(Stdio::piped()).output().unwrap();
-    let err = String::from_utf8_lossy(&output.stderr).into_owned();
-    (output.status.code(), err)
-}
-
 #[test]
 fn nobody_listening_is_no_reason_to_complain() {
     let folder = with_files();
@@ -794,7 +783,8 @@ fn nobody_listening_is_no_reason_to_complain() {
         "map --svg - disk.img",
         "call disk.img 13",
     ] {
-        assert_eq!(unheard(&folder, line), (Some(0), String::new()), "{line}");
+        let Ran { status, err, .. } = folder.run_unheard(line);
+        assert_eq!((status, err.as_str()), (Some(0), ""), "{line}");
     }
 }
 
@@ -807,13 +797,15 @@ fn nobody_listening_changes_no_verdict() {
     image[6_656..9_984].fill(0);
     folder.write("bad.img", &image);
     for line in ["check bad.img", "call bad.img 13", "call disk.img 18"] {
-        let (status, said) = unheard(&folder, line);
+        let unheard = folder.run_unheard(line);
         let heard = folder.run(line);
         assert_eq!(heard.status, Some(1), "{line}");
         assert!(line != "check bad.img" || heard.out.len() > 30_000);
-        assert_eq!((status, said), (heard.status, heard.err), "{line}");
+        let same = (unheard.status, unheard.err) == (heard.status, heard.err);
+        assert!(same, "{line}");
     }
     // The image is saved first, and what was done is done.
-    assert_eq!(unheard(&folder, "call disk.img 22 --name new").0, Some(0));
+    let unheard = folder.run_unheard("call disk.img 22 --name new");
+    assert_eq!(unheard.status, Some(0));
     assert!(folder.done("ls disk.img").contains("  NEW "));
 }

@@ -50,8 +50,13 @@ impl Disk {
     }
 
     fn ask(&mut self, number: u8, argument: u8) -> Answer {
+        let asked = Asked {
+            number,
+            argument,
+            ..Asked::default()
+        };
         let answer = call(
-            Asked { number, argument },
+            asked,
             &mut self.image,
             &mut self.map,
             &mut self.fcb,

@@ -1,5 +1,6 @@
 //! The calls: which are listed, and what each does once nothing refuses it.
 
+use crate::dates::Stamper;
 use crate::directory::{
     self, at as entry_at, count, extent_number, record_holding, row, row_mut, seven_bits, slots,
     Directory, Entries, ATTRIBUTE, EMPTY, ROW_BYTES,
@@ -180,75 +181,38 @@ pub enum Plan {
 }
 
 /// Does what was decided and answers.
-pub fn carry_out(plan: Plan, lent: LentMut, directory: &Directory, session: Session) -> Answer {
+pub fn carry_out(
+    plan: Plan,
+    lent: LentMut,
+    directory: &Directory,
+    stamper: Stamper,
+    session: Session,
+) -> Answer {
     // "An accepted call other than 17 and 18 ends a search."
     let ended = session.search_ended();
-    match plan {
+    let a = match plan {
         // A right map differs from the fresh one in its pending notes only,
         // so once they are 0 it is the fresh one: 98 does to it what 13 does
         // to any map.
         Plan::LogIn | Plan::FreeBlocks => {
             lent.map.copy_from_slice(directory.fresh_map());
-            accepted(0, ended)
+            0
         }
-        Plan::Open { entry } => {
-            fcb::take_entry(lent.fcb, row(lent.image, entry));
-            accepted(directory_code(entry), ended)
-        }
-        Plan::Close { entry } => {
-            close(lent, entry);
-            accepted(directory_code(entry), ended)
-        }
-        Plan::Hit { entry, pattern } => {
-            lent.buffer
-                .copy_from_slice(record_holding(lent.image, entry));
-            let session = Session {
-                pattern,
-                place: entry as u16 + 1,
-                on: 1,
-                ..session
-            };
-            accepted(directory_code(entry), session)
-        }
-        Plan::Delete { entries } => {
-            delete(lent, entries);
-            accepted(0, ended)
-        }
-        Plan::Read(transfer) => {
-            read(lent, transfer);
-            accepted(0, ended)
-        }
-        Plan::Write { transfer, block } => {
-            write(lent, transfer, block);
-            accepted(0, ended)
-        }
-        Plan::Make { entry } => {
-            make(lent, session.user, entry);
-            accepted(directory_code(entry), ended)
-        }
-        Plan::Rename { entries } => {
-            rename(lent, entries);
-            accepted(0, ended)
-        }
-        Plan::TellUser => accepted(session.user, ended),
-        Plan::SetUser { user } => accepted(0, Session { user, ..ended }),
-        Plan::Size { entries } => {
-            let size = size(&lent, entries);
-            fcb::set_random_record(lent.fcb, size);
-            accepted(0, ended)
-        }
-        Plan::Position => {
-            let cr = lent.fcb[fcb::at::CR];
-            let position = 128 * u32::from(fcb::extent(lent.fcb)) + u32::from(cr);
-            fcb::set_random_record(lent.fcb, position);
-            accepted(0, ended)
-        }
-        Plan::Space => {
-            let space = 8 * u32::from(map::count_free(lent.map));
-            lent.buffer[..3].copy_from_slice(&space.to_le_bytes()[..3]);
-            accepted(0, ended)
-        }
-    }
+        Plan::Open { entry } => open(lent, stamper, entry),
+        Plan::Close { entry } => close(lent, stamper, entry),
+        Plan::Hit { entry, pattern } => return hit(lent, entry, pattern, session),
+        Plan::Delete { entries } => delete(lent, entries),
+        Plan::Read(transfer) => read(lent, stamper, transfer),
+        Plan::Write { transfer, block } => write(lent, stamper, transfer, block),
+        Plan::Make { entry } => make(lent, stamper, session.user, entry),
+        Plan::Rename { entries } => rename(lent, entries),
+        Plan::TellUser => session.user,
+        Plan::SetUser { user } => return accepted(0, Session { user, ..ended }),
+        Plan::Size { entries } => size(lent, entries),
+        Plan::Position => position(lent),
+        Plan::Space => space(lent),
+    };
+    accepted(a, ended)
 }
 
 /// "H is 0 on success."
@@ -261,30 +225,60 @@ fn directory_code(entry: usize) -> u8 {
     (entry % 4) as u8
 }
 
+/// "FCB bytes 1 to 31 become the entry's", but for high bits that are the
+/// program's. An open stamps access.
+fn open(lent: LentMut, stamper: Stamper, entry: usize) -> u8 {
+    fcb::take_entry(lent.fcb, row(lent.image, entry));
+    stamper.opened(lent.image, entry);
+    directory_code(entry)
+}
+
+/// The buffer gets the directory record that holds the entry found, and the
+/// search goes on behind it.
+fn hit(lent: LentMut, entry: usize, pattern: [u8; 12], session: Session) -> Answer {
+    lent.buffer
+        .copy_from_slice(record_holding(lent.image, entry));
+    let session = Session {
+        pattern,
+        place: entry as u16 + 1,
+        on: 1,
+        ..session
+    };
+    accepted(directory_code(entry), session)
+}
+
 /// "Each slot where the entry has 0 and the FCB doesn't takes the FCB's block,
 /// whose note becomes 2; .. f5' and f6' in the FCB are cleared." "Close writes
 /// the FCB's count so read where it is the larger, and else leaves rc." The FCB
-/// is current, so its block is held for that very slot.
-fn close(lent: LentMut, entry: usize) {
+/// is current, so its block is held for that very slot. A close "that changes an
+/// entry" stamps it.
+fn close(lent: LentMut, stamper: Stamper, entry: usize) -> u8 {
     let row = row_mut(lent.image, entry);
     let blocks = fcb::slots(lent.fcb);
+    let mut changes = false;
     for (slot, block) in row[entry_at::SLOTS..].iter_mut().zip(blocks) {
         if *slot == 0 && block != 0 {
             *slot = block;
             lent.map[usize::from(block)] = RECORDED;
+            changes = true;
         }
     }
     let records = count(lent.fcb[entry_at::RC]);
     if records > count(row[entry_at::RC]) {
         row[entry_at::RC] = records;
+        changes = true;
+    }
+    if changes {
+        stamper.changed(lent.image, entry);
     }
     lent.fcb[5] &= !ATTRIBUTE;
     lent.fcb[6] &= !ATTRIBUTE;
+    directory_code(entry)
 }
 
 /// "All extents matching the name become empty (byte 0 to E5H only). Their
 /// blocks, and pending ones held for them, become free."
-fn delete(lent: LentMut, entries: Entries) {
+fn delete(lent: LentMut, entries: Entries) -> u8 {
     map::free_pending_for(lent.map, entries);
     for entry in entries.each() {
         for block in slots(lent.image, entry) {
@@ -294,15 +288,19 @@ fn delete(lent: LentMut, entries: Entries) {
         }
         row_mut(lent.image, entry)[entry_at::USER] = EMPTY;
     }
+    0
 }
 
 /// "The first empty entry becomes user, name without attributes, ex, zeros.
 /// FCB bytes 1 to 31 become the same."
-fn make(lent: LentMut, user: u8, entry: usize) {
+fn make(lent: LentMut, stamper: Stamper, user: u8, entry: usize) -> u8 {
     let name = fcb::name(lent.fcb).map(seven_bits);
     let made = new_row(user, &name, u16::from(lent.fcb[entry_at::EX]));
     row_mut(lent.image, entry).copy_from_slice(&made);
+    stamper.begin(lent.image, entry);
+    stamper.created(lent.image, entry);
     lent.fcb[entry_at::COPIED].copy_from_slice(&made[entry_at::COPIED]);
+    directory_code(entry)
 }
 
 /// An entry with s1, rc and slots 0.
@@ -317,7 +315,7 @@ fn new_row(user: u8, name: &directory::Name, extent: u16) -> directory::Row {
 
 /// "In every extent the name becomes FCB bytes 17 to 27 (seven bits),
 /// attributes kept."
-fn rename(lent: LentMut, entries: Entries) {
+fn rename(lent: LentMut, entries: Entries) -> u8 {
     let new = fcb::new_name(lent.fcb);
     for entry in entries.each() {
         let row = row_mut(lent.image, entry);
@@ -325,22 +323,41 @@ fn rename(lent: LentMut, entries: Entries) {
             *byte = *byte & ATTRIBUTE | seven_bits(new);
         }
     }
+    0
 }
 
 /// "The largest of 128 × extent + rc over the name's entries", rc as a count.
-fn size(lent: &LentMut, entries: Entries) -> u32 {
+fn size(lent: LentMut, entries: Entries) -> u8 {
     let end = |entry| {
         let row = row(lent.image, entry);
         let extent = extent_number(row[entry_at::EX], row[entry_at::S2]);
         128 * u32::from(extent) + u32::from(count(row[entry_at::RC]))
     };
-    entries.each().map(end).max().unwrap_or(0)
+    let size = entries.each().map(end).max().unwrap_or(0);
+    fcb::set_random_record(lent.fcb, size);
+    0
+}
+
+/// "128 × extent + cr".
+fn position(lent: LentMut) -> u8 {
+    let cr = lent.fcb[fcb::at::CR];
+    let position = 128 * u32::from(fcb::extent(lent.fcb)) + u32::from(cr);
+    fcb::set_random_record(lent.fcb, position);
+    0
+}
+
+/// "Eight times the free notes into the buffer's first three bytes, lowest
+/// first."
+fn space(lent: LentMut) -> u8 {
+    let space = 8 * u32::from(map::count_free(lent.map));
+    lent.buffer[..3].copy_from_slice(&space.to_le_bytes()[..3]);
+    0
 }
 
 /// Moves where a move is needed, and answers with the target's entry: "the
 /// present extent is closed as by 16, then the FCB takes bytes 1 to 31 of the
 /// target's entry as by 15".
-fn go(mut lent: LentMut, present: usize, going: Going) -> usize {
+fn go(mut lent: LentMut, stamper: Stamper, present: usize, going: Going) -> usize {
     let target = match going {
         Going::Stay => return present,
         Going::Move { entry } => entry,
@@ -351,28 +368,30 @@ fn go(mut lent: LentMut, present: usize, going: Going) -> usize {
             let name = std::array::from_fn(|i| like[entry_at::NAME + i]);
             let made = new_row(like[entry_at::USER], &name, extent);
             row_mut(lent.image, entry).copy_from_slice(&made);
+            stamper.begin(lent.image, entry);
             entry
         }
     };
-    close(lent.again(), present);
+    close(lent.again(), stamper, present);
     fcb::take_entry(lent.fcb, row(lent.image, target));
     target
 }
 
 /// "The buffer gets record target mod 8 of that slot's block."
-fn read(mut lent: LentMut, transfer: Transfer) {
-    go(lent.again(), transfer.present, transfer.going);
+fn read(mut lent: LentMut, stamper: Stamper, transfer: Transfer) -> u8 {
+    go(lent.again(), stamper, transfer.present, transfer.going);
     let block = lent.fcb[slot_of(transfer.record)];
     lent.buffer
         .copy_from_slice(record(lent.image, block, transfer.record));
     lent.fcb[fcb::at::CR] = transfer.cr;
+    0
 }
 
 /// "A slot of 0 takes the first free block, noted pending. The buffer's 128
 /// bytes go to record target mod 8 of the slot's block ... The FCB's rc becomes
 /// the largest of its own, the entry's and target + 1", the two read as counts.
-fn write(mut lent: LentMut, transfer: Transfer, block: Option<u8>) {
-    let entry = go(lent.again(), transfer.present, transfer.going);
+fn write(mut lent: LentMut, stamper: Stamper, transfer: Transfer, block: Option<u8>) -> u8 {
+    let entry = go(lent.again(), stamper, transfer.present, transfer.going);
     let slot = slot_of(transfer.record);
     if let Some(block) = block {
         lent.fcb[slot] = block;
@@ -383,6 +402,7 @@ fn write(mut lent: LentMut, transfer: Transfer, block: Option<u8>) {
     let own = count(lent.fcb[entry_at::RC]);
     lent.fcb[entry_at::RC] = own.max(counted).max(transfer.record + 1);
     lent.fcb[fcb::at::CR] = transfer.cr;
+    0
 }
 
 /// Where in the FCB the slot of a record (0 to 127) stands.

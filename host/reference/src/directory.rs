@@ -6,6 +6,7 @@
 //! entries and keeps what the rest of the call asks for again: the identity of
 //! each entry, which entries are used, and the fresh map.
 
+use crate::dates::{Aside, DATES, LABEL};
 use crate::diskette::{Image, BLOCKS, DIRECTORY_PLACES, RECORD_BYTES};
 use crate::map::{Note, AREA, FREE, RECORDED};
 
@@ -39,7 +40,8 @@ pub const ATTRIBUTE: u8 = 0x80;
 pub mod at {
     use std::ops::Range;
 
-    /// The user, or [`EMPTY`](super::EMPTY).
+    /// The user, or [`EMPTY`](super::EMPTY), or the byte of a label or a date
+    /// entry.
     pub const USER: usize = 0;
     /// Name and type.
     pub const NAME: usize = 1;
@@ -184,6 +186,32 @@ impl Wanted {
 pub struct Entries(u64);
 
 impl Entries {
+    /// No entry at all.
+    pub const NONE: Self = Self(0);
+
+    /// The fourth entry of every record.
+    pub const FOURTHS: Self = Self(0x8888_8888_8888_8888);
+
+    /// Takes in entry `entry`, 0 to 63.
+    pub fn add(&mut self, entry: usize) {
+        self.0 |= 1 << entry;
+    }
+
+    /// Those of either set.
+    pub fn and(self, others: Self) -> Self {
+        Self(self.0 | others.0)
+    }
+
+    /// All but these.
+    pub fn others(self) -> Self {
+        Self(!self.0)
+    }
+
+    /// Whether there is one or none.
+    pub fn at_most_one(self) -> bool {
+        self.0.count_ones() <= 1
+    }
+
     /// The lowest-numbered: "'First' means lowest-numbered."
     pub fn first(self) -> Option<usize> {
         (!self.is_empty()).then(|| self.0.trailing_zeros() as usize)
@@ -376,6 +404,8 @@ pub struct Directory {
     marks: Marks,
     /// The used entries.
     used: Entries,
+    /// Labels and date entries.
+    aside: Aside,
     /// The fresh map, with room for every block number a byte can hold.
     fresh: [Note; 256],
 }
@@ -389,7 +419,8 @@ impl Directory {
         Self {
             heads: [NOBODY; ENTRIES],
             marks: Marks::NONE,
-            used: Entries(0),
+            used: Entries::NONE,
+            aside: Aside::NONE,
             fresh: [FREE; 256],
         }
     }
@@ -400,23 +431,27 @@ impl Directory {
         let mut faults = Faults::NONE;
         let mut listings = Listings::NONE;
         let mut twice = false;
-        let mut used = 0;
         for (number, &place) in DIRECTORY_PLACES.iter().enumerate() {
             let (rows, _) = image[place..][..RECORD_BYTES].as_chunks::<ROW_BYTES>();
             for (i, row) in rows.iter().enumerate() {
-                if row[at::USER] == EMPTY {
-                    continue;
-                }
                 let entry = 4 * number + i;
-                let (halves, _) = row.as_chunks::<16>();
-                used |= 1 << entry;
-                faults.look(&halves[0]);
-                twice |= self.take_head(entry, &halves[0]);
-                self.take_slots(&halves[1], &mut listings);
+                match row[at::USER] {
+                    EMPTY => continue,
+                    // "These two kinds are allowed and list no blocks."
+                    LABEL => self.aside.take_label(entry, row),
+                    DATES => self.aside.take_dates(entry, row),
+                    _ => {
+                        let (halves, _) = row.as_chunks::<16>();
+                        self.used.add(entry);
+                        faults.look(&halves[0]);
+                        twice |= self.take_head(entry, &halves[0]);
+                        self.take_slots(&halves[1], &mut listings);
+                    }
+                }
             }
         }
-        self.used = Entries(used);
-        faults.none() && !twice && self.finish_map(listings.total())
+        let files_are_right = faults.none() && !twice && self.finish_map(listings.total());
+        files_are_right && self.aside.is_right()
     }
 
     /// Takes in what tells used entry `entry` apart, and whether another has
@@ -467,9 +502,14 @@ impl Directory {
         self.used
     }
 
-    /// The first empty entry.
+    /// Labels and date entries.
+    pub fn aside(&self) -> &Aside {
+        &self.aside
+    }
+
+    /// The first empty entry: one that is neither a file's nor aside.
     pub fn first_empty(&self) -> Option<usize> {
-        Entries(!self.used.0).first()
+        self.used.and(self.aside.entries()).others().first()
     }
 
     /// "The fresh map has no pending notes."
@@ -536,7 +576,7 @@ mod tests {
 
     /// The values that byte `at` of a used entry may have.
     fn values_allowed_at(at: usize) -> Vec<u8> {
-        let is_used = |row: &Row| row[at::USER] != EMPTY;
+        let is_used = |row: &Row| ![EMPTY, LABEL, DATES].contains(&row[at::USER]);
         (0..=255)
             .filter(|&byte| {
                 let mut row = used_row();
@@ -696,5 +736,14 @@ mod tests {
         assert_eq!(Entries(0).first(), None);
         assert!(set.each().eq([0, 4, 63]));
         assert!(set.holds(63) && !set.holds(62) && !set.holds(64));
+        assert!(Entries::FOURTHS
+            .each()
+            .eq((0..ENTRIES).filter(|e| e % 4 == 3)));
+        let mut added = Entries::NONE;
+        assert!(added.at_most_one());
+        added.add(63);
+        assert!(added == Entries(1 << 63) && added.at_most_one());
+        assert!(!set.at_most_one() && added.and(Entries(1 << 4 | 1)) == set);
+        assert!(!set.others().holds(4) && set.others().holds(5));
     }
 }

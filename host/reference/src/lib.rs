@@ -10,6 +10,7 @@
 //!
 //! * [`diskette`]: where a record of a block stands in the image;
 //! * `directory`: entries, the name rule, consistency and finding entries;
+//! * `dates`: labels, date entries and the stamps beside entries;
 //! * `map`: the notes, and when the map is right;
 //! * `fcb` and `current`: the FCB's layout, and when an FCB is current;
 //! * `table`: the codes, in the order they are tested, and their causes;
@@ -24,6 +25,7 @@
 
 mod calls;
 mod current;
+mod dates;
 mod directory;
 pub mod diskette;
 mod fcb;
@@ -36,17 +38,24 @@ pub use fcb::FCB_BYTES;
 pub use table::Cause;
 
 use calls::{carry_out, Call};
+use dates::Stamper;
 use directory::Directory;
 use lent::{Lent, LentMut};
 use table::decide;
 
-/// Which call is asked for.
-#[derive(Clone, Copy, Debug, PartialEq, Eq)]
+/// Which call is asked for, and when.
+#[derive(Clone, Copy, Debug, Default, PartialEq, Eq)]
 pub struct Asked {
     /// The call number.
     pub number: u8,
     /// The argument byte, looked at by call 32 only.
     pub argument: u8,
+    /// The day, where 1 January 1978 is 1.
+    pub day: u16,
+    /// The hour, in BCD.
+    pub hour: u8,
+    /// The minute, in BCD.
+    pub minute: u8,
 }
 
 /// What a caller keeps from one call to the next.
@@ -109,13 +118,7 @@ pub fn refusal(
     let decided = || {
         let call = Call::listed(asked.number).ok_or(Cause::Unlisted)?;
         let lent = Lent::new(image, map, fcb, buffer)?;
-        decide(
-            call,
-            asked.argument,
-            lent,
-            &session,
-            &mut Directory::unread(),
-        )
+        decide(call, asked, lent, &session, &mut Directory::unread())
     };
     decided().err()
 }
@@ -132,8 +135,9 @@ fn attempt(
     let call = Call::listed(asked.number).ok_or(Cause::Unlisted)?;
     let lent = LentMut::new(image, map, fcb, buffer)?;
     let mut directory = Directory::unread();
-    let plan = decide(call, asked.argument, lent.view(), &session, &mut directory)?;
-    Ok(carry_out(plan, lent, &directory, session))
+    let plan = decide(call, asked, lent.view(), &session, &mut directory)?;
+    let stamper = Stamper::new(directory.aside(), asked);
+    Ok(carry_out(plan, lent, &directory, stamper, session))
 }
 
 /// "Every one of these changes nothing", but two end the search.

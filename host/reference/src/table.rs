@@ -6,6 +6,7 @@
 
 use crate::calls::{Call, Going, Plan, Transfer};
 use crate::current::{current, numbers_in_range};
+use crate::dates::is_bcd;
 use crate::directory::{
     at as entry_at, count, is_read_only, name_is_plain, pattern_is_plain, row, Directory, Entries,
     Name, Wanted, ANY, EXTENT_RECORDS, LAST_EX, LAST_USER,
@@ -13,7 +14,7 @@ use crate::directory::{
 use crate::fcb;
 use crate::lent::Lent;
 use crate::map;
-use crate::Session;
+use crate::{Asked, Session};
 
 /// Writes the rows of the table down as an enum with its codes.
 macro_rules! causes {
@@ -58,6 +59,10 @@ causes! {
     SessionPlace => 255, 4;
     /// Byte 0 of an FCB that is used is over 1.
     FcbDrive => 255, 4;
+    /// The hour handed in is not in BCD.
+    TimeHour => 255, 4;
+    /// The minute handed in is not in BCD.
+    TimeMinute => 255, 4;
 
     /// The image is not consistent.
     Inconsistent => 255, 1;
@@ -196,12 +201,13 @@ const LAST_EXTENT: u16 = 2_047;
 /// unread and goes back gathered.
 pub fn decide(
     call: Call,
-    argument: u8,
+    asked: Asked,
     lent: Lent,
     session: &Session,
     directory: &mut Directory,
 ) -> Result<Plan, Cause> {
     check_session_and_drive(call, lent, session)?;
+    check_time(asked)?;
     check_disk(call, lent, directory)?;
     let state = State {
         lent,
@@ -219,7 +225,7 @@ pub fn decide(
         Call::WriteNext => state.write_next(),
         Call::Make => state.make(),
         Call::Rename => state.rename(),
-        Call::User => user(argument),
+        Call::User => user(asked.argument),
         Call::ReadRandom => state.read_random(),
         Call::WriteRandom => state.write_random(),
         Call::Size => state.size(),
@@ -229,7 +235,7 @@ pub fn decide(
     }
 }
 
-/// The rest of row 255, 4.
+/// Row 255, 4, after the lengths.
 fn check_session_and_drive(call: Call, lent: Lent, session: &Session) -> Result<(), Cause> {
     if session.user > LAST_USER {
         Err(Cause::SessionUser)
@@ -237,6 +243,18 @@ fn check_session_and_drive(call: Call, lent: Lent, session: &Session) -> Result<
         Err(Cause::SessionPlace)
     } else if call.uses_fcb() && lent.fcb[fcb::at::DRIVE] > LAST_DRIVE {
         Err(Cause::FcbDrive)
+    } else {
+        Ok(())
+    }
+}
+
+/// The rest of row 255, 4: "bad BCD in the time handed in", whether the call
+/// stamps anything or not.
+fn check_time(asked: Asked) -> Result<(), Cause> {
+    if !is_bcd(asked.hour) {
+        Err(Cause::TimeHour)
+    } else if !is_bcd(asked.minute) {
+        Err(Cause::TimeMinute)
     } else {
         Ok(())
     }

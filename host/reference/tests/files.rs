@@ -2,7 +2,7 @@
 
 mod common;
 use common::*;
-use reference::{Asked, Cause};
+use reference::Cause;
 
 #[test]
 fn open_copies_all_but_what_is_the_programs() {
@@ -45,10 +45,7 @@ fn names_of_other_users_are_other_names() {
     assert_eq!(desk.ask_with(32, 1, &mut [0; 36]), DONE);
     assert_eq!(desk.ask_with(32, 255, &mut [0; 36]), (1, 0));
     assert_eq!(desk.ask(15, &mut fcb("A")), (0, 0));
-    let asked = Asked {
-        number: 32,
-        argument: 16,
-    };
+    let asked = desk.asked(32, 16);
     assert_eq!(desk.cause(asked, &[0; 36]), Some(Cause::BadUser32));
 }
 
@@ -195,10 +192,7 @@ fn every_way_of_not_being_current() {
     let mut good = [0; 36];
     good[1..32].copy_from_slice(&desk.entry(0)[1..]);
     let check = |desk: &Desk, fcb: &Fcb| {
-        let asked = Asked {
-            number: 16,
-            argument: 0,
-        };
+        let asked = desk.asked(16, 0);
         desk.cause(asked, fcb).is_none()
     };
     assert!(check(&desk, &good));

@@ -2,7 +2,7 @@
 
 mod common;
 use common::*;
-use reference::{call, refusal, Asked, Cause, LISTED};
+use reference::{call, refusal, Cause, LISTED};
 
 #[test]
 fn the_242nd_block_on_a_disk() {
@@ -111,13 +111,10 @@ fn lengths_by_one() {
                 lengths[buffer] = length;
                 let [image, map, fcb, transfer] = lengths;
                 let desk = Desk::empty();
+                let asked = desk.asked(number, 0);
                 let mut image = [desk.image, vec![0; 1]].concat()[..image].to_vec();
                 let mut map = [desk.map, vec![0; 1]].concat()[..map].to_vec();
                 let (mut fcb, mut transfer) = (vec![0; fcb], vec![7; transfer]);
-                let asked = Asked {
-                    number,
-                    argument: 0,
-                };
                 let cause = [
                     Cause::ImageLength,
                     Cause::MapLength,
@@ -148,11 +145,8 @@ fn lengths_by_one() {
 #[test]
 fn unlisted_numbers() {
     for number in (0..=255).filter(|number| !LISTED.contains(number)) {
-        let asked = Asked {
-            number,
-            argument: 0,
-        };
         let mut desk = Desk::empty();
+        let asked = desk.asked(number, 0);
         assert_eq!(desk.ask(number, &mut [9; 36]), (255, 255));
         let session = desk.session;
         let answer = call(asked, &mut [], &mut [], &mut [], &mut [], session);

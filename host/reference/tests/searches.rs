@@ -2,7 +2,7 @@
 
 mod common;
 use common::*;
-use reference::{Asked, Cause, Session};
+use reference::{Cause, Session};
 
 /// 64 entries of three users.
 fn full_directory() -> Desk {
@@ -139,10 +139,7 @@ fn what_ends_a_search_and_what_does_not() {
     desk.refuses(15, &fcb("NONE"), Cause::NothingMatches15);
     desk.refuses(17, &fcb(" "), Cause::BadName17);
     desk.refuses(17, &[2; 36], Cause::FcbDrive);
-    let asked = Asked {
-        number: 32,
-        argument: 77,
-    };
+    let asked = desk.asked(32, 77);
     assert_eq!(desk.cause(asked, &[0; 36]), Some(Cause::BadUser32));
     assert_eq!((desk.session.on, desk.session.place), (3, 9));
 

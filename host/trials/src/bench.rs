@@ -1,7 +1,8 @@
 //! The same job and calls for both implementations, to be measured.
 //!
 //! Every call looks at the whole directory and the map before it does
-//! anything, so what a call costs depends on how full the directory is.
+//! anything, so what a call costs depends on how full the directory is, and on
+//! whether it has date entries.
 
 use reference::diskette::DIRECTORY_PLACES;
 use std::hint::black_box;
@@ -38,7 +39,11 @@ macro_rules! side {
             #[inline(always)]
             fn call(desk: &mut Desk<Self>, number: u8, argument: u8) -> (u8, u8) {
                 let answer = $call(
-                    $of::Asked { number, argument },
+                    $of::Asked {
+                        number,
+                        argument,
+                        ..$of::Asked::default()
+                    },
                     &mut desk.image,
                     &mut desk.map,
                     &mut desk.fcb,
@@ -63,7 +68,7 @@ macro_rules! side {
 side!(Library, benzokamuri, benzokamuri::lend);
 side!(Reference, reference, reference::call);
 
-/// How full a directory is.
+/// What a directory holds.
 #[derive(Clone, Copy, Debug, PartialEq, Eq)]
 pub enum Fullness {
     /// Only the file that the job works on: 2 entries, 32 blocks.
@@ -72,11 +77,19 @@ pub enum Fullness {
     Half,
     /// All 64 entries, all 241 blocks.
     Full,
+    /// As `Empty`, and a label that asks for access and update stamps, with
+    /// 16 date entries.
+    Dated,
 }
 
 impl Fullness {
     /// All of them.
-    pub const ALL: [Fullness; 3] = [Fullness::Empty, Fullness::Half, Fullness::Full];
+    pub const ALL: [Fullness; 4] = [
+        Fullness::Empty,
+        Fullness::Half,
+        Fullness::Full,
+        Fullness::Dated,
+    ];
 
     /// Its name.
     pub const fn name(self) -> &'static str {
@@ -84,6 +97,7 @@ impl Fullness {
             Fullness::Empty => "empty",
             Fullness::Half => "half",
             Fullness::Full => "full",
+            Fullness::Dated => "dated",
         }
     }
 
@@ -91,7 +105,7 @@ impl Fullness {
     /// of them have together.
     const fn others(self) -> (usize, usize) {
         match self {
-            Fullness::Empty => (0, 0),
+            Fullness::Empty | Fullness::Dated => (0, 0),
             Fullness::Half => (30, 90),
             Fullness::Full => (62, 209),
         }
@@ -126,8 +140,8 @@ fn measured<S: Side>(desk: &mut Desk<S>, number: u8, argument: u8) -> (u8, u8) {
 }
 
 impl<S: Side> Desk<S> {
-    /// A disk of some fullness. The job's file is the last in the directory,
-    /// and open.
+    /// A disk of some fullness. The job's file is the last of the files in the
+    /// directory, and open.
     pub fn new(fullness: Fullness) -> Self {
         let mut desk = Desk {
             image: vec![0xE5; 256_256],
@@ -137,6 +151,9 @@ impl<S: Side> Desk<S> {
             session: S::Session::default(),
             side: PhantomData,
         };
+        if fullness == Fullness::Dated {
+            desk.put_dates();
+        }
         desk.must(13);
         let (files, blocks) = fullness.others();
         for file in 0..files {
@@ -150,6 +167,18 @@ impl<S: Side> Desk<S> {
         desk.name(NAME);
         desk.must(15);
         desk
+    }
+
+    /// Makes an erased disk one with date entries, and with a label in entry 0.
+    fn put_dates(&mut self) {
+        for place in DIRECTORY_PLACES {
+            self.image[place + 96..][..32].fill(0);
+            self.image[place + 96] = 0x21;
+        }
+        let label = &mut self.image[DIRECTORY_PLACES[0]..][..32];
+        label.fill(0);
+        label[..12].copy_from_slice(b"\x20LABEL      ");
+        label[12] = 0x61;
     }
 
     /// Makes a call that has to be accepted, to get ready.
@@ -293,7 +322,8 @@ impl<S: Side> Bench<S> {
     fn put_back(&mut self) {
         self.desk.fcb = self.fcb;
         self.desk.session = self.session;
-        // Only these change a directory that nothing is pending for.
+        // Only these change a directory that nothing is pending for: the time
+        // is zero, and so are the stamps.
         if matches!(self.case.number, 19 | 22 | 23) {
             for (&place, sector) in DIRECTORY_PLACES.iter().zip(&self.directory) {
                 self.desk.image[place..][..128].copy_from_slice(sector);
@@ -407,6 +437,7 @@ mod tests {
             (Fullness::Empty, 2, 32),
             (Fullness::Half, 32, 122),
             (Fullness::Full, 64, 241),
+            (Fullness::Dated, 2 + 1 + 16, 32),
         ] {
             let desk = Desk::<Reference>::new(fullness);
             let used = DIRECTORY_PLACES

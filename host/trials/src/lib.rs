@@ -27,6 +27,9 @@ pub fn library(
     let asked = benzokamuri::Asked {
         number: asked.number,
         argument: asked.argument,
+        day: asked.day,
+        hour: asked.hour,
+        minute: asked.minute,
     };
     let session = benzokamuri::Session {
         user: session.user,

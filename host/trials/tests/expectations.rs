@@ -16,6 +16,8 @@ struct Stage {
     map: Vec<u16>,
     buffer: Vec<u8>,
     session: Session,
+    /// The day, hour and minute that calls are handed.
+    time: (u16, u8, u8),
     told: String,
 }
 
@@ -28,6 +30,7 @@ impl Stage {
             map: vec![0; 243],
             buffer: vec![0; 128],
             session: Session::default(),
+            time: (0, 0, 0),
             told: String::new(),
         };
         stage.ask(13, "log in", &mut [0; 36]);
@@ -36,9 +39,13 @@ impl Stage {
 
     /// Makes a call that is not told.
     fn silently(&mut self, number: u8, fcb: &mut Fcb) -> (u8, u8) {
+        let (day, hour, minute) = self.time;
         let asked = Asked {
             number,
             argument: 0,
+            day,
+            hour,
+            minute,
         };
         let before = (self.image.clone(), self.map.clone(), self.buffer.clone());
         let (fcb_before, session) = (*fcb, self.session);
@@ -110,6 +117,39 @@ impl Stage {
         let _ = writeln!(self.told, "   {what} {hex}");
     }
 
+    /// Sets the time, and tells it.
+    fn at(&mut self, day: u16, hour: u8, minute: u8) {
+        self.time = (day, hour, minute);
+        let _ = writeln!(self.told, "   day {day}, {hour:02X}:{minute:02X}");
+    }
+
+    /// Tells the two stamps beside an entry, which have to be these.
+    fn stamps_are(&mut self, entry: usize, due: [[u8; 4]; 2]) {
+        let dates = entry_place(entry - entry % 4 + 3);
+        let stamps = [1, 5].map(|first| {
+            let at = dates + first + 10 * (entry % 4);
+            std::array::from_fn(|i| self.image[at + i])
+        });
+        assert_eq!(stamps, due, "{}", self.told);
+        let [first, update] = stamps.map(|[low, high, hour, minute]: [u8; 4]| {
+            let day = u16::from_le_bytes([low, high]);
+            format!("day {day}, {hour:02X}:{minute:02X}")
+        });
+        let _ = writeln!(self.told, "   entry {entry}: {first}; update {update}");
+    }
+
+    /// Puts a label and date entries on the disk.
+    fn make_dated(&mut self, asks: u8) {
+        for entry in (3..64).step_by(4) {
+            self.image[entry_place(entry)..][..32].fill(0x11);
+            self.image[entry_place(entry)] = 0x21;
+        }
+        let label = &mut self.image[entry_place(0)..][..32];
+        label.fill(0);
+        label[1..12].copy_from_slice(b"WORDS   DSK");
+        (label[0], label[12]) = (0x20, asks | 1);
+    }
+
     /// Everything told, with sums of what is left.
     fn end(mut self) -> String {
         let notes: Vec<u8> = self
@@ -131,6 +171,12 @@ fn sum(bytes: &[u8]) -> u64 {
     bytes.iter().fold(0xCBF2_9CE4_8422_2325, |sum, &byte| {
         (sum ^ u64::from(byte)).wrapping_mul(0x100_0000_01B3)
     })
+}
+
+/// Where an entry stands in the image: all are on track 2.
+fn entry_place(entry: usize) -> usize {
+    let logical = entry / 4;
+    6_656 + 128 * (6 * logical % 26 + logical / 13) + 32 * (entry % 4)
 }
 
 /// An FCB with a name, everything else 0.
@@ -408,4 +454,149 @@ fn a_record_count_over_128() {
         },
         include_str!("expected/count-over-128.txt"),
     );
+}
+
+/// A dated disk whose label asks for create and update stamps: each is made by
+/// the calls that make it, and by no other.
+#[test]
+fn create_and_update_stamps() {
+    compare(
+        |mut stage| {
+            stage.make_dated(0x30);
+            stage.at(17_851, 0x06, 0x00);
+            stage.ask(13, "log in", &mut [0; 36]);
+            let mut file = fcb("WORDS.DAT");
+            assert_eq!(stage.ask(22, "make WORDS.DAT", &mut file), (1, 0));
+            stage.stamps_are(1, [[0xBB, 0x45, 0x06, 0x00], ZERO]);
+            written_and_closed(&mut stage, &mut file);
+            written_by_moves(&mut stage, &mut file);
+            renamed_deleted_and_made_again(&mut stage);
+            stage.end()
+        },
+        include_str!("expected/create-and-update.txt"),
+    );
+}
+
+/// A stamp of nothing.
+const ZERO: [u8; 4] = [0; 4];
+
+/// The stamps of WORDS.DAT once it is written and closed.
+const CLOSED: [[u8; 4]; 2] = [[0xBB, 0x45, 0x06, 0x00], [0xBA, 0x45, 0x23, 0x59]];
+
+/// Update is stamped by a close that changes the entry, and access is not asked
+/// for.
+fn written_and_closed(stage: &mut Stage, file: &mut Fcb) {
+    stage.at(17_851, 0x06, 0x01);
+    stage.ask(16, "close, which changes nothing", file);
+    stage.stamps_are(1, [CLOSED[0], ZERO]);
+    stage.ask(21, "write record 0", file);
+    stage.at(17_850, 0x23, 0x59);
+    stage.ask(16, "close, the day before", file);
+    stage.stamps_are(1, CLOSED);
+    stage.at(17_852, 0x99, 0x99);
+    stage.ask(15, "open", file);
+    stage.stamps_are(1, CLOSED);
+}
+
+/// A move that changes nothing makes an entry; the way back has something to
+/// record.
+fn written_by_moves(stage: &mut Stage, file: &mut Fcb) {
+    file[34] = 1;
+    stage.ask(34, "random write of record 256, by a move", file);
+    stage.stamps_are(1, CLOSED);
+    stage.stamps_are(2, [ZERO, ZERO]);
+    (file[33], file[34]) = (1, 0);
+    stage.ask(34, "random write of record 1, by a move", file);
+    stage.stamps_are(1, CLOSED);
+    stage.stamps_are(2, [ZERO, [0xBC, 0x45, 0x99, 0x99]]);
+}
+
+/// Neither 23 nor 19 stamps; a deleted entry's stamps stay until it is made
+/// anew.
+fn renamed_deleted_and_made_again(stage: &mut Stage) {
+    let mut both = fcb("WORDS.DAT");
+    both[17..28].copy_from_slice(b"WORDS   BAK");
+    stage.at(1, 0x00, 0x00);
+    stage.ask(23, "rename to WORDS.BAK", &mut both);
+    assert_eq!(stage.ask(17, "search", &mut fcb("WORDS.BAK")), (1, 0));
+    stage.ask(19, "delete WORDS.BAK", &mut fcb("WORDS.BAK"));
+    stage.stamps_are(1, CLOSED);
+    stage.stamps_are(2, [ZERO, [0xBC, 0x45, 0x99, 0x99]]);
+    stage.ask(22, "make NEW.DAT", &mut fcb("NEW.DAT"));
+    stage.stamps_are(1, [[0x01, 0x00, 0x00, 0x00], ZERO]);
+}
+
+/// A dated disk with a label has 47 entries for files. Access stamps; the times
+/// and the disks that are refused; and a disk without date entries.
+#[test]
+fn access_stamps_and_what_is_refused() {
+    compare(
+        |mut stage| {
+            stage.make_dated(0x40);
+            stage.at(65_535, 0x12, 0x34);
+            stage.ask(13, "log in", &mut [0; 36]);
+            for number in 0..47 {
+                let (_, h) = stage.silently(22, &mut fcb(&format!("F{number}")));
+                assert_eq!(h, 0);
+            }
+            stage.say("22 make F0 to F46: accepted");
+            assert_eq!(stage.ask(22, "make F47", &mut fcb("F47")), (255, 0));
+            stage.stamps_are(1, [ZERO, ZERO]);
+            stage.ask(15, "open F0", &mut fcb("F0"));
+            stage.stamps_are(1, OPENED);
+            bad_times(&mut stage);
+            bad_disks(&mut stage);
+            stage.stamps_are(1, OPENED);
+            stage.say("   all date entries become empty");
+            for entry in (3..64).step_by(4) {
+                stage.image[entry_place(entry)] = 0xE5;
+            }
+            stage.ask(15, "open F0", &mut fcb("F0"));
+            stage.stamps_are(1, OPENED);
+            stage.end()
+        },
+        include_str!("expected/access-and-refused.txt"),
+    );
+}
+
+/// The stamps of F0 once it is opened.
+const OPENED: [[u8; 4]; 2] = [[0xFF, 0xFF, 0x12, 0x34], ZERO];
+
+/// A digit over 9 in each place of the time, in a call that stamps and in one
+/// that does not.
+fn bad_times(stage: &mut Stage) {
+    for (hour, minute) in [(0x1A, 0x00), (0xA1, 0x00), (0x00, 0x1A), (0x00, 0xA1)] {
+        stage.at(65_535, hour, minute);
+        assert_eq!(stage.ask(15, "open F0", &mut fcb("F0")), (255, 4));
+        assert_eq!(stage.ask(46, "space", &mut [0; 36]), (255, 4));
+    }
+    stage.at(2, 0x00, 0x00);
+}
+
+/// One byte of a label, a date entry or a file's entry that makes the disk not
+/// consistent, put right after each call.
+fn bad_disks(stage: &mut Stage) {
+    for (at, byte, what) in [
+        (entry_place(3) + 3, 0xA1, "an hour beside F0 becomes A1H"),
+        (entry_place(63) + 28, 0x6A, "the last minute becomes 6AH"),
+        (
+            entry_place(0) + 26,
+            0x0A,
+            "an hour of the label becomes 0AH",
+        ),
+        (
+            entry_place(0) + 31,
+            0xF0,
+            "the label's last byte becomes F0H",
+        ),
+        (entry_place(0) + 12, 0x51, "the label asks for create too"),
+        (entry_place(63), 0xE5, "the last date entry becomes empty"),
+        (entry_place(1), 0x20, "F0 becomes a label"),
+        (entry_place(1), 0x21, "F0 becomes a date entry"),
+    ] {
+        let kept = std::mem::replace(&mut stage.image[at], byte);
+        stage.say(&format!("   {what}"));
+        assert_eq!(stage.ask(15, "open F1", &mut fcb("F1")), (255, 1));
+        stage.image[at] = kept;
+    }
 }

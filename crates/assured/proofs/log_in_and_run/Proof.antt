@@ -4,7 +4,7 @@ use mathlib.Core.Bool.{true, false}
 use borrow.Author.Needs.{needs}
 use borrow.Author.Tests.{not-true, not-false}
 use Rattle.model.specs.Lent.{Outcome}
-use Rattle.effects.specs.Book.{acceptedAnswer}
+use Rattle.table.specs.Accepted.{acceptedAnswer}
 use Rattle.demands.specs.Runs.{Request, Disk}
 use Rattle.script.specs.Script.{diskOf}
 use Rattle.assured.specs.Demands.{logIn, met, met-after, met-says, met-run, login-refused, logged-in}

@@ -9,8 +9,9 @@ use Rattle.model.specs.Kinds.{isCall}
 use Rattle.model.specs.Table.{parametersRight}
 use Rattle.table.specs.Facts.{Ready}
 use Rattle.table.specs.Reflect.{fits-of, ready-of}
-use Rattle.table.specs.OwnStep.{own-at, step-own}
+use Rattle.table.specs.OwnStep.{own-at}
 use Rattle.table.specs.Early.{unlisted-step, parameter-step, disk-step}
+use Rattle.stamping.specs.Made.{made-at, step-plain, log-in-made}
 use Rattle.bdos.proofs.call.Statement.{statement}
 use Rattle.bdos.proofs.call.Tie as tie
 
@@ -32,11 +33,11 @@ parameters : (c : tie.Else2) →
 parameters c = sym (c .before .parameters-right .ensures) ∙ not-false _ (c .if2 .left)
 
 ready : (c : tie.Else3) →
-    let s = c .before .before .before .before .before .before .before .before .before .before .before .before .before .before .before .before .before .before .before .before .before in
+    let s = c .before .before .before .before .before .before .before .before .before .before .before .before .before .before .before .before .before .before .before .before .before .before .before in
     Ready eightInch (s .args .asked) (given s) (s .args .session)
 ready c =
-    ready-of eightInch _ _ _ (parameters (c .before .before .before .before .before .before .before .before))
-    (sym (c .before .before .before .disk-right .ensures .0 _ _) ∙ not-false _ (c .if3 .left))
+    ready-of eightInch _ _ _ (parameters (c .before .before .before .before .before .before .before .before .before .before))
+    (sym (c .before .before .before .before .disk-right .ensures .0 _ _) ∙ not-false _ (c .if3 .left))
 
 returns : tie.Need-returns
 returns c = unlisted-step eightInch _ _ _ _ (listed (c .before .before) ∙ not-true _ (c .before .if1 .taken)) (c .refuse .ensures)
@@ -47,36 +48,29 @@ returns-2 c =
 
 disk-right-requires : tie.Need-disk-right-requires
 disk-right-requires c κs =
-    let f = fits-of eightInch _ _ _ (parameters (c .before .before .before .before)) in (f .image-long, f .map-long, search needs, search needs)
+    let f = fits-of eightInch _ _ _ (parameters (c .before .before .before .before .before)) in (f .image-long, f .map-long, search needs, search needs, search needs)
 
 returns-3 : tie.Need-returns-3
 returns-3 c =
-    disk-step eightInch _ _ _ _ (called (c .before .before .before .before .before .before .before .before .before .before .before .before .before .before .before)) (parameters (c .before .before .before .before .before .before .before .before .before))
-    (sym (c .before .before .before .before .disk-right .ensures .0 _ _) ∙ not-true _ (c .before .if3 .taken)) (c .refuse3 .ensures)
+    disk-step eightInch _ _ _ _ (called (c .before .before .before .before .before .before .before .before .before .before .before .before .before .before .before .before .before)) (parameters (c .before .before .before .before .before .before .before .before .before .before .before))
+    (sym (c .before .before .before .before .before .disk-right .ensures .0 _ _) ∙ not-true _ (c .before .if3 .taken)) (c .refuse3 .ensures)
 
 log-in-requires : tie.Need-log-in-requires
 log-in-requires c κs = (ready (c .before .before .before) .fits .map-long, search needs)
 
 returns-4 : tie.Need-returns-4
 returns-4 c =
-    let k = called (c .before .before .before .before .before .before .before .before .before .before .before .before .before .before .before .before .before .before .before .before) in
-    let a = c .before .before .before .before .before .before .before .before .before .before .before .before .before .before .before .before .before .before .before .before .before .before .before .before .before .before .before .args .asked in
-    c .before .before .log-in .ensures a _ _ _ (c .before .before .before .before .before .before .before .before .before .disk-right .ensures .1 (not-false _ (c .before .before .before .before .before .before .if3 .left)) .0)
-    ∙ own-at eightInch a _ _ 13 (c .before .before .before .before .before .if4 .taken) ∙ sym (step-own eightInch _ _ _ k (ready (c .before .before .before .before .before .before)))
+    let s = c .before .before .before .before .before .before .before .before .before .before .before .before .before .before .before .before .before .before .before .before .before .before .before .before .before .before .before .before .before in
+    let a = s .args .asked in
+    let thirteen = c .before .before .before .before .before .if4 .taken in
+    step-plain eightInch a _ (s .args .session) (called (c .before .before .before .before .before .before .before .before .before .before .before .before .before .before .before .before .before .before .before .before .before .before)) (ready (c .before .before .before .before .before .before)) _ _ _ _ _
+    (c .before .before .log-in .ensures a _ _ _ (c .before .before .before .before .before .before .before .before .before .before .disk-right .ensures .1 (not-false _ (c .before .before .before .before .before .before .if3 .left)) .0) ∙ own-at eightInch a _ _ 13 thirteen)
+    (sym (made-at eightInch a (given s) (s .args .session) 13 thirteen) ∙ log-in-made eightInch a (given s) (s .args .session))
 
-own-call-requires : tie.Need-own-call-requires
-own-call-requires c κs = (
-  c .before .before .before .before .before .before .before .before .before .before .before .before .before .before .before .before .before .before .before .before .before .before .kind-of .ensures,
-  called (c .before .before .before .before .before .before .before .before .before .before .before .before .before .before .before .before .before .before .before .before),
-  c .before .before .before .before .before .if4 .left,
-  ready (c .before .before .before .before .before .before),
-  c .before .before .before .before .before .before .before .before .before .disk-right .ensures .1 (not-false _ (c .before .before .before .before .before .before .if3 .left)) .1,
-)
-
-returns-5 : tie.Need-returns-5
-returns-5 c =
-    let k = called (c .before .before .before .before .before .before .before .before .before .before .before .before .before .before .before .before .before .before .before .before .before .before .before .before .before .before .before .before .before) in
-    c .before .before .before .before .before .before .before .before .own-call .ensures ∙ sym (step-own eightInch _ _ _ k (ready (c .before .before .before .before .before .before .before .before .before .before .before .before .before .before .before)))
+passed-call-requires : tie.Need-passed-call-requires
+passed-call-requires c κs =
+    let checked = c .before .before .before .before .before .before .before .before .before .before .disk-right .ensures .1 (not-false _ (c .before .before .before .before .before .before .if3 .left)) in
+    (c .before .before .before .before .before .before .before .before .before .before .before .before .before .before .before .before .before .before .before .before .before .before .before .before .kind-of .ensures, called (c .before .before .before .before .before .before .before .before .before .before .before .before .before .before .before .before .before .before .before .before .before .before), c .before .before .before .before .before .if4 .left, ready (c .before .before .before .before .before .before), checked .1, checked .2)
 
 pub call-spec : {M : Type 1} → statement M
 call-spec =
@@ -95,6 +89,7 @@ call-spec =
     returns-2
     (λ c. search needs)
     (λ c. search needs)
+    (λ c. search needs)
     disk-right-requires
     (λ c κs. search needs)
     (λ c. search needs)
@@ -110,9 +105,10 @@ call-spec =
     (λ c. search needs)
     returns-4
     (λ c. search needs)
-    own-call-requires
+    (λ c. search needs)
+    passed-call-requires
     (λ c. search needs)
     (λ c. search needs)
     (λ c. search needs)
     (λ c. search needs)
-    returns-5)
+    (λ c. search needs))

@@ -1,25 +1,31 @@
--- Two kinds move a record, and no other.
-use mathlib.Core.Path.{sym, _∙_}
-use mathlib.Core.List.{[], _∷_}
-use types.Run.{miss}
-use borrow.Author.Needs.{needs}
-use Rattle.model.specs.declared.Kind.the-variants.{Read, Write}
-use Rattle.calls.specs.Apart.{not-same}
+-- Each arm is a line of one of the two kinds that move a record; no other line is.
+use mathlib.Core.Path.{_≡_, refl, sym}
+use mathlib.Core.Bool.{false, not}
+use mathlib.Core.List.{List, [], _∷_}
+use Prim.Native.Nat.{ℕ}
+use borrow.Author.Tests.{not-true}
+use Rattle.model.specs.Kinds.{Listed, calls, lineIn, kindOf, ofRecord}
+use Rattle.calls.specs.Arms.{at, None, rest}
 use Rattle.calls.proofs.moves_record.Statement.{statement}
 use Rattle.calls.proofs.moves_record.Tie as tie
 
-returns : tie.Need-returns
-returns c = sym (rw (sym (c .before .before .kind-of .ensures) ∙ c .enum-told .given .1))
+abbrev numbers : List ℕ
+numbers = 20 ∷ 21 ∷ 33 ∷ 34 ∷ []
 
-returns-2 : tie.Need-returns-2
-returns-2 c = sym (rw (sym (c .before .before .kind-of .ensures) ∙ c .enum-told2 .given .1))
+arm : {n k : ℕ} → n ≡ k → ofRecord (lineIn k calls .kind) ≡ ofRecord (kindOf n)
+unfolding kindOf
+arm q = at (λ (c : Listed). ofRecord (c .kind)) q
 
-returns-3 : tie.Need-returns-3
-returns-3 c =
-    let k = c .before .kind-of .result in
-    let reads = not-same k Read (λ q. miss (0 ∷ 1 ∷ 2 ∷ 3 ∷ 4 ∷ 5 ∷ 6 ∷ 7 ∷ 8 ∷ []) 9 tt (rw q at (c .match .keys3))) in
-    let writes = not-same k Write (λ q. miss (0 ∷ 1 ∷ 2 ∷ 3 ∷ 4 ∷ 5 ∷ 6 ∷ 7 ∷ 8 ∷ []) 10 tt (rw q at (c .match .keys3))) in
-    sym (rw (← c .before .kind-of .ensures, reads, writes))
+others : (told : Type 0) (n : ℕ) → None told n numbers → false ≡ ofRecord (kindOf n)
+unfolding kindOf
+others told n x = sym (not-true _ (rest (λ (c : Listed). not (ofRecord (c .kind))) told n numbers refl refl x))
 
 pub moves-record-spec : {M : Type 1} → statement M
-moves-record-spec = tie.close (tie.spec (λ c κs. search needs) (λ c. search needs) (λ c. search needs) returns returns-2 returns-3)
+moves-record-spec =
+    tie.close
+    (tie.spec
+    (λ c. arm (c .match .keys1))
+    (λ c. arm (c .match .keys2))
+    (λ c. arm (c .match .keys3))
+    (λ c. arm (c .match .keys4))
+    (λ c. others _ _ (c .match .rest)))

@@ -3,7 +3,8 @@ use mathlib.Core.Path.{refl, sym, _∙_}
 use Rattle.format.specs.Diskette.{eightInch}
 use Rattle.table.specs.Own.{not-unlisted}
 use Rattle.table.specs.OwnStep.{own-at}
-use Rattle.dispatch.specs.Numbers.{only-of, other-of, at-number, moves-record}
+use Rattle.calls.specs.Apart.{moves-record}
+use Rattle.dispatch.specs.Numbers.{only-of, other-of, at-number}
 use Rattle.model.specs.Lent.{Lent, lend}
 use Rattle.model.specs.declared.Kind.the-variants.{User, Settle, Close, Delete, Create, Rename}
 use borrow.Author.Needs.{needs}

@@ -7,7 +7,8 @@ use Rattle.disk.specs.Eight.{eight-sound}
 use Rattle.model.specs.Kinds.{kindOf, same}
 use Rattle.model.specs.declared.Kind.the-variants.{Write}
 use Rattle.model.specs.Lent.{Lent, lend}
-use Rattle.records.specs.Carry.{entryOf, transferred, arrived-own}
+use Rattle.table.specs.Plans.{entryOf}
+use Rattle.records.specs.Carry.{transferred, arrived-own}
 use borrow.Author.Needs.{needs}
 use Rattle.records.proofs.follow.Statement.{statement}
 use Rattle.records.proofs.follow.Tie as tie

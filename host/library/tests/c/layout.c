@@ -11,6 +11,9 @@ int main(void) {
     SIZE(benzo_asked);
     PLACE(benzo_asked, number);
     PLACE(benzo_asked, argument);
+    PLACE(benzo_asked, day);
+    PLACE(benzo_asked, hour);
+    PLACE(benzo_asked, minute);
     SIZE(benzo_session);
     PLACE(benzo_session, user);
     PLACE(benzo_session, pattern);

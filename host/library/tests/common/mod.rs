@@ -1,4 +1,4 @@
-//! What the tests share: C programs compiled with the archive.
+//! What the tests share: C programs compiled with the archive, and a dated disk.
 
 #![allow(dead_code)]
 
@@ -8,6 +8,26 @@ use std::process::Command;
 /// The repository's folder.
 pub fn repository() -> PathBuf {
     Path::new(env!("CARGO_MANIFEST_DIR")).join("../..")
+}
+
+/// Where an entry stands in the image: all are on track 2, whose sectors are
+/// in the order of 6s mod 26 + s/13.
+pub fn entry_place(entry: usize) -> usize {
+    let record = entry / 4;
+    6_656 + 128 * (6 * record % 26 + record / 13) + 32 * (entry % 4)
+}
+
+/// An empty disk with date entries whose bytes are all 0 otherwise, and a label
+/// as entry 0 that asks for stamps.
+pub fn dated_image(asks: u8) -> Vec<u8> {
+    let mut image = vec![0xE5; benzokamuri::IMAGE_LEN];
+    for entry in (0..1).chain((3..64).step_by(4)) {
+        image[entry_place(entry)..][..32].fill(0);
+        image[entry_place(entry)] = 0x21;
+    }
+    let label = entry_place(0);
+    (image[label], image[label + 12]) = (0x20, asks | 1);
+    image
 }
 
 /// A C program, compiled.

@@ -1,7 +1,7 @@
 //! `call`: one call by its number, and what it changed.
 
 use super::check::read_state;
-use super::{held_image, image, named};
+use super::{as_found, named, time};
 use crate::changes::{between, Moment};
 use crate::hex;
 use crate::state::State;
@@ -9,21 +9,31 @@ use crate::store::ImageFile;
 use crate::trouble::{Doing, Trouble};
 use crate::words::{Shape, Words};
 use crate::{Desk, Verb};
-use benzokamuri::{Asked, Call, Disk, Fcb, Map, Pattern, Session, BUFFER_LEN, FCB_LEN, MAP_LEN};
+use benzokamuri::{
+    Asked, Call, Code, Disk, Fcb, Map, Pattern, Session, BUFFER_LEN, FCB_LEN, MAP_LEN,
+};
 use std::ffi::OsStr;
+use std::io::Write;
 use std::path::Path;
 
 pub const VERB: Verb = Verb {
     name: "call",
     purpose: "Make one call by its number; show its code, and what changed.",
-    usage: "[-u USER] [-a ARGUMENT] [--name NAME] [--buffer HEX] [--state FILE] [-n] IMAGE NUMBER [FCB]",
+    usage: "[-u USER] [--time TIME] [-a ARGUMENT] [--name NAME] [--buffer HEX] [--state FILE] [-n] IMAGE NUMBER [FCB]",
     help: "\
 FCB is up to 36 bytes in hexadecimal, the rest being 0. Without --state the call
 is made on a disk that has just been logged in, with a session that begins at
 zero, and what it leaves in the map, the FCB, the buffer and the session is gone
 afterwards: a file that was written can't be closed by another `call`.
 
+The library is lent the image as it stands in its file; sectors that the file
+lacks at its end are E5H. Stamps of E5H throughout, as cpmtools leaves them, are
+no times, so the call is refused with 255, 1. Verbs other than this and `check`
+read them as zeros, and those that save the image save them so.
+
   -u USER          the session's user
+  --time TIME      the time that the call is handed, as \"2026-11-15 06:00\"; the
+                   clock's where it is left out
   -a ARGUMENT      the argument byte; 0 where it is left out
   --name NAME      an FCB with this name or pattern, all else 0
   --buffer HEX     up to 128 bytes for the buffer, the rest being 0
@@ -40,15 +50,10 @@ The image is saved if the call changed it.",
 };
 
 fn run(mut words: Words, desk: &mut Desk) -> Result<(), Trouble> {
-    let (image, held) = match words.has("-n") {
-        true => (image(&mut words)?, None),
-        false => held_image(&mut words).map(|(image, held)| (image, Some(held)))?,
-    };
+    let saves = !words.has("-n");
+    let (image, held) = as_found(&mut words, saves)?;
     let number = words.next("the number of a call")?;
-    let asked = Asked {
-        number: byte(&number)?,
-        argument: argument(&words)?,
-    };
+    let (number, argument) = (byte(&number)?, argument(&words)?);
     let given = words.next_if_any();
     words.end()?;
     let state = words.value("--state").map(Path::new);
@@ -67,27 +72,35 @@ fn run(mut words: Words, desk: &mut Desk) -> Result<(), Trouble> {
         moment.disk.buffer = bytes::<BUFFER_LEN>(text, "the buffer")?;
     }
     let before = moment.clone();
+    let asked = Asked::new(number, argument, time(&words, desk));
     let answered = moment.disk.ask(asked, &mut moment.fcb);
-    let (a, h) = match answered {
-        Ok(a) => (a, 0),
-        Err(code) => code.numbers(),
-    };
     if let Some(held) = held {
         let kept = State::of(&moment.disk, moment.fcb).written();
         let beside = state.map(|path| (path, kept.as_str()));
         image.save(&held, &moment.disk, beside, desk)?;
     }
-    let what = match Call::listed(asked.number) {
+    show(number, answered, [&before, &moment], desk)
+}
+
+/// Prints what a call answered, and what it changed.
+fn show(
+    number: u8,
+    answered: Result<u8, Code>,
+    [before, after]: [&Moment; 2],
+    desk: &mut Desk,
+) -> Result<(), Trouble> {
+    let what = match Call::listed(number) {
         Some(call) => call.to_string(),
-        None => asked.number.to_string(),
+        None => number.to_string(),
     };
+    let (a, h) = answered.map_or_else(Code::numbers, |a| (a, 0));
     writeln!(desk.out, "call {what}: A = {a}, H = {h}")?;
-    let changes = between(&before, &moment);
+    let changes = between(before, after);
     match changes.is_empty() {
         true => writeln!(desk.out, "nothing changed")?,
         false => writeln!(desk.out, "{}", changes.join("\n"))?,
     }
-    writeln!(desk.out, "FCB {}", hex::written(moment.fcb.bytes()))?;
+    writeln!(desk.out, "FCB {}", hex::written(after.fcb.bytes()))?;
     answered.doing(format!("call {what}")).map(|_| ())
 }
 

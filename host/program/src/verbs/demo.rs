@@ -1,19 +1,28 @@
-//! `demo`: the double job, step by step.
+//! `demo`: a stamped file, and the double job, step by step.
 
 use super::colours;
+use super::ls::shown;
+use crate::dates::{put_dates, put_label, Label};
+use crate::layout::Stamp;
 use crate::picture::Picture;
 use crate::trouble::{Doing, Trouble};
 use crate::words::{Shape, Words};
 use crate::{Desk, Verb};
-use benzokamuri::{Asked, Call, Disk, Fcb, Name};
+use benzokamuri::{BadTime, Call, Code, Disk, Fcb, Name, Time};
+use std::io::Write;
 
 pub const VERB: Verb = Verb {
     name: "demo",
-    purpose: "Show the double job: one file, written through two FCBs.",
+    purpose: "Show a stamped file, and the double job: one file through two FCBs.",
     usage: "[-u USER] [--colour WHEN]",
     help: "\
-On an empty disk, in memory alone, a file is made and opened once more, and both
-FCBs write its first record. Each gets a block of its own. The first to close
+Both are shown on empty disks, in memory alone. The stamped file's disk has date
+entries, and a label that asks for create and update stamps; each step shows its
+call, the time that it is handed, the code, and the file's stamps afterwards, as
+call 17 gives them. These times are always the same, whatever --time says.
+
+In the double job a file is made and opened once more, and both FCBs write its
+first record. Each gets a block of its own. The first to close
 keeps its block; the second is no longer current, and the block it took stays
 pending until call 98 frees it. Each step shows its call, the code, and the map
 afterwards.
@@ -125,22 +134,109 @@ const STEPS: [Step; 12] = [
     space(1_920, "the file's one block is all that is taken"),
 ];
 
+/// A step of the stamped file: the call, when it is made, the stamps that must
+/// come out, and why.
+struct Stamping {
+    call: Call,
+    at: &'static str,
+    stamps: [&'static str; 2],
+    says: &'static str,
+}
+
+const STAMPINGS: [Stamping; 4] = [
+    Stamping {
+        call: Call::Make,
+        at: "2026-11-15 06:00",
+        stamps: ["2026-11-15 06:00", "-"],
+        says: "the label asks for a create stamp",
+    },
+    Stamping {
+        call: Call::WriteNext,
+        at: "2026-11-15 06:10",
+        stamps: ["2026-11-15 06:00", "-"],
+        says: "the entry is as it was: its block is pending",
+    },
+    Stamping {
+        call: Call::Close,
+        at: "2026-11-15 06:20",
+        stamps: ["2026-11-15 06:00", "2026-11-15 06:20"],
+        says: "the entry lists the block now, so it gets an update stamp",
+    },
+    Stamping {
+        call: Call::Close,
+        at: "2026-11-15 06:30",
+        stamps: ["2026-11-15 06:00", "2026-11-15 06:20"],
+        says: "another close changes nothing, and stamps nothing",
+    },
+];
+
 fn run(words: Words, desk: &mut Desk) -> Result<(), Trouble> {
     words.end()?;
     let colours = colours(&words, desk)?;
+    stamped_file(words.user(), desk)?;
+    double_job(words.user(), colours, desk)
+}
+
+/// A disk with date entries and a label, in memory alone.
+fn dated_disk(user: u8) -> Result<Disk, Trouble> {
+    let mut image = Box::new(*Disk::erased().image());
+    put_dates(&mut image);
+    put_label(
+        &mut image,
+        &Label {
+            name: super::named("DEMO".as_ref())?,
+            asks: vec![Stamp::Create, Stamp::Update],
+            time: handed_in(STAMPINGS[0].at)?,
+        },
+    );
+    let disk = Disk::new(image.to_vec());
+    let mut disk = disk.map_err(|no_disk| Trouble::failed(no_disk.to_string()))?;
+    disk.set_user(user).doing("call 32")?;
+    Ok(disk)
+}
+
+fn handed_in(time: &str) -> Result<Time, Trouble> {
+    time.parse()
+        .map_err(|bad: BadTime| Trouble::failed(bad.to_string()))
+}
+
+fn stamped_file(user: u8, desk: &mut Desk) -> Result<(), Trouble> {
+    let name: Name = super::named("DATED.DAT".as_ref())?;
+    let mut disk = dated_disk(user)?;
+    let mut fcb = Fcb::named(name);
+    writeln!(
+        desk.out,
+        "A stamped file: a disk with date entries, whose label asks for create and update.\n"
+    )?;
+    for (step, letter) in STAMPINGS.iter().zip('a'..) {
+        disk.set_time(handed_in(step.at)?);
+        let a = disk.call(step.call, &mut fcb).doing(step.call)?;
+        let found = disk.search_first(&mut Fcb::named(name));
+        let stamps = shown(found.doing("call 17")?.stamps);
+        let [first, update] = &stamps;
+        writeln!(
+            desk.out,
+            " {letter}. call {} at {}: {a}, 0\n    create {first}, update {update}\n    {}\n",
+            step.call, step.at, step.says
+        )?;
+        if stamps != step.stamps {
+            let wrong = format!("step {letter} of the stamped file came out wrong");
+            return Err(Trouble::failed(wrong));
+        }
+    }
+    Ok(())
+}
+
+fn double_job(user: u8, colours: bool, desk: &mut Desk) -> Result<(), Trouble> {
     let name: Name = super::named("JOB.DAT".as_ref())?;
     let mut disk = Disk::erased();
-    disk.set_user(words.user()).doing("call 32")?;
+    disk.set_user(user).doing("call 32")?;
     let (mut first, mut second) = (Fcb::named(name), Fcb::named(name));
     writeln!(
         desk.out,
         "The double job: one file, written through two FCBs.\n"
     )?;
     for (number, step) in STEPS.iter().enumerate() {
-        let asked = Asked {
-            number: step.call.number(),
-            argument: 0,
-        };
         let (fcb, with) = match step.fcb {
             Which::None => (&mut Fcb::ZERO.clone(), ""),
             Which::First => (&mut first, ", first FCB"),
@@ -148,14 +244,10 @@ fn run(words: Words, desk: &mut Desk) -> Result<(), Trouble> {
         };
         disk.buffer
             .fill(b'1' + u8::from(matches!(step.fcb, Which::Second)));
-        let answered = disk.ask(asked, fcb);
-        let (a, h) = answered.map_or_else(|code| code.numbers(), |a| (a, 0));
-        write!(
-            desk.out,
-            "{:>2}. call {}{with}: {a}, {h}",
-            number + 1,
-            step.call
-        )?;
+        let answered = disk.call(step.call, fcb);
+        let (a, h) = answered.map_or_else(Code::numbers, |a| (a, 0));
+        let number = number + 1;
+        write!(desk.out, "{number:>2}. call {}{with}: {a}, {h}", step.call)?;
         if let Err(code) = answered {
             write!(desk.out, ": {code}")?;
         }
@@ -167,7 +259,7 @@ fn run(words: Words, desk: &mut Desk) -> Result<(), Trouble> {
         let picture = Picture::of(&disk).doing("the picture")?;
         writeln!(desk.out, "\n    {}\n\n{}", step.says, picture.text(colours))?;
         if (a, h) != step.due || told.is_some_and(|(free, due)| free != due) {
-            let wrong = format!("step {} of the double job came out wrong", number + 1);
+            let wrong = format!("step {number} of the double job came out wrong");
             return Err(Trouble::failed(wrong));
         }
     }

@@ -1,12 +1,13 @@
 //! `free`: what is left.
 
-use super::image;
+use super::{image, logged_in};
 use crate::files;
-use crate::layout::{AREA, BLOCKS, BLOCK_RECORDS};
+use crate::layout::{Row, AREA, BLOCKS, BLOCK_RECORDS};
 use crate::trouble::{Doing, Trouble};
 use crate::words::{Shape, Words};
 use crate::{Desk, Verb};
 use benzokamuri::{BUFFER_LEN, ENTRIES};
+use std::io::Write;
 
 pub const VERB: Verb = Verb {
     name: "free",
@@ -14,7 +15,8 @@ pub const VERB: Verb = Verb {
     usage: "IMAGE",
     help: "\
 A record is 128 bytes, a block 1,024 bytes, and an entry stands for up to 16,384
-bytes of a file. -u makes no difference here.",
+bytes of a file. Labels and date entries are no entries for files, and are not
+counted. -u and --time make no difference here.",
     shape: Shape {
         flags: &[],
         valued: &[],
@@ -28,10 +30,13 @@ const ALL_RECORDS: usize = BLOCK_RECORDS * (BLOCKS - AREA);
 fn run(mut words: Words, desk: &mut Desk) -> Result<(), Trouble> {
     let image = image(&mut words)?;
     words.end()?;
-    let mut disk = image.log_in(words.user())?;
+    let mut disk = logged_in(&image, &words, desk)?;
     let records = disk.space().doing(image.name())?;
     let files = files::all(&mut disk).doing(image.name())?;
-    let entries: usize = files.iter().map(|file| file.entries.len()).sum();
+    let used: usize = files.iter().map(|file| file.entries.len()).sum();
+    // Labels and date entries are neither, and no call tells of them.
+    let empty = |&entry: &usize| Row::of(disk.image(), entry).is_empty();
+    let empty = (0..ENTRIES).filter(empty).count();
     let records = records as usize;
     for (what, free, all) in [
         ("records", records, ALL_RECORDS),
@@ -41,7 +46,7 @@ fn run(mut words: Words, desk: &mut Desk) -> Result<(), Trouble> {
             ALL_RECORDS / BLOCK_RECORDS,
         ),
         ("bytes", records * BUFFER_LEN, ALL_RECORDS * BUFFER_LEN),
-        ("entries", ENTRIES - entries, ENTRIES),
+        ("entries", empty, empty + used),
     ] {
         writeln!(desk.out, "{what:<8}{free:>6} of {all}")?;
     }

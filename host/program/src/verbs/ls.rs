@@ -1,13 +1,14 @@
 //! `ls`: the files of a user.
 
-use super::{image, named};
+use super::{image, logged_in, named};
 use crate::files::{self, File, LAST_USER};
 use crate::layout::Row;
 use crate::trouble::{Doing, Trouble};
 use crate::words::{Shape, Words};
 use crate::{Desk, Verb};
-use benzokamuri::{Code, Disk, Pattern};
-use std::fmt::Write;
+use benzokamuri::{Code, Disk, Pattern, Stamps, Time};
+use std::fmt::Write as _;
+use std::io::Write as _;
 
 pub const VERB: Verb = Verb {
     name: "ls",
@@ -20,8 +21,14 @@ used (its byte s1, as CP/M Plus and cpmtools keep it), the size counts those.
 
   -u USER   the files of this user; 0 where it is left out
   -a        the files of all users
-  -l        also each extent: its entry, records (rc, which counts as 128
-            where it is more) and blocks
+  -l        also stamps, where the disk has date entries, and each extent: its
+            entry, records (rc, which counts as 128 where it is more) and blocks
+
+The column create/access is one of the two: the disk's label asks for either,
+and `check` shows what it asks for. Each entry has stamps of its own. The file's
+line has those of its first entry; the lines of further extents have theirs,
+create/access first. - is no stamp, a day 0 is from a call that was handed no
+day, and hours and minutes are shown as they are stored, 99:99 too.
 
 Files that match one of the patterns are listed; see `benzokamuri help names`.",
     shape: Shape {
@@ -45,7 +52,7 @@ fn run(mut words: Words, desk: &mut Desk) -> Result<(), Trouble> {
         (true, _) => 0..=LAST_USER,
         (false, user) => user..=user,
     };
-    let mut disk = file.log_in(words.user())?;
+    let mut disk = logged_in(&file, &words, desk)?;
     let mut listed = Vec::new();
     for user in users {
         listed.extend(listed_for(&mut disk, user, &patterns).doing(file.name())?);
@@ -54,24 +61,7 @@ fn run(mut words: Words, desk: &mut Desk) -> Result<(), Trouble> {
         return Err(Code::NothingMatches).doing(file.name());
     }
     let free = disk.space().doing(file.name())?;
-    let mut text = format!(
-        "{:>4}  {:<12}  {:<10}  {:>7}  {:>8}\n",
-        "user", "name", "attributes", "records", "size"
-    );
-    for file in &listed {
-        let _ = writeln!(
-            text,
-            "{:>4}  {:<12}  {:<10}  {:>7}  {:>8}",
-            file.user,
-            file.name,
-            file.attributes().join(" "),
-            file.records,
-            file.bytes()
-        );
-        if words.has("-l") {
-            text.push_str(&extents(file));
-        }
-    }
+    let mut text = table(&listed, words.has("-l"));
     let records: u32 = listed.iter().map(|file| file.records).sum();
     let _ = writeln!(
         text,
@@ -80,6 +70,69 @@ fn run(mut words: Words, desk: &mut Desk) -> Result<(), Trouble> {
         counted(records as usize, "record")
     );
     Ok(desk.out.write_all(text.as_bytes())?)
+}
+
+/// A heading and a line for each file, with its stamps and extents or without.
+fn table(listed: &[File], long: bool) -> String {
+    let columns = Columns::of(listed, long);
+    let heading = ["user", "name", "attributes", "records", "size"];
+    let stamped = ["create/access", "update"];
+    let mut text = columns.line(heading.map(String::from), stamped.map(String::from));
+    for file in listed {
+        let cells = [
+            file.user.to_string(),
+            file.name.to_string(),
+            file.attributes().join(" "),
+            file.records.to_string(),
+            file.bytes().to_string(),
+        ];
+        text.push_str(&columns.line(cells, shown(file.stamps())));
+        if long {
+            text.push_str(&extents(file));
+        }
+    }
+    text
+}
+
+/// How wide columns are that may have to be wider than usual, and whether there
+/// are those of the stamps.
+struct Columns {
+    name: usize,
+    attributes: usize,
+    stamps: bool,
+}
+
+impl Columns {
+    fn of(listed: &[File], long: bool) -> Columns {
+        let names = listed.iter().map(|file| file.name.to_string().len());
+        let attributes = listed.iter().map(|file| file.attributes().join(" ").len());
+        Columns {
+            name: names.fold(12, usize::max),
+            attributes: attributes.fold(10, usize::max),
+            stamps: long && listed.iter().any(|file| file.stamps().is_some()),
+        }
+    }
+
+    fn line(&self, cells: [String; 5], [first, update]: [String; 2]) -> String {
+        let [user, name, attributes, records, size] = cells;
+        let (names, marks) = (self.name, self.attributes);
+        let mut line =
+            format!("{user:>4}  {name:<names$}  {attributes:<marks$}  {records:>7}  {size:>8}");
+        if self.stamps {
+            let _ = write!(line, "  {first:<16}  {update}");
+        }
+        line.push('\n');
+        line
+    }
+}
+
+/// The two stamps of an entry as they are shown.
+pub fn shown(stamps: Option<Stamps>) -> [String; 2] {
+    let [first, update] = stamps.map_or([Time::ZERO; 2], |both| [both.first, both.update]);
+    [first, update].map(|stamp| match stamp {
+        Time::ZERO => "-".into(),
+        _ => stamp.to_string(),
+    })
 }
 
 /// A number of things.
@@ -104,7 +157,7 @@ fn listed_for(disk: &mut Disk, user: u8, patterns: &[Pattern]) -> Result<Vec<Fil
 /// A line for each extent of a file.
 fn extents(file: &File) -> String {
     let mut text = String::new();
-    for found in &file.entries {
+    for (number, found) in file.entries.iter().enumerate() {
         let row = Row(&found.entry);
         let _ = write!(
             text,
@@ -118,6 +171,11 @@ fn extents(file: &File) -> String {
         }
         if row.s1() != 0 {
             let _ = write!(text, "s1 {:>3}, ", row.s1());
+        }
+        // Those of the first stand in the file's own line.
+        if number > 0 && found.stamps.is_some() {
+            let [first, update] = shown(found.stamps);
+            let _ = write!(text, "stamps {first} and {update}, ");
         }
         let blocks = runs(row.blocks());
         let _ = match blocks.is_empty() {

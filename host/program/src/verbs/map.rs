@@ -1,13 +1,14 @@
 //! `map`: the blocks as a picture.
 
 use super::check::read_state;
-use super::{colours, image};
+use super::{colours, image, logged_in, time};
 use crate::picture::Picture;
 use crate::saving::Ready;
 use crate::trouble::{Doing, Trouble};
 use crate::words::{Shape, Words};
 use crate::{Desk, Verb};
 use benzokamuri::Disk;
+use std::io::Write;
 use std::path::Path;
 
 pub const VERB: Verb = Verb {
@@ -35,10 +36,12 @@ fn run(mut words: Words, desk: &mut Desk) -> Result<(), Trouble> {
     words.end()?;
     let colours = colours(&words, desk)?;
     let disk = match words.value("--state") {
-        None => image.log_in(0)?,
+        None => logged_in(&image, &words, desk)?,
         Some(path) => {
             let state = read_state(path)?;
-            Disk::resumed(image.copy(), state.map, state.session)
+            let mut disk = Disk::resumed(image.copy(), state.map, state.session);
+            disk.set_time(time(&words, desk));
+            disk
         }
     };
     let picture = Picture::of(&disk).doing(image.name())?;

@@ -1,6 +1,6 @@
 //! `mv`: another name for a file.
 
-use super::{held_image, named};
+use super::{held_image, logged_in, named};
 use crate::trouble::{Doing, Trouble};
 use crate::words::{Shape, Words};
 use crate::{Desk, Verb};
@@ -25,7 +25,7 @@ fn run(mut words: Words, desk: &mut Desk) -> Result<(), Trouble> {
     let old: Name = named(&words.next("the old name")?)?;
     let new: Name = named(&words.next("the new name")?)?;
     words.end()?;
-    let mut disk = image.log_in(words.user())?;
+    let mut disk = logged_in(&image, &words, desk)?;
     let renamed = disk.rename(&mut Fcb::renaming(old, new));
     renamed.doing(format!("{}: {old} to {new}", image.name()))?;
     image.save(&held, &disk, None, desk)

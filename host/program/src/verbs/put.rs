@@ -1,10 +1,9 @@
 //! `put`: a file onto the disk.
 
-use super::named;
+use super::{held, logged_in, named};
 use crate::files;
 use crate::layout::{AREA, BLOCKS, BLOCK_RECORDS};
 use crate::saving::read_at_most;
-use crate::store::ImageFile;
 use crate::trouble::{Doing, Trouble};
 use crate::words::{Shape, Words};
 use crate::{Desk, Verb};
@@ -16,15 +15,18 @@ use std::path::Path;
 pub const VERB: Verb = Verb {
     name: "put",
     purpose: "Copy a file onto the disk.",
-    usage: "[-u USER] [-f] IMAGE FILE [NAME]",
+    usage: "[-u USER] [--time TIME] [-f] IMAGE FILE [NAME]",
     help: "\
 FILE is the file to be read, or - for standard input. Where NAME is left out,
 the file gets its own name, in capitals. Its last record is filled up with 1AH.
 
 The image is saved only if all of the file has found room; otherwise it stays as
-it was.
+it was. On a disk with date entries the file gets the stamps that the label asks
+for; one that replaces another is made anew, and so is its create stamp.
 
-  -f   replace a file that is there already",
+  -f            replace a file that is there already
+  --time TIME   the time of the stamps, as \"2026-11-15 06:00\"; the clock's where
+                it is left out",
     shape: Shape {
         flags: &["-f"],
         valued: &[],
@@ -48,8 +50,8 @@ fn run(mut words: Words, desk: &mut Desk) -> Result<(), Trouble> {
     // First, for it may be a pipe from a program that has changes of its own to
     // make to the image.
     let bytes = read_in(&source)?;
-    let (image, held) = ImageFile::hold(&image)?;
-    let mut disk = image.log_in(words.user())?;
+    let (image, held) = held(&image)?;
+    let mut disk = logged_in(&image, &words, desk)?;
     let doing = format!("{}: {name}", image.name());
     // Make asks for extent 0 alone, and a file may lack it.
     let there = match disk.size(&mut Fcb::named(name)) {

@@ -1,6 +1,6 @@
 //! `rm`: files off the disk.
 
-use super::{held_image, named};
+use super::{held_image, logged_in, named};
 use crate::trouble::{Doing, Trouble};
 use crate::words::{Shape, Words};
 use crate::{Desk, Verb};
@@ -29,7 +29,7 @@ fn run(mut words: Words, desk: &mut Desk) -> Result<(), Trouble> {
         .iter()
         .map(|word| named(word))
         .collect::<Result<_, _>>()?;
-    let mut disk = image.log_in(words.user())?;
+    let mut disk = logged_in(&image, &words, desk)?;
     for pattern in patterns {
         let deleted = disk.delete(&mut Fcb::matching(pattern));
         deleted.doing(format!("{}: {pattern}", image.name()))?;

@@ -124,10 +124,30 @@ impl Folder {
         ran(self.command().args(words))
     }
 
+    /// Runs the program with what it prints going elsewhere.
+    pub fn run_into(&self, out: impl Into<Stdio>, line: &str) -> Ran {
+        let mut command = self.command();
+        ran(command.args(line.split(' ')).stdout(out))
+    }
+
+    /// Runs the program with nobody reading what it prints.
+    pub fn run_unheard(&self, line: &str) -> Ran {
+        let (reader, writer) = std::io::pipe().expect("a pipe can be made");
+        drop(reader);
+        self.run_into(writer, line)
+    }
+
     /// Runs the program, which has to do what it is told, and gives what it
     /// prints.
     pub fn done(&self, line: &str) -> String {
         let ran = self.run(line);
+        assert_eq!(ran.status, Some(0), "{line}: {}", ran.err);
+        String::from_utf8(ran.out).expect("a text")
+    }
+
+    /// The same with a time handed in.
+    pub fn done_at(&self, time: &str, line: &str) -> String {
+        let ran = self.run_words(["--time", time].into_iter().chain(line.split(' ')));
         assert_eq!(ran.status, Some(0), "{line}: {}", ran.err);
         String::from_utf8(ran.out).expect("a text")
     }
@@ -174,6 +194,17 @@ pub fn ran_soon(command: &mut Command) -> Ran {
         out: output.stdout,
         err: String::from_utf8_lossy(&output.stderr).into_owned(),
     }
+}
+
+/// Seconds from 1970 to the beginning of day 1, of Greenwich's.
+pub const TO_1978: u64 = 252_460_800;
+
+/// The minutes from the beginning of day 1 to a stamp.
+pub fn minutes(stamp: [u8; 4]) -> u64 {
+    let [low, high, hour, minute] = stamp;
+    let two = |bcd: u8| 10 * u64::from(bcd >> 4) + u64::from(bcd & 15);
+    let days = u64::from(u16::from_le_bytes([low, high])) - 1;
+    1_440 * days + 60 * two(hour) + two(minute)
 }
 
 /// Bytes that are not all alike, from a number.

@@ -10,13 +10,17 @@ pub type Fcb = [u8; 36];
 /// A and H of an accepted call whose A is 0.
 pub const DONE: (u8, u8) = (0, 0);
 
-/// A disk, its map, a transfer buffer and a session.
+/// A time that calls are handed: day, hour and minute.
+pub type Time = (u16, u8, u8);
+
+/// A disk, its map, a transfer buffer, a session and the time.
 #[derive(Clone, PartialEq)]
 pub struct Desk {
     pub image: Vec<u8>,
     pub map: Vec<u16>,
     pub buffer: Vec<u8>,
     pub session: Session,
+    pub time: Time,
 }
 
 impl Desk {
@@ -27,6 +31,7 @@ impl Desk {
             map: vec![0; diskette::BLOCKS],
             buffer: vec![0; 128],
             session: Session::default(),
+            time: (17_849, 0x23, 0x59),
         };
         for entry in 0..64 {
             desk.entry_mut(entry).fill(0xE5);
@@ -65,6 +70,18 @@ impl Desk {
         &self.image[diskette::place(block, record)..][..128]
     }
 
+    /// What is asked for, with the time.
+    pub fn asked(&self, number: u8, argument: u8) -> Asked {
+        let (day, hour, minute) = self.time;
+        Asked {
+            number,
+            argument,
+            day,
+            hour,
+            minute,
+        }
+    }
+
     /// Makes a call with argument 0 and gives A and H.
     pub fn ask(&mut self, number: u8, fcb: &mut Fcb) -> (u8, u8) {
         self.ask_with(number, 0, fcb)
@@ -74,7 +91,7 @@ impl Desk {
     /// `refusal` foretells it, a refusal changes nothing, and an accepted call
     /// leaves a sound disk.
     pub fn ask_with(&mut self, number: u8, argument: u8, fcb: &mut Fcb) -> (u8, u8) {
-        let asked = Asked { number, argument };
+        let asked = self.asked(number, argument);
         let cause = self.cause(asked, fcb);
         let (before, fcb_before) = (self.clone(), *fcb);
         let Answer { a, h, session } = call(
@@ -103,12 +120,9 @@ impl Desk {
                 assert!(*fcb == fcb_before, "{cause:?} changed the FCB");
             }
             None => {
-                let space = Asked {
-                    number: 46,
-                    argument: 0,
-                };
+                let space = self.cause(self.asked(46, 0), &[0; 36]);
                 assert_eq!(h, 0);
-                assert_eq!(self.cause(space, &[0; 36]), None, "after call {number}");
+                assert_eq!(space, None, "after call {number}");
             }
         }
         (a, h)
@@ -128,11 +142,7 @@ impl Desk {
 
     /// Makes a call that has to be refused for `cause`.
     pub fn refuses(&mut self, number: u8, fcb: &Fcb, cause: Cause) {
-        let asked = Asked {
-            number,
-            argument: 0,
-        };
-        assert_eq!(self.cause(asked, fcb), Some(cause));
+        assert_eq!(self.cause(self.asked(number, 0), fcb), Some(cause));
         let mut lent = *fcb;
         assert_eq!(self.ask(number, &mut lent), cause.code());
     }

@@ -65,7 +65,7 @@ fn table(measure: fn(&str, Fullness) -> Option<Measured>) {
         let [library, reference] = SIDES;
         print!(" {}: {library} | {reference} | ratio |", fullness.name());
     }
-    println!("\n|---|{}", "---:|".repeat(9));
+    println!("\n|---|{}", "---:|".repeat(3 * Fullness::ALL.len()));
     let cases = CASES.iter().map(|case| case.name);
     let mut refused_any = false;
     for name in std::iter::once(JOB).chain(cases) {

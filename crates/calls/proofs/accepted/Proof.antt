@@ -1,11 +1,11 @@
--- `assured::accepted` meets its contract: H first, then A by the kind of the call.
+-- `calls::accepted` meets its contract: H first, then A by the kind of the call.
+use Rattle.table.specs.Accepted.{acceptedAnswer}
 use mathlib.Core.Path.{sym, _∙_}
 use borrow.Author.Needs.{needs}
 use borrow.Author.Tests.{eq-eqb, ne-eqb}
 use Rattle.lists.specs.Tests.{and-then, and-fails-left}
-use Rattle.effects.specs.Book.{acceptedAnswer}
-use Rattle.assured.proofs.accepted.Statement.{statement}
-use Rattle.assured.proofs.accepted.Tie as tie
+use Rattle.calls.proofs.accepted.Statement.{statement}
+use Rattle.calls.proofs.accepted.Tie as tie
 
 returns : tie.Need-returns
 unfolding acceptedAnswer

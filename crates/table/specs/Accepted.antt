@@ -1,4 +1,4 @@
--- A call was carried out exactly when its answer says so.
+-- What an answer says of its call: it was carried out exactly when A and H say so.
 use mathlib.Core.Path.{_≡_, refl, ap, sym, _∙_}
 use mathlib.Core.Bool.{Bool, true, false, not, cond}
 use mathlib.Core.List.{List, [], _∷_}
@@ -7,7 +7,7 @@ use native.Mathlib.Omega.{arith}
 use lib.Dec.{eqb}
 use borrow.Author.Tests.{eq-eqb, eqb-true, ne-eqb}
 use Rattle.lists.specs.Cases.{split, bool-cases, not-both, clash, cond-either}
-use Rattle.lists.specs.Tests.{and-both, and-then, and-fails-left}
+use Rattle.lists.specs.Tests.{_and_, and-both, and-then, and-fails-left}
 use Rattle.format.specs.Diskette.{Geometry}
 use Rattle.format.specs.declared.Found.{Found}
 use Rattle.model.specs.declared.Asked.{Asked}
@@ -21,10 +21,13 @@ use Rattle.model.specs.Lent.{Lent, Outcome, answerOf}
 use Rattle.model.specs.Kinds.{oneOf, kindOf, ofRecord}
 use Rattle.model.specs.Table.{callRows}
 use Rattle.model.specs.Step.{refusedSession, told, step}
 use Rattle.table.specs.Carried.{AnswersEntry, Done}
 use Rattle.table.specs.Refuse.{row-of, Refuses, unlisted, parameter, disk, own}
 use Rattle.table.specs.Total.{RefusedBy, CarriedOut, total}
-use Rattle.effects.specs.Book.{acceptedAnswer}
+
+-- the answer of an accepted call: H is 0, and A is 0 for the record calls, not 255 for the others
+unfoldable pub acceptedAnswer : ℕ → Answer → Bool
+acceptedAnswer n a = eqb (a .h) 0 and cond (ofRecord (kindOf n)) (eqb (a .a) 0) (not (eqb (a .a) 255))
 
 -- ---- a code that the table gives for a call is no acceptance
 -- every call of the list is of records

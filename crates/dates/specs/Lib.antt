@@ -1,0 +1,2 @@
+pub mod Bcd
+pub mod Label
