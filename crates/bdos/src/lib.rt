@@ -75,15 +75,6 @@ pub fn call(
     if number == 13 {
         return plain::log_in(map, &marks, session);
     }
-    passed_call(
-        kind,
-        asked,
-        image,
-        map,
-        fcb,
-        buffer,
-        session,
-        &chain,
-        aside[0],
-    )
+    let label = aside[0];
+    passed_call(kind, asked, image, map, fcb, buffer, session, &chain, label)
 }

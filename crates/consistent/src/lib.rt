@@ -36,7 +36,7 @@ fn take_dates(e: usize, aside: &mut [u8]) -> bool
     true
 }
 
-// Whether entry e, whose row r is no date entry either, is the first label, and right. Then byte 0 notes it down.
+// Whether entry e, whose row r is no right date entry, is the first label, and right. Then byte 0 notes it down.
 fn take_label(e: usize, r: &[u8], aside: &mut [u8]) -> bool
     requires { ⌜ (e < eightInch .entries) × (entryBytes ≤ length (now r)) × (length (now aside) ≡ 2) ⌝ }
     ensures { λ b. ⌜ (b ≡ (eqb (getD (now (aside .entry)) 0 0) 0 and labelRight (now (r .entry))))
@@ -49,7 +49,7 @@ fn take_label(e: usize, r: &[u8], aside: &mut [u8]) -> bool
     dates::label_right(r)
 }
 
-// Whether entry e passes as a date entry or a label; its row r is neither empty nor a file's.
+// Whether entry e passes as a date entry or a label; its row r is neither empty nor right as a file's.
 fn take_aside(e: usize, r: &[u8], aside: &mut [u8]) -> bool
     requires { ⌜ (e < eightInch .entries) × (entryBytes ≤ length (now r)) × (length (now aside) ≡ 2) ⌝ }
     ensures { λ b. ⌜ (b ≡ asideTaken e (now (r .entry)) (now (aside .entry)))

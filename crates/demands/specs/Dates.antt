@@ -166,7 +166,11 @@ module _ {G : Geometry} (S : Sound G) (asked : Asked) (l : Lent) (s : Session) (
     close-miss f was n = only-miss (update f (timeStamp asked)) e which was (stampsUpdate f) n
 
     -- 16
-    module _ (f : ℕ) (closes : kindOf (asked .number) ≡ Close) (found : presentEntry G (s .user) l ≡ At f) where
+    module _ (f : ℕ) (sixteen : asked .number ≡ 16) (found : presentEntry G (s .user) l ≡ At f) where
+      closes : kindOf (asked .number) ≡ Close
+      unfolding kindOf
+      closes = ap kindOf sixteen
+
       closed : stampsBy G asked l s Close ≡ closeStamps G asked l s f
       closed = rw found
 
@@ -209,7 +213,11 @@ module _ {G : Geometry} (S : Sound G) (asked : Asked) (l : Lent) (s : Session) (
         make-else n m = both ∙ new-miss t e which _ n ∙ close-miss f (before e which) m
 
     -- 22 made f
-    module _ (f : ℕ) (makes : kindOf (asked .number) ≡ Create) (found : findEmpty G (rowsOf G l) ≡ At f) where
+    module _ (f : ℕ) (twenty-two : asked .number ≡ 22) (found : findEmpty G (rowsOf G l) ≡ At f) where
+      makes : kindOf (asked .number) ≡ Create
+      unfolding kindOf
+      makes = ap kindOf twenty-two
+
       created : stampsBy G asked l s Create ≡ newStamps G asked l s f ++ onlyIf (asks G (rowsOf G l) asksCreate) (first f (timeStamp asked))
       unfolding createStamps
       created = rw found

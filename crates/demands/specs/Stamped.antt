@@ -89,13 +89,13 @@ module _ {G : Geometry} (S : Sound G) (asked : Asked) (l : Lent) (s : Session) (
   abbrev NamedIn : Bytes → ℕ → Type 0
   NamedIn img e = names (asked .number) (s .user) (l .fcb) (entryAt G img e) ≡ true
 
-  abbrev Theirs : Bytes → ℕ → Type 0
-  Theirs img e = NamedIn (l .drive .image) e ⊎ NamedIn img e
+  abbrev NamedEver : Bytes → ℕ → Type 0
+  NamedEver img e = NamedIn (l .drive .image) e ⊎ NamedIn img e
 
-  abbrev Beside : Bytes → Stamp → Type 0
-  Beside img x = Theirs img (x .entry)
+  abbrev BesideNamed : Bytes → Stamp → Type 0
+  BesideNamed img x = NamedEver img (x .entry)
 
-  by : (img : Bytes) (e which : ℕ) (b : Bytes) → which < 2 → StampOk b → Theirs img e → Beside img (record { entry = e; which = which; bytes = b })
+  by : (img : Bytes) (e which : ℕ) (b : Bytes) → which < 2 → StampOk b → NamedEver img e → BesideNamed img (record { entry = e; which = which; bytes = b })
   by img e which b w o h = h
 
   named-by : Named (asked .number) → (r : Bytes) → byName (s .user) (l .fcb) r ≡ true → names (asked .number) (s .user) (l .fcb) r ≡ true
@@ -107,7 +107,7 @@ module _ {G : Geometry} (S : Sound G) (asked : Asked) (l : Lent) (s : Session) (
       named-by m (rowsOf G l e)
       (cur-named G (viewOf G (l .drive .image) (l .drive .map)) (s .user) (fits .user-low) (l .fcb) e (present-cur S (asked .number) l s g fits e q WritesNone))
 
-  open-beside : (img : Bytes) → Each (Beside img) (stampsBy G asked l s Quiet)
+  open-beside : (img : Bytes) → Each (BesideNamed img) (stampsBy G asked l s Quiet)
   unfolding askedEntry usesFcb wild
   open-beside img =
       split (bool-cases (eqb (asked .number) 15))
@@ -115,30 +115,30 @@ module _ {G : Geometry} (S : Sound G) (asked : Asked) (l : Lent) (s : Session) (
       let o = opens-of G asked l s (subst (λ (n : ℕ). NoneHolds (ownRows G (calling n asked) l s)) n (c .none)) in
       let m : Named (asked .number) = subst Named (sym n) (record { uses = refl; plain = refl }) in
       let h = file-says G (rowsOf G l) (s .user) (l .fcb) 1 (exOf (l .fcb)) (o .entry .place) (o .entry .is) in
-      rw (t, o .entry .is) (access-each S asked l s c g (Beside img) (Theirs img) (by img) (o .entry .place)
+      rw (t, o .entry .is) (access-each S asked l s c g (BesideNamed img) (NamedEver img) (by img) (o .entry .place)
       (inl (named-by m (rowsOf G l (o .entry .place)) (file-named G (s .user) (l .fcb) 1 (exOf (l .fcb)) (rowsOf G l (o .entry .place)) (h .holds))))))
       (λ t. rw t tt)
 
-  create-beside : kindOf (asked .number) ≡ Create → Makes G l s → Each (Beside (created G s l .lent .drive .image)) (stampsBy G asked l s Create)
+  create-beside : kindOf (asked .number) ≡ Create → Makes G l s → Each (BesideNamed (created G s l .lent .drive .image)) (stampsBy G asked l s Create)
   unfolding created createdAt
   create-beside q w =
       let t : ℕ = w .entry .place in
       let row : Bytes = madeRow (s .user) (l .fcb) in
       let img : Bytes = createdAt G s l t .lent .drive .image in
       let found = empty-says G (rowsOf G l) t (w .entry .is) in
-      rw (w .entry .is) (create-each S asked l s c g (Beside img) (Theirs img) (by img) t
+      rw (w .entry .is) (create-each S asked l s c g (BesideNamed img) (NamedEver img) (by img) t
       (inr (named-by (named-create (asked .number) q) (entryAt G img t)
       (ap (byName (s .user) (l .fcb)) (entry-stored S (l .drive .image) (g .image-long) t (found .below) row (length-madeRow (s .user) (l .fcb)))
       ∙ named-intro false (s .user) (l .fcb) 1 row (user-made (s .user) (l .fcb)) (like-intro (l .fcb) 1 row 1 (λ i h. sym (name-made (s .user) (l .fcb) i h)))))))
 
   -- a record call that came to an entry of the file
   move-beside : (img : Bytes) (B : ℕ → Type 0) (p : Plan) → Named (asked .number) → Planned G (asked .number) (s .user) l B p
-      → byName (s .user) (l .fcb) (entryAt G img (entryOf p)) ≡ true → Each (Beside img) (moveStamps G asked l s p)
+      → byName (s .user) (l .fcb) (entryAt G img (entryOf p)) ≡ true → Each (BesideNamed img) (moveStamps G asked l s p)
   move-beside img B p m w mine =
-      move-each S asked l s c g (Beside img) (Theirs img) (by img) B p w (λ e h. inl (present m e h))
+      move-each S asked l s c g (BesideNamed img) (NamedEver img) (by img) B p w (λ e h. inl (present m e h))
       (λ t room q. inr (named-by m (entryAt G img t) (subst (λ (x : ℕ). byName (s .user) (l .fcb) (entryAt G img x) ≡ true) q mine)))
 
-  beside : (k : Kind) → kindOf (asked .number) ≡ k → Each (Beside (does G asked l s k .lent .drive .image)) (stampsBy G asked l s k)
+  beside : (k : Kind) → kindOf (asked .number) ≡ k → Each (BesideNamed (does G asked l s k .lent .drive .image)) (stampsBy G asked l s k)
   beside Unlisted q = tt
   beside Quiet q = open-beside _
   beside Search q = tt
@@ -146,7 +146,7 @@ module _ {G : Geometry} (S : Sound G) (asked : Asked) (l : Lent) (s : Session) (
   beside Settle q = tt
   beside Close q =
       let e = closes-of G asked l s (c .none) q .entry in
-      rw (e .is) (close-each S asked l s c g (Beside _) (Theirs _) (by _) (e .place) (inl (present (named-close (asked .number) q) (e .place) (e .is))))
+      rw (e .is) (close-each S asked l s c g (BesideNamed _) (NamedEver _) (by _) (e .place) (inl (present (named-close (asked .number) q) (e .place) (e .is))))
   beside Delete q = tt
   beside Create q = create-beside q (makes-of G asked l s (c .none) q)
   beside Rename q = tt
@@ -194,7 +194,7 @@ module _ {G : Geometry} (S : Sound G) (asked : Asked) (l : Lent) (s : Session) (
         (names-used (asked .number) (s .user) (l .fcb) (fits .user-low))
 
     -- what is named after the own rule is so at the end
-    at-end : (ys : List Stamp) → Each (Placed G) ys → Each (Beside (own .drive .image)) ys → Each (Beside (end .lent .drive .image)) ys
+    at-end : (ys : List Stamp) → Each (Placed G) ys → Each (BesideNamed (own .drive .image)) ys → Each (BesideNamed (end .lent .drive .image)) ys
     at-end [] a b = tt
     at-end (y ∷ ys) a b = (split (b .0) (λ h. inl h) (λ h. inr (stay (y .entry) (a .0 .below) h)), at-end ys (a .1) (b .1))
 
@@ -207,12 +207,12 @@ module _ {G : Geometry} (S : Sound G) (asked : Asked) (l : Lent) (s : Session) (
     -- the bytes that the rule changed lie where they lay, and the rest are those of stamps
     bytes : Bytewise G (l .drive .image) (end .lent .drive .image) (names (asked .number) (s .user) (l .fcb)) (MayWrite G (asked .number) l s end)
     bytes i =
-        split (stamps-bytes S (own .drive .map) (Theirs (end .lent .drive .image)) xs (own .drive .image) (w .good) own-dates each (at-end xs each (beside k q)) i)
+        split (stamps-bytes S (own .drive .map) (NamedEver (end .lent .drive .image)) xs (own .drive .image) (w .good) own-dates each (at-end xs each (beside k q)) i)
         (λ p. split (own-bytes i) (λ r. inl (p ∙ r)) (λ r. inr (by-rule (where-after G (names (asked .number) (s .user) (l .fcb)) (l .drive .image) (l .drive .map) (own .drive .image) (own .drive .map)
         (end .lent .drive .image) (w .effect) (w .aside) (MayWrite G (asked .number) l s end) stay i r))))
         (λ p. inr (out p))
       where
-        out : Lies G (Theirs (end .lent .drive .image)) i
+        out : Lies G (NamedEver (end .lent .drive .image)) i
             → Where G (l .drive .image) (end .lent .drive .image) (names (asked .number) (s .user) (l .fcb)) (MayWrite G (asked .number) l s end) i
         out (lies e which r h) = in-stamp e which r (dates-beside S (l .drive .image) (l .drive .map) g dates e (r .low)) h
 
