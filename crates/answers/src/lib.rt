@@ -47,6 +47,7 @@ fn line_of(code: Code) -> Line
         Code::NotListed => Line(255, 255, false),
         Code::BadParameter => Line(255, 4, false),
         Code::BadDisk => Line(255, 1, false),
+        Code::Protected => Line(255, 2, false),
         Code::BadRecord => Line(6, 0, false),
         Code::NotCurrent => Line(9, 0, false),
         Code::Failed => Line(255, 0, false),

@@ -8,8 +8,8 @@ ghost use Rattle.model.specs.Lent.{lend, outcome};
 ghost use Rattle.model.specs.Step.{step};
 ghost use Rattle.table.specs.Own.{calling};
 ghost use Rattle.targets.specs.Target.{TargetOf};
-ghost use Rattle.script.specs.Script.{request, requests, diskOf};
-ghost use Rattle.assured.specs.Demands.{logIn, writesAnswer, targetSet, Told, Framed, LoggedIn, ReadsBack};
+ghost use Rattle.script.specs.Script.{request, acts, diskOf};
+ghost use Rattle.assured.specs.Demands.{logIn, writesAnswer, targetSet, Told, Framed, LoggedIn, Untouched, ReadsBack};
 use model::Answer;
 use model::Asked;
 use model::Session;
@@ -56,8 +56,7 @@ fn wrote(number: u8, answer: Answer) -> bool
     false
 }
 
-// Demand 3, of `call` itself: a log-in, with whatever is asked besides its number, and, where it is accepted, the calls of any script,
-// and nothing is lost.
+// Demand 3, of `call` itself: a log-in, with whatever is asked besides its number, and, where it is accepted, any script, and nothing is lost.
 pub fn log_in_and_run(
     asked: Asked,
     fcb: &mut [u8],
@@ -70,7 +69,7 @@ pub fn log_in_and_run(
     session: Session,
 ) -> Ran
     ensures { λ r. ⌜ LoggedIn (diskOf (now (image .entry)) (now (map .entry)) session) (logIn asked (now (fcb .entry)) (now (buffer .entry)))
-        (requests (now (script .entry)) (now (fcbs .entry)) (now (buffers .entry)))
+        (acts (now (script .entry)) (now (fcbs .entry)) (now (buffers .entry)))
         (r .accepted) (diskOf (now (image .exit)) (now (map .exit)) (r .session)) (now (fcb .exit)) (now (buffer .exit)) ⌝ }
 {
     let mut login = asked;
@@ -87,6 +86,23 @@ pub fn log_in_and_run(
         accepted: true,
         session: script::run_calls(script, fcbs, buffers, image, map, s),
     }
+}
+
+// Request [12], of the exports themselves: the protection is set, and then any script is made. Where that never lifts it, no byte of the image
+// changes, and where it has neither 13 nor 98 none of the map.
+pub fn run_protected(
+    script: &[usize],
+    fcbs: &mut [u8],
+    buffers: &mut [u8],
+    image: &mut [u8],
+    map: &mut [u16],
+    session: Session,
+) -> Session
+    ensures { λ r. ⌜ Untouched (diskOf (now (image .entry)) (now (map .entry)) session)
+        (acts (now (script .entry)) (now (fcbs .entry)) (now (buffers .entry))) (diskOf (now (image .exit)) (now (map .exit)) r) ⌝ }
+{
+    let shut = benzokamuri::benzo_protect(session);
+    script::run_calls(script, fcbs, buffers, image, map, shut)
 }
 
 // The target of a record call; any, where the FCB has another length than 36, with which every call is refused.
@@ -126,8 +142,8 @@ fn read_again(
     bdos::call(read, image, map, fcb, back, session)
 }
 
-// Demand 2, of `call` itself: a call and, where it is a write and accepted, the calls of any script and call 33 for the record written,
-// with whatever is asked besides its number. Where these calls leave the file alone, back has 128 bytes and the time asked with 33 is in
+// Demand 2, of `call` itself: a call and, where it is a write and accepted, any script and call 33 for the record written, with whatever is
+// asked besides its number. Where the script leaves the file alone, back has 128 bytes and the time asked with 33 is in
 // BCD, 33 is accepted and gives the bytes that were written.
 pub fn write_and_read(
     asked: Asked,
@@ -143,7 +159,7 @@ pub fn write_and_read(
     session: Session,
 ) -> ReadBack
     ensures { λ r. ⌜ ReadsBack (diskOf (now (image .entry)) (now (map .entry)) session)
-        (request asked (now (fcb .entry)) (now (written .entry))) (requests (now (script .entry)) (now (fcbs .entry)) (now (buffers .entry)))
+        (request asked (now (fcb .entry)) (now (written .entry))) (acts (now (script .entry)) (now (fcbs .entry)) (now (buffers .entry)))
         again (now (back .entry)) r (now (image .exit)) (now (map .exit)) (now (fcb .exit)) (now (written .exit)) (now (back .exit)) ⌝ }
 {
     let target = target_of(asked.number, fcb);

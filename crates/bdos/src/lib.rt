@@ -1,24 +1,56 @@
-// The entry point: one call, from its number to its answer. The first three rows of the table are decided here, in their order; then
-// the call goes to its own function, and its stamps are put.
+// The entry point: one call, from its number to its answer. The rows that come before the calls' own are decided here, in their order, but for the
+// protection of a read, which its own function asks for; then the call goes to that function, and its stamps are put.
 ghost use mathlib.Core.Path.{_≡_};
-ghost use mathlib.Core.Bool.{true};
+ghost use mathlib.Core.Bool.{true, false};
 ghost use Rattle.format.specs.Diskette.{eightInch};
 ghost use Rattle.format.specs.Entries.{entryAt};
-ghost use Rattle.model.specs.Kinds.{kindOf, isCall};
-ghost use Rattle.model.specs.Lent.{lend, outcome};
+ghost use Rattle.model.specs.Kinds.{kindOf, isCall, oneOf};
+ghost use Rattle.model.specs.Lent.{lend, outcome, protected};
 ghost use Rattle.model.specs.Step.{step};
 ghost use Rattle.dates.specs.Label.{Labelled};
 ghost use Rattle.chains.specs.Chain.{Indexed};
 ghost use Rattle.table.specs.Facts.{Ready};
+ghost use Rattle.table.specs.Protection.{writers};
 use model::Answer;
 use model::Asked;
 use model::Code;
 use model::Kind;
 use model::Session;
 
-// A call other than 13 that the first three rows have passed: its own function and, on a disk with date entries, its stamps, which are
-// told from the state as it came and put once the call is done.
+// A call other than 13 that the first three rows have passed, and the protection one that writes: its own function and, on a disk with date
+// entries, its stamps, which are told from the state as it came and put once the call is done.
 fn passed_call(
+    kind: Kind,
+    asked: Asked,
+    image: &mut [u8],
+    map: &mut [u16],
+    fcb: &mut [u8],
+    buffer: &mut [u8],
+    session: Session,
+    chain: &[u8],
+    label: u8,
+) -> Answer
+    requires { ⌜ (kind ≡ kindOf (asked .number)) × (isCall (asked .number) ≡ true) × (asked .number ≡ 13 → ⊥)
+        × Ready eightInch asked (lend (now image) (now map) (now fcb) (now buffer)) session
+        × (protected session ≡ true → oneOf (asked .number) writers ≡ false)
+        × Indexed eightInch (entryAt eightInch (now image)) (now chain)
+        × Labelled (entryAt eightInch (now image)) (eightInch .entries) label ⌝ }
+    ensures { λ r. ⌜ outcome r (now (image .exit)) (now (map .exit)) (now (fcb .exit)) (now (buffer .exit))
+        ≡ step eightInch asked (lend (now (image .entry)) (now (map .entry)) (now (fcb .entry)) (now (buffer .entry))) session ⌝ }
+{
+    let dated = dates::is_dated(image);
+    let due = stamping::due(dated, kind, asked, image, map, fcb, session, chain, label);
+    let answer = dispatch::own_call(kind, asked, image, map, fcb, buffer, session, chain);
+    if !dated {
+        return answer;
+    }
+    stamps::put_accepted(image, asked, answer, due);
+    answer
+}
+
+// A call other than 13 that the first three rows have passed: a protected session refuses those that write, and the others go on. Whether it refuses
+// a read is told where the read is planned.
+fn ready_call(
     kind: Kind,
     asked: Asked,
     image: &mut [u8],
@@ -36,14 +68,10 @@ fn passed_call(
     ensures { λ r. ⌜ outcome r (now (image .exit)) (now (map .exit)) (now (fcb .exit)) (now (buffer .exit))
         ≡ step eightInch asked (lend (now (image .entry)) (now (map .entry)) (now (fcb .entry)) (now (buffer .entry))) session ⌝ }
 {
-    let dated = dates::is_dated(image);
-    let due = stamping::due(dated, kind, asked, image, map, fcb, session, chain, label);
-    let answer = dispatch::own_call(kind, asked, image, map, fcb, buffer, session, chain);
-    if !dated {
-        return answer;
+    if protection::refuses(kind, session) {
+        return answers::refuse(Code::Protected, session);
     }
-    stamps::put_accepted(image, asked, answer, due);
-    answer
+    passed_call(kind, asked, image, map, fcb, buffer, session, chain, label)
 }
 
 // One call, whatever it is handed: any number, lengths, bytes and session.
@@ -76,5 +104,5 @@ pub fn call(
         return plain::log_in(map, &marks, session);
     }
     let label = aside[0];
-    passed_call(kind, asked, image, map, fcb, buffer, session, &chain, label)
+    ready_call(kind, asked, image, map, fcb, buffer, session, &chain, label)
 }

@@ -1,5 +1,5 @@
--- Demand 2 speaks of something too: a write through a current FCB of a writable entry is accepted where a block is free; so are a
--- log-in, a make and a write on an erased disk, one after the other.
+-- Demand 2 speaks of something too: a write through a current FCB of a writable entry is accepted where the protection is lifted and a block is
+-- free; so are a log-in and, once the protection is lifted, a make and a write on an erased disk, one after the other.
 use mathlib.Core.Path.{_≡_, refl, ap, sym, _∙_, subst}
 use mathlib.Core.Bool.{true, false}
 use Prim.Native.Nat.{ℕ, _≤_, _<_}
@@ -23,7 +23,7 @@ use Rattle.rows.specs.Entries.{entry-stored}
 use Rattle.facts.specs.Find.{empty-says, none-empty-says, no-file-is}
 use Rattle.model.specs.declared.Asked.{Asked}
 use Rattle.model.specs.declared.Session.{Session}
-use Rattle.model.specs.Lent.{Lent, rowsOf, Outcome}
+use Rattle.model.specs.Lent.{Lent, rowsOf, Outcome, protected}
 use Rattle.model.specs.Entering.{madeRow}
 use Rattle.model.specs.Target.{targetExtent, presentEntry, stays, targetEntry, readOnlyThere}
 use Rattle.model.specs.Kinds.{kindOf, isCall, usesFcb, isRandom}
@@ -37,6 +37,7 @@ use Rattle.consistency.specs.Reflect.{low-used}
 use Rattle.fields.specs.Target.{extent-within}
 use Rattle.fields.specs.Erased.{ErasedDisk, erased-empty, erased-unused, erased-unlisted}
 use Rattle.table.specs.Own.{calling}
+use Rattle.table.specs.Protection.{lifted-open}
 use Rattle.table.specs.Facts.{Fits, Writes, Makes}
 use Rattle.table.specs.Accept.{passes, makes-of, makes-right, writes-right}
 use Rattle.table.specs.Present.{stays-within, target-present, numbers-extent}
@@ -50,12 +51,12 @@ use Rattle.demands.specs.Stamped.{stampedAs, stamped-as, cur-on, row-on,
 use Rattle.demands.specs.StillCurrent.{created-cur}
 use Rattle.demands.specs.NothingLost.{booked-login, logged-in}
 use Rattle.demands.specs.Erased.{erased-accepted}
-use Rattle.demands.specs.Runs.{Request, Disk, lentTo, outcomeOf, left, accepts, after}
+use Rattle.demands.specs.Runs.{Request, Disk, lentTo, outcomeOf, left, accepts, after, lifted}
 
 -- ---- a write that nothing stands against
 module _ {G : Geometry} (S : Sound G) (asked : Asked) (number : asked .number ≡ 21) (l : Lent) (s : Session) (g : Good G (l .drive .image) (l .drive .map)) (fits : Fits G l s)
     (time : timeRight asked ≡ true) (drive : getD (l .fcb) 0 0 ≤ 1) (e : ℕ) (cur : Cur G (viewOf G (l .drive .image) (l .drive .map)) (s .user) (l .fcb) e)
-    (writable : readOnly (rowsOf G l e) ≡ false) (cr : crOf (l .fcb) < 128) (free : FoundAt (findFree G (l .drive .map))) where
+    (writable : readOnly (rowsOf G l e) ≡ false) (cr : crOf (l .fcb) < 128) (free : FoundAt (findFree G (l .drive .map))) (unprotected : protected s ≡ false) where
   at : presentEntry G (s .user) l ≡ At e
   unfolding presentEntry
   at = cur-current G (l .drive .image) (l .drive .map) (s .user) (l .fcb) e (g .inv .dir) (fits .user-low) cur
@@ -90,10 +91,12 @@ module _ {G : Geometry} (S : Sound G) (asked : Asked) (number : asked .number �
   write-accepted =
       total-accepted G asked l s
       (ap (λ (n : ℕ). verdict G (calling n asked) l s) number ∙ passes G (calling 21 asked) l s refl
-      record { fits = fits; time = time; drive = λ u. drive; image-right = good-consistent G (l .drive .image) (l .drive .map) g; map-right = λ q. good-right G (l .drive .image) (l .drive .map) g } (writes-right G asked l s writes))
+      record { fits = fits; time = time; drive = λ u. drive; image-right = good-consistent G (l .drive .image) (l .drive .map) g; map-right = λ q. good-right G (l .drive .image) (l .drive .map) g }
+      (lifted-open G (calling 21 asked) l s unprotected) (writes-right G asked l s writes))
 
 -- ---- a make, and a write through the FCB that it handed back
-module _ {G : Geometry} (S : Sound G) (d : Disk) (q : Request) (number : q .asked .number ≡ 22) (accepted : accepts G d q ≡ true) (cr : crOf (q .fcb) < 128) where
+module _ {G : Geometry} (S : Sound G) (d : Disk) (q : Request) (number : q .asked .number ≡ 22) (accepted : accepts G d q ≡ true) (cr : crOf (q .fcb) < 128)
+    (unprotected : protected (d .session) ≡ false) where
   abbrev l : Lent
   l = lentTo d q
 
@@ -167,7 +170,7 @@ module _ {G : Geometry} (S : Sound G) (d : Disk) (q : Request) (number : q .aske
 
   written-next : (b : ℕ) → b < G .blocks → noteAt (l .drive .map) b ≡ freeNote
       → (w : Request) → w .asked .number ≡ 21 → w .fcb ≡ createdAt G (d .session) l t .lent .fcb → timeRight (w .asked) ≡ true → length (w .buffer) ≡ recordBytes → accepts G made w ≡ true
-  unfolding made outcomeOf created createdAt t
+  unfolding made outcomeOf created createdAt t protected
   written-next b h z w n fcb time buffer =
       let row : Bytes = madeRow (d .session .user) (l .fcb) in
       let hf : 32 ≤ length (l .fcb) = (let k : length (l .fcb) ≡ 36 = fits .fcb-long in omega arith) in
@@ -185,7 +188,7 @@ module _ {G : Geometry} (S : Sound G) (d : Disk) (q : Request) (number : q .aske
       time (rw (fcb, first-copied (l .fcb) row hf hr) drive) t
       (rw fcb new-cur)
       (ap readOnly new-row ∙ readOnly-made (d .session .user) (l .fcb))
-      (rw (fcb, rest-copied (l .fcb) row hf hr 36 32 (omega arith) (omega arith)) cr) (some-free b h z))
+      (rw (fcb, rest-copied (l .fcb) row hf hr 36 32 (omega arith) (omega arith)) cr) (some-free b h z) unprotected)
 
   -- a write through the FCB handed back, where a block is free
   pub make-then-write : (b : ℕ) → b < G .blocks → noteAt (d .drive .map) b ≡ freeNote
@@ -211,10 +214,10 @@ module _ {G : Geometry} (S : Sound G) (some : 0 < G .entries) where
       fresh-at G (entryAt G img) (G .area) (S .area-below)
       ∙ rw (le-ltb (G .area) (G .area) (omega arith), erased-unlisted G img erased (G .area) (λ z. omega (arith, S .area-some)))
 
-  made-on : (d : Disk) → ErasedDisk G (d .drive .image) → Good G (d .drive .image) (d .drive .map) → InRange G (d .session) → (q : Request) → Asks q 22
+  made-on : (d : Disk) → ErasedDisk G (d .drive .image) → Good G (d .drive .image) (d .drive .map) → InRange G (d .session) → protected (d .session) ≡ false → (q : Request) → Asks q 22
       → getD (q .fcb) 0 0 ≤ 1 → nameRight false (q .fcb) 1 ≡ true → exOf (q .fcb) ≤ 31 → accepts G d q ≡ true
   unfolding outcomeOf askedEntry isCall kindOf timeRight
-  made-on d erased good range q a drive name ex =
+  made-on d erased good range unprotected q a drive name ex =
       carried-says G (q .asked) (lentTo d q) (d .session)
       (total-accepted G (q .asked) (lentTo d q) (d .session)
       (ap (λ (n : ℕ). verdict G (calling n (q .asked)) (lentTo d q) (d .session)) (a .number)
@@ -226,6 +229,7 @@ module _ {G : Geometry} (S : Sound G) (some : 0 < G .entries) where
         image-right = good-consistent G (d .drive .image) (d .drive .map) good;
         map-right = λ z. good-right G (d .drive .image) (d .drive .map) good;
       }
+      (lifted-open G (calling 22 (q .asked)) (lentTo d q) (d .session) unprotected)
       (makes-right G (q .asked) (lentTo d q) (d .session) record {
         name = name;
         ex = ex;
@@ -241,20 +245,21 @@ module _ {G : Geometry} (S : Sound G) (some : 0 < G .entries) where
           (file-used G (d .session .user) (q .fcb) 1 (exOf (q .fcb)) (entryAt G (d .drive .image) e) t (range .user)) (erased-unused G (d .drive .image) erased e h))
           (λ f. f)
 
-  -- log in, make a file, write its first record
+  -- log in, lift the protection, make a file, write its first record
   pub erased-begins : (d : Disk) → ErasedDisk G (d .drive .image) → length (d .drive .map) ≡ G .blocks → InRange G (d .session)
       → (login make write : Request) → Asks login 13 → Asks make 22 → getD (make .fcb) 0 0 ≤ 1 → nameRight false (make .fcb) 1 ≡ true → exOf (make .fcb) ≤ 31 → crOf (make .fcb) < 128
-      → Asks write 21 → write .fcb ≡ outcomeOf G (after G d login) make .lent .fcb
-      → (accepts G d login ≡ true) × (accepts G (after G d login) make ≡ true) × (accepts G (after G (after G d login) make) write ≡ true)
-  unfolding after loggedIn
+      → Asks write 21 → write .fcb ≡ outcomeOf G (lifted (after G d login)) make .lent .fcb
+      → (accepts G d login ≡ true) × (accepts G (lifted (after G d login)) make ≡ true) × (accepts G (after G (lifted (after G d login)) make) write ≡ true)
+  unfolding after loggedIn protected
   erased-begins d erased map range login make write a b drive name ex cr c same =
       let first = erased-accepted S d login erased map range (a .number) (a .time) (a .fcb) (a .buffer) in
       let t = booked-login S d login (a .number) first in
       let o = logged-in G d login (a .number) first in
-      let second = made-on (after G d login) (subst (λ (x : Outcome). ErasedDisk G (x .lent .drive .image)) (sym o) erased) (t .good) (t .range) make b drive name ex in (
+      let in-range : InRange G (lifted (after G d login) .session) = record { user = t .range .user; place = t .range .place } in
+      let second = made-on (lifted (after G d login)) (subst (λ (x : Outcome). ErasedDisk G (x .lent .drive .image)) (sym o) erased) (t .good) in-range refl make b drive name ex in (
         first,
         second,
-        make-then-write S (after G d login) make (b .number) second cr (G .area) (S .area-below)
+        make-then-write S (lifted (after G d login)) make (b .number) second cr refl (G .area) (S .area-below)
             (ap (λ (x : Outcome). noteAt (x .lent .drive .map) (G .area)) o ∙ first-free (d .drive .image) erased)
             write (c .number) same (c .time) (c .buffer),
       )

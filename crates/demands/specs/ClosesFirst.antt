@@ -1,7 +1,7 @@
 -- Why no record call answers 3, 0: a move begins with a close, and that close is never refused. Where 20, 21, 33 or 34 answers none of the codes
--- that are tested up to and with "FCB not current" (a wrong parameter, a damaged disk, a random record that is too large, an FCB that is not
--- current), whatever else it answers, call 16 on the same disk, with the same FCB, is accepted; the disk that its rule leaves is the one on
--- which a move goes on, and its stamps are those with which the move's begin.
+-- that are tested up to and with "FCB not current" (a wrong parameter, a damaged disk, the protection, a random record that is too large, an FCB
+-- that is not current), whatever else it answers, call 16 on the same disk, with the same FCB and the protection lifted, is accepted; the disk that
+-- its rule leaves is the one on which a move goes on, and its stamps are those with which the move's begin.
 use mathlib.Core.Path.{_≡_, refl, ap, sym, _∙_}
 use mathlib.Core.Bool.{Bool, true, false, not}
 use mathlib.Core.List.{List, _∷_, _++_}
@@ -18,13 +18,13 @@ use Rattle.model.specs.declared.Asked.{Asked}
 use Rattle.model.specs.declared.Session.{Session}
 use Rattle.model.specs.declared.Answer.{Answer}
 use Rattle.model.specs.declared.Code.{Code}
-use Rattle.model.specs.declared.Code.the-variants.{BadParameter, BadDisk, BadRecord, NotCurrent}
+use Rattle.model.specs.declared.Code.the-variants.{BadParameter, BadDisk, Protected, BadRecord, NotCurrent}
 use Rattle.model.specs.declared.Kind.the-variants.{Close, Read, Write}
 use Rattle.model.specs.declared.Plan.{Plan}
 use Rattle.model.specs.declared.Plan.the-variants.{Stay, Move, Make}
 use Rattle.model.specs.Codes.{aOf, hOf}
 use Rattle.model.specs.Kinds.{kindOf, usesFcb, isCall, same, ofRecord}
-use Rattle.model.specs.Lent.{Lent, Drive, Outcome}
+use Rattle.model.specs.Lent.{Lent, Drive, Outcome, lift, protected}
 use Rattle.model.specs.Entering.{nextRow}
 use Rattle.model.specs.Target.{targetExtent, presentEntry, stays, targetEntry, planTo, planFrom, plan, moved, made}
 use Rattle.model.specs.Table.{timeRight, Row, when, firstRow, ownRows, verdict}
@@ -33,6 +33,7 @@ use Rattle.model.specs.Stamps.{Stamp, timeStamp, closeStamps, newStamps, moveSt
 use Rattle.model.specs.Step.{step}
 use Rattle.table.specs.First.{_&_, first-holds, first-passes}
 use Rattle.table.specs.Own.{calling, at-kind, same-is, verdict-rows}
+use Rattle.table.specs.Protection.{lifted-open}
 use Rattle.table.specs.Facts.{Ready}
 use Rattle.table.specs.Reflect.{ready-of}
 use Rattle.table.specs.Accept.{passes}
@@ -40,7 +41,7 @@ use Rattle.table.specs.Total.{CarriedOut, total-refused, total-accepted}
 use Rattle.table.specs.Accepted.{carried-says}
 use Rattle.table.specs.Stamping.{where-undated, record-stamps}
 use Rattle.demands.specs.Stamped.{stampedAs, stamped-as}
-use Rattle.demands.specs.Runs.{Request, Disk, lentTo, outcomeOf, accepts}
+use Rattle.demands.specs.Runs.{Request, Disk, lentTo, outcomeOf, accepts, lifted}
 
 -- an answer with this A and H
 abbrev pub IsAnswer : Answer → ℕ → ℕ → Type 0
@@ -50,10 +51,11 @@ IsAnswer r a h = (r .a ≡ a) × (r .h ≡ h)
 pub record PastCurrent (r : Answer) : Type 0 where
   pub parameter : IsAnswer r 255 4 → ⊥
   pub disk : IsAnswer r 255 1 → ⊥
+  pub protection : IsAnswer r 255 2 → ⊥
   pub random : IsAnswer r 6 0 → ⊥
   pub current : IsAnswer r 9 0 → ⊥
 
--- call 16 with the FCB, and all else, of another call
+-- call 16 with the FCB, and all else, of another call; it is made with the protection lifted
 abbrev pub toClose : Request → Request
 toClose q = record { asked = calling 16 (q .asked); fcb = q .fcb; buffer = q .buffer }
 
@@ -66,7 +68,7 @@ goesTo q = targetExtent (q .asked .number) (q .fcb)
 
 -- the disk that the rule of 16 leaves, before its stamps
 abbrev pub closedDrive : Geometry → Disk → Request → Drive
-closedDrive G d q = closed G (d .session) (lentTo d q) .lent .drive
+closedDrive G d q = closed G (lift (d .session)) (lentTo d q) .lent .drive
 
 -- the stamps of a call, on a disk with date entries
 abbrev pub stampsOf : Geometry → Disk → Request → List Stamp
@@ -76,16 +78,16 @@ stampsOf G d q = stampsBy G (q .asked) (lentTo d q) (d .session) (kindOf (q .ask
 -- those of a move to an entry that is there and, once the new row is put in its place, those of a move that makes one; and the move stamps what
 -- the close stamps, and then, if it makes an entry, that one
 pub record ClosesFirst (G : Geometry) (d : Disk) (q : Request) : Type 0 where
-  pub accepted : accepts G d (toClose q) ≡ true
-  pub is : outcomeOf G d (toClose q) ≡ stampedAs G (calling 16 (q .asked)) (lentTo d q) (d .session) Close
+  pub accepted : accepts G (lifted d) (toClose q) ≡ true
+  pub is : outcomeOf G (lifted d) (toClose q) ≡ stampedAs G (calling 16 (q .asked)) (lentTo d q) (lift (d .session)) Close
   -- without date entries that is what its rule leaves
-  pub undated : dated (entryAt G (d .drive .image)) ≡ false → outcomeOf G d (toClose q) .lent .drive ≡ closedDrive G d q
+  pub undated : dated (entryAt G (d .drive .image)) ≡ false → outcomeOf G (lifted d) (toClose q) .lent .drive ≡ closedDrive G d q
   pub moves : (e t b : ℕ) → planOf G d q ≡ Move e t b
-      → (moved G (goesTo q) (lentTo d q) e t .drive ≡ closedDrive G d q) × (stampsOf G d q ≡ stampsOf G d (toClose q))
+      → (moved G (goesTo q) (lentTo d q) e t .drive ≡ closedDrive G d q) × (stampsOf G d q ≡ stampsOf G (lifted d) (toClose q))
   pub makes : (e t b : ℕ) → planOf G d q ≡ Make e t b
       → (made G (goesTo q) (lentTo d q) e t .drive
       ≡ record { image = withEntry G (closedDrive G d q .image) t (nextRow (entryAt G (closedDrive G d q .image) e) (goesTo q)); map = closedDrive G d q .map })
-      × (stampsOf G d q ≡ stampsOf G d (toClose q) ++ newStamps G (q .asked) (lentTo d q) (d .session) t)
+      × (stampsOf G d q ≡ stampsOf G (lifted d) (toClose q) ++ newStamps G (q .asked) (lentTo d q) (d .session) t)
 
 module _ (G : Geometry) (asked : Asked) (l : Lent) (s : Session) where
   -- a first row whose code is not the answer does not hold, and the rows behind it decide
@@ -105,17 +107,17 @@ module _ (G : Geometry) (asked : Asked) (l : Lent) (s : Session) where
   by-own t w =
       let p = past _ BadParameter _ (verdict-rows G asked l s t) (w .parameter) in
       let d = past _ BadDisk _ (p .1) (w .disk) in
-      record { ready = ready-of G asked l s (not-false _ (p .0)) (not-false _ (d .0)); rows = d .1 }
+      record { ready = ready-of G asked l s (not-false _ (p .0)) (not-false _ (d .0)); rows = past _ Protected _ (d .1) (w .protection) .1 }
 
 module _ (G : Geometry) (asked : Asked) (l : Lent) (s : Session) where
   abbrev CloseFollows : ℕ → Type 0
-  CloseFollows n = PastCurrent (step G (calling n asked) l s .answer) → CarriedOut G (calling 16 asked) l s
+  CloseFollows n = PastCurrent (step G (calling n asked) l s .answer) → CarriedOut G (calling 16 asked) l (lift s)
 
   -- 16 is ready where any call that uses the FCB is
-  close-ready : (n : ℕ) → usesFcb n ≡ true → Ready G (calling n asked) l s → Ready G (calling 16 asked) l s
+  close-ready : (n : ℕ) → usesFcb n ≡ true → Ready G (calling n asked) l s → Ready G (calling 16 asked) l (lift s)
   unfolding usesFcb timeRight
   close-ready n u r = record {
-    fits = r .fits;
+    fits = let f = r .fits in record { image-long = f .image-long; map-long = f .map-long; fcb-long = f .fcb-long; buffer-long = f .buffer-long; user-low = f .user-low; place-low = f .place-low };
     time = r .time;
     drive = λ z. r .drive u;
     image-right = r .image-right;
@@ -123,9 +125,10 @@ module _ (G : Geometry) (asked : Asked) (l : Lent) (s : Session) where
   }
 
   -- and its one row asks for a current FCB
-  close-carried : Ready G (calling 16 asked) l s → not (isFound (presentEntry G (s .user) l)) ≡ false → CarriedOut G (calling 16 asked) l s
-  unfolding isCall kindOf
-  close-carried r f = total-accepted G (calling 16 asked) l s (passes G (calling 16 asked) l s refl r (f & tt))
+  close-carried : Ready G (calling 16 asked) l (lift s) → not (isFound (presentEntry G (s .user) l)) ≡ false → CarriedOut G (calling 16 asked) l (lift s)
+  unfolding isCall kindOf protected
+  close-carried r f =
+      total-accepted G (calling 16 asked) l (lift s) (passes G (calling 16 asked) l (lift s) refl r (lifted-open G (calling 16 asked) l (lift s) refl) (f & tt))
 
   -- 20 and 21 test the FCB first
   after-sequential : (n : ℕ) (rs : List Row) → isCall n ≡ true → usesFcb n ≡ true
@@ -165,8 +168,8 @@ module _ (G : Geometry) (n user : ℕ) (l : Lent) where
   unfolding plan planFrom
   plan-closes = cond-either (λ (p : Plan). closedBy p ≡ numberOf (G .entries) (presentEntry G user l)) (stays n (l .fcb)) (λ t. refl) (λ f. to-closes _ (targetEntry G n user l))
 
--- the stamps of a close go by the time, not by the number of the call
-close-stamps : (G : Geometry) (asked : Asked) (l : Lent) (s : Session) (e : ℕ) → closeStamps G asked l s e ≡ closeStamps G (calling 16 asked) l s e
+-- the stamps of a close go by the time, not by the number of the call, nor by the protection
+close-stamps : (G : Geometry) (asked : Asked) (l : Lent) (s : Session) (e : ℕ) → closeStamps G asked l s e ≡ closeStamps G (calling 16 asked) l (lift s) e
 unfolding closeStamps timeStamp
 close-stamps G asked l s e = refl
 
@@ -179,15 +182,15 @@ closes-first G d q k w =
     let own : (p : Plan) → planOf G d q ≡ p → numberOf (G .entries) (presentEntry G (d .session .user) (lentTo d q)) ≡ closedBy p =
     λ p z. sym (plan-closes G (q .asked .number) (d .session .user) (lentTo d q)) ∙ ap closedBy z in
     let closes : (e : ℕ) → numberOf (G .entries) (presentEntry G (d .session .user) (lentTo d q)) ≡ e
-    → closeStamps G (q .asked) (lentTo d q) (d .session) e ≡ stampsOf G d (toClose q) =
-    λ e z. close-stamps G (q .asked) (lentTo d q) (d .session) e ∙ ap (closeStamps G (calling 16 (q .asked)) (lentTo d q) (d .session)) (sym z) in
-    let as-close = c .is ∙ stamped-as G (calling 16 (q .asked)) (lentTo d q) (d .session) Close refl in
+    → closeStamps G (q .asked) (lentTo d q) (d .session) e ≡ stampsOf G (lifted d) (toClose q) =
+    λ e z. close-stamps G (q .asked) (lentTo d q) (d .session) e ∙ ap (closeStamps G (calling 16 (q .asked)) (lentTo d q) (lift (d .session))) (sym z) in
+    let as-close = c .is ∙ stamped-as G (calling 16 (q .asked)) (lentTo d q) (lift (d .session)) Close refl in
     record {
-      accepted = carried-says G (calling 16 (q .asked)) (lentTo d q) (d .session) c;
+      accepted = carried-says G (calling 16 (q .asked)) (lentTo d q) (lift (d .session)) c;
       is = as-close;
       undated = λ n. ap (λ (o : Outcome). o .lent .drive) as-close
-          ∙ ap (λ (xs : List Stamp). stampedOutcome G xs (closed G (d .session) (lentTo d q)) .lent .drive)
-          (where-undated (dated (entryAt G (d .drive .image))) (stampsBy G (calling 16 (q .asked)) (lentTo d q) (d .session) Close) n);
+          ∙ ap (λ (xs : List Stamp). stampedOutcome G xs (closed G (lift (d .session)) (lentTo d q)) .lent .drive)
+          (where-undated (dated (entryAt G (d .drive .image))) (stampsBy G (calling 16 (q .asked)) (lentTo d q) (lift (d .session)) Close) n);
       moves = λ e t b z. (rw (own _ z), by ∙ ap (moveStamps G (q .asked) (lentTo d q) (d .session)) z ∙ closes e (own _ z));
       makes = λ e t b z. (
         rw (own _ z),

@@ -1,8 +1,8 @@
 -- The law of each stamp. On a disk with date entries, after an accepted call: beside a new entry the stamps are zero, but create is the time
--- after a 22 where the label asks; access after a 15, update after a close or move that changes the entry are the time where the label asks; every
--- other stamp is what it was.
+-- after a 22 where the label asks; access after a 15 on a session that is not protected, update after a close or move that changes the entry are the
+-- time where the label asks; every other stamp is what it was.
 use mathlib.Core.Path.{_≡_, refl, ap, sym, _∙_}
-use mathlib.Core.Bool.{Bool, true, false, cond}
+use mathlib.Core.Bool.{Bool, true, false, cond, not}
 use mathlib.Core.List.{List, [], _∷_, _++_}
 use Prim.Native.Nat.{ℕ, _%_, _<_}
 use native.Mathlib.Omega.{arith}
@@ -24,7 +24,7 @@ use Rattle.model.specs.declared.Kind.{Kind}
 use Rattle.model.specs.declared.Kind.the-variants.{Quiet, Settle, Close, Create}
 use Rattle.model.specs.declared.Code.{Code}
 use Rattle.model.specs.Kinds.{oneOf, kindOf, same, ofRecord}
-use Rattle.model.specs.Lent.{Lent, Outcome, rowsOf}
+use Rattle.model.specs.Lent.{Lent, Outcome, rowsOf, protected}
 use Rattle.model.specs.Table.{askedEntry}
 use Rattle.model.specs.Target.{presentEntry, plan}
 use Rattle.model.specs.Stamps.{Stamp, timeStamp, noStamp, first, update, onlyIf, accessStamps, closeStamps, newStamps, createStamps, moveStamps, stampsBy, stampedOutcome}
@@ -143,15 +143,19 @@ module _ {G : Geometry} (S : Sound G) (asked : Asked) (l : Lent) (s : Session) (
       unfolding kindOf
       opens = ap kindOf fifteen
 
-      opened : stampsBy G asked l s Quiet ≡ onlyIf (asks G (rowsOf G l) asksAccess) (first f (timeStamp asked))
+      -- the label asks, and the session is not protected
+      abbrev stampsAccess : Bool
+      stampsAccess = not (protected s) and asks G (rowsOf G l) asksAccess
+
+      opened : stampsBy G asked l s Quiet ≡ onlyIf stampsAccess (first f (timeStamp asked))
       unfolding accessStamps
       opened = let t : eqb (asked .number) 15 ≡ true = eq-eqb _ _ fifteen in rw (t, found)
 
-      pub access-stamp : f ≡ e → 0 ≡ which → after e which ≡ cond (asks G (rowsOf G l) asksAccess) (timeStamp asked) (before e which)
-      access-stamp p w = made-by Quiet opens _ opened ∙ only-hit (first f (timeStamp asked)) e which (before e which) (asks G (rowsOf G l) asksAccess) p w
+      pub access-stamp : f ≡ e → 0 ≡ which → after e which ≡ cond stampsAccess (timeStamp asked) (before e which)
+      access-stamp p w = made-by Quiet opens _ opened ∙ only-hit (first f (timeStamp asked)) e which (before e which) stampsAccess p w
 
       pub access-else : ((f ≡ e) × (0 ≡ which) → ⊥) → after e which ≡ before e which
-      access-else n = made-by Quiet opens _ opened ∙ only-miss (first f (timeStamp asked)) e which (before e which) (asks G (rowsOf G l) asksAccess) n
+      access-else n = made-by Quiet opens _ opened ∙ only-miss (first f (timeStamp asked)) e which (before e which) stampsAccess n
 
     -- f is closed: its update is stamped where the label asks and the close changes it
     abbrev stampsUpdate : ℕ → Bool

@@ -16,7 +16,7 @@ use Rattle.disk.specs.Eight.{eight-sound}
 use Rattle.model.specs.declared.Asked.{Asked}
 use Rattle.model.specs.declared.Session.{Session}
 use Rattle.model.specs.declared.Kind.{Kind}
-use Rattle.model.specs.Lent.{Lent, rowsOf}
+use Rattle.model.specs.Lent.{Lent, rowsOf, protected}
 use Rattle.model.specs.Stamps.{stampsBy}
 use Rattle.model.specs.Step.{step}
 use Rattle.model.specs.Table.{timeRight}
@@ -27,7 +27,7 @@ use Rattle.fields.specs.Erased.{ErasedDisk}
 use Rattle.table.specs.Total.{CarriedOut, InRange}
 use Rattle.invariant.specs.Stamps.{newest}
 use Rattle.effects.specs.Book.{nothingHeld}
-use Rattle.demands.specs.Runs.{Request, Disk, outcomeOf, accepts, after, run, bookRun}
+use Rattle.demands.specs.Runs.{Request, Disk, outcomeOf, accepts, after, Act, lifted, run, bookRun}
 use Rattle.demands.specs.NothingLost.{NothingLost, Stays, nothing-lost, bytes-stay, system-stays}
 use Rattle.demands.specs.Reading.{Gives}
 use Rattle.demands.specs.ReadBack.{AllLeaveAlone, readFcb, read-back}
@@ -35,18 +35,19 @@ use Rattle.demands.specs.StillCurrent.{currentCalls, still-current}
 use Rattle.demands.specs.ClosesFirst.{PastCurrent, ClosesFirst, closes-first}
 use Rattle.demands.specs.Dates.{stamp-after}
 use Rattle.demands.specs.Undated.{Plain, threeTests, plain-consistent}
+use Rattle.demands.specs.Protected.{NeverLifted, NeverSettled, protected-image, protected-map}
 use Rattle.demands.specs.Begins.{Asks, erased-begins}
 
 -- demand 2
 pub eight-read-back : (d : Disk) (w : Request) → kindOf (w .asked .number) ≡ Write → accepts eightInch d w ≡ true
-    → (qs : List Request) → AllLeaveAlone eightInch (outcomeOf eightInch d w .lent .fcb) (after eightInch d w) qs
+    → (acts : List Act) → AllLeaveAlone eightInch (outcomeOf eightInch d w .lent .fcb) (after eightInch d w) acts
     → (asked : Asked) → asked .number ≡ 33 → timeRight asked ≡ true → (buffer : Bytes) → length buffer ≡ recordBytes
-    → Gives (outcomeOf eightInch (run eightInch (after eightInch d w) qs) (record { asked = asked; fcb = readFcb eightInch d w; buffer = buffer })) (w .buffer)
+    → Gives (outcomeOf eightInch (run eightInch (after eightInch d w) acts) (record { asked = asked; fcb = readFcb eightInch d w; buffer = buffer })) (w .buffer)
 eight-read-back = read-back eight-sound
 
 -- demand 3
-pub eight-nothing-lost : (d : Disk) (q : Request) → q .asked .number ≡ 13 → accepts eightInch d q ≡ true → (qs : List Request)
-    → NothingLost eightInch (run eightInch (after eightInch d q) qs) (bookRun eightInch (after eightInch d q) qs nothingHeld)
+pub eight-nothing-lost : (d : Disk) (q : Request) → q .asked .number ≡ 13 → accepts eightInch d q ≡ true → (acts : List Act)
+    → NothingLost eightInch (run eightInch (after eightInch d q) acts) (bookRun eightInch (after eightInch d q) acts nothingHeld)
 eight-nothing-lost = nothing-lost eight-sound
 
 pub eight-bytes-stay : (d : Disk) (q : Request) → Stays eightInch d q
@@ -76,9 +77,18 @@ eight-stamp-after = stamp-after eight-sound
 pub eight-plain-consistent : (d : Rows) → Plain eightInch d → consistentRows eightInch d ≡ threeTests eightInch d
 eight-plain-consistent = plain-consistent eight-sound
 
--- and they speak of something: a log-in, a make and a write on an erased disk are accepted
+-- request [12]: on a protected session, over any run in which the protection is never lifted, the image stays; and the map, 13 and 98 aside
+pub eight-protected-image : (d : Disk) → protected (d .session) ≡ true → (acts : List Act) → NeverLifted acts → run eightInch d acts .drive .image ≡ d .drive .image
+eight-protected-image = protected-image eightInch
+
+pub eight-protected-map : (d : Disk) → protected (d .session) ≡ true → (acts : List Act) → NeverLifted acts → NeverSettled acts
+    → run eightInch d acts .drive .map ≡ d .drive .map
+eight-protected-map = protected-map eightInch
+
+-- and they speak of something: a log-in and, once the protection is lifted, a make and a write on an erased disk are accepted
 pub eight-begins : (d : Disk) → ErasedDisk eightInch (d .drive .image) → length (d .drive .map) ≡ 243 → InRange eightInch (d .session)
     → (login make write : Request) → Asks login 13 → Asks make 22 → getD (make .fcb) 0 0 ≤ 1 → nameRight false (make .fcb) 1 ≡ true → exOf (make .fcb) ≤ 31 → crOf (make .fcb) < 128
-    → Asks write 21 → write .fcb ≡ outcomeOf eightInch (after eightInch d login) make .lent .fcb
-    → (accepts eightInch d login ≡ true) × (accepts eightInch (after eightInch d login) make ≡ true) × (accepts eightInch (after eightInch (after eightInch d login) make) write ≡ true)
+    → Asks write 21 → write .fcb ≡ outcomeOf eightInch (lifted (after eightInch d login)) make .lent .fcb
+    → (accepts eightInch d login ≡ true) × (accepts eightInch (lifted (after eightInch d login)) make ≡ true)
+    × (accepts eightInch (after eightInch (lifted (after eightInch d login)) make) write ≡ true)
 eight-begins = erased-begins eight-sound (omega arith)

@@ -2,6 +2,7 @@ pub mod StepOk
 pub mod Stamped
 pub mod Undated
 pub mod Dates
+pub mod Protected
 pub mod Runs
 pub mod NothingLost
 pub mod Reading

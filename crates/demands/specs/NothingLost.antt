@@ -1,4 +1,4 @@
--- Demand 3, nothing lost. From an accepted log-in on, over any list of calls: the image stays consistent and the map right; the map is
+-- Demand 3, nothing lost. From an accepted log-in on, over any run: the image stays consistent and the map right; the map is
 -- the fresh map overlaid with the book of takings; and a byte that a call changed lies in what the call names.
 use mathlib.Core.Path.{_≡_, ap, sym, _∙_, subst}
 use mathlib.Core.Bool.{true, false}
@@ -29,7 +29,7 @@ use Rattle.effects.specs.Tracks.{Tracks, overlaid, InBook, book-map, book-has, 
 use Rattle.table.specs.Accepted.{accepted-carried}
 use Rattle.demands.specs.StepOk.{MayWrite, logged-in-tracks}
 use Rattle.demands.specs.Stamped.{step-ok, step-accepted, step-good, good-never-one}
-use Rattle.demands.specs.Runs.{Request, Disk, lentTo, outcomeOf, accepts, after, run, bookAfter, bookRun}
+use Rattle.demands.specs.Runs.{Request, Disk, lentTo, outcomeOf, accepts, after, Act, calls, lifts, protects, afterAct, run, bookAfter, bookAct, bookRun}
 
 -- ---- a disk whose map tells the same as a book
 pub record Booked (G : Geometry) (d : Disk) (u : Book) : Type 0 where
@@ -53,10 +53,15 @@ module _ {G : Geometry} (S : Sound G) where
     tracks = step-ok S (q .asked) (lentTo d q) (d .session) .book u (t .tracks);
   }
 
-  pub booked-run : (d : Disk) (qs : List Request) (u : Book) → Booked G d u → Booked G (run G d qs) (bookRun G d qs u)
+  booked-act : (d : Disk) (a : Act) (u : Book) → Booked G d u → Booked G (afterAct G d a) (bookAct G d a u)
+  booked-act d (calls q) u t = booked-after d q u t
+  booked-act d lifts u t = record { good = t .good; range = record { user = t .range .user; place = t .range .place }; tracks = t .tracks }
+  booked-act d protects u t = record { good = t .good; range = record { user = t .range .user; place = t .range .place }; tracks = t .tracks }
+
+  pub booked-run : (d : Disk) (acts : List Act) (u : Book) → Booked G d u → Booked G (run G d acts) (bookRun G d acts u)
   unfolding run bookRun
   booked-run d [] u t = t
-  booked-run d (q ∷ qs) u t = booked-run (after G d q) qs (bookAfter G d q u) (booked-after d q u t)
+  booked-run d (a ∷ acts) u t = booked-run (afterAct G d a) acts (bookAct G d a u) (booked-act d a u t)
 
   -- a log-in that was accepted
   pub booked-login : (d : Disk) (q : Request) → q .asked .number ≡ 13 → accepts G d q ≡ true → Booked G (after G d q) nothingHeld
@@ -109,11 +114,11 @@ pub record Stays (G : Geometry) (d : Disk) (q : Request) : Type 0 where
 
 -- ---- demand 3
 module _ {G : Geometry} (S : Sound G) where
-  -- after an accepted log-in, whatever image, map and session it was given, and any calls
-  pub nothing-lost : (d : Disk) (q : Request) → q .asked .number ≡ 13 → accepts G d q ≡ true → (qs : List Request)
-      → NothingLost G (run G (after G d q) qs) (bookRun G (after G d q) qs nothingHeld)
-  nothing-lost d q n a qs =
-      booked-lost G (run G (after G d q) qs) (bookRun G (after G d q) qs nothingHeld) (booked-run S (after G d q) qs nothingHeld (booked-login S d q n a))
+  -- after an accepted log-in, whatever image, map and session it was given, and any run
+  pub nothing-lost : (d : Disk) (q : Request) → q .asked .number ≡ 13 → accepts G d q ≡ true → (acts : List Act)
+      → NothingLost G (run G (after G d q) acts) (bookRun G (after G d q) acts nothingHeld)
+  nothing-lost d q n a acts =
+      booked-lost G (run G (after G d q) acts) (bookRun G (after G d q) acts nothingHeld) (booked-run S (after G d q) acts nothingHeld (booked-login S d q n a))
 
   -- for every call on any disk
   pub bytes-stay : (d : Disk) (q : Request) → Stays G d q

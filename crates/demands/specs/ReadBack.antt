@@ -1,4 +1,4 @@
--- Demand 2, exact, and read back. After an accepted 21 or 34, with or without a move, and any calls that do not name that file, call 33
+-- Demand 2, exact, and read back. After an accepted 21 or 34, with or without a move, and any run whose calls do not name that file, call 33
 -- through the FCB that the write handed back, with r0 to r2 alone set to that record, gives the bytes that were written.
 use mathlib.Core.Path.{_≡_, refl, ap, sym, _∙_, subst}
 use mathlib.Core.Bool.{true, false}
@@ -37,10 +37,10 @@ use Rattle.effects.specs.Write.{HandedBack, written-ok}
 use Rattle.table.specs.Accepted.{accepted-carried}
 use Rattle.demands.specs.StepOk.{ready-good}
 use Rattle.demands.specs.Stamped.{stampedAs, stamped-as, holds-on, step-ok, step-accepted, step-good}
-use Rattle.demands.specs.Runs.{Request, Disk, lentTo, outcomeOf, accepts, after, run}
+use Rattle.demands.specs.Runs.{Request, Disk, lentTo, outcomeOf, accepts, after, Act, calls, lifts, protects, afterAct, run}
 use Rattle.demands.specs.Reading.{atRecord, recordNumber, Gives, reads-back, length-atRecord, rest-atRecord}
 
--- ---- calls that leave a file alone
+-- ---- runs that leave a file alone
 -- a row of the file that the FCB f names for a user
 abbrev pub fileRow : ℕ → Bytes → Bytes
 fileRow user f = set f 0 user
@@ -51,10 +51,16 @@ pub record LeavesAlone (G : Geometry) (f : Bytes) (d : Disk) (q : Request) : Typ
   pub unsettled : accepts G d q ≡ true → kindOf (q .asked .number) ≡ Settle → ⊥
   pub same-user : kindOf (q .asked .number) ≡ User → after G d q .session .user ≡ d .session .user
 
--- so do all the calls, one after the other
-abbrev pub AllLeaveAlone : Geometry → Bytes → Disk → List Request → Type 0
+-- the protection names no file
+abbrev pub ActLeavesAlone : Geometry → Bytes → Disk → Act → Type 0
+ActLeavesAlone G f d (calls q) = LeavesAlone G f d q
+ActLeavesAlone G f d lifts = Unit {0}
+ActLeavesAlone G f d protects = Unit {0}
+
+-- so does a whole run, one act after the other
+abbrev pub AllLeaveAlone : Geometry → Bytes → Disk → List Act → Type 0
 AllLeaveAlone G f d [] = Unit {0}
-AllLeaveAlone G f d (q ∷ qs) = LeavesAlone G f d q × AllLeaveAlone G f (after G d q) qs
+AllLeaveAlone G f d (a ∷ acts) = ActLeavesAlone G f d a × AllLeaveAlone G f (afterAct G d a) acts
 
 -- ---- naming depends on a row's user and name alone
 names-cong : (n user : ℕ) (fcb r t : Bytes) → userOf r ≡ userOf t → SameName r 1 t 1 → names n user fcb r ≡ names n user fcb t
@@ -111,10 +117,15 @@ module _ {G : Geometry} (S : Sound G) (user : ℕ) (f : Bytes) (hf : length f �
             (names-apart (q .asked .number) user (q .fcb) f hf away) e rec v (k .holds);
       }
 
-  pub kept-run : (d : Disk) (qs : List Request) → AllLeaveAlone G f d qs → Kept G d user f e rec v → Kept G (run G d qs) user f e rec v
+  kept-act : (d : Disk) (a : Act) → ActLeavesAlone G f d a → Kept G d user f e rec v → Kept G (afterAct G d a) user f e rec v
+  kept-act d (calls q) o k = kept-after d q o k
+  kept-act d lifts o k = record { good = k .good; range = record { user = k .range .user; place = k .range .place }; same = k .same; holds = k .holds }
+  kept-act d protects o k = record { good = k .good; range = record { user = k .range .user; place = k .range .place }; same = k .same; holds = k .holds }
+
+  pub kept-run : (d : Disk) (acts : List Act) → AllLeaveAlone G f d acts → Kept G d user f e rec v → Kept G (run G d acts) user f e rec v
   unfolding run
   kept-run d [] o k = k
-  kept-run d (q ∷ qs) o k = kept-run (after G d q) qs (o .1) (kept-after d q (o .0) k)
+  kept-run d (a ∷ acts) o k = kept-run (afterAct G d a) acts (o .1) (kept-act d a (o .0) k)
 
   -- and is read then
   pub kept-read : (d : Disk) → Kept G d user f e rec v → getD f 0 0 ≤ 1 → extentOf f < extents → (asked : Asked) → asked .number ≡ 33 → timeRight asked ≡ true → (buffer : Bytes)
@@ -189,18 +200,18 @@ module _ {G : Geometry} (S : Sound G) (d : Disk) (w : Request) (writes : kindOf 
 unfoldable pub readFcb : Geometry → Disk → Request → Bytes
 readFcb G d w = atRecord (outcomeOf G d w .lent .fcb) (recordNumber (targetExtent (w .asked .number) (w .fcb)) (targetRecord (w .asked .number) (w .fcb)))
 
--- with any buffer of 128 bytes, any argument and any time in BCD
+-- with any buffer of 128 bytes, any argument and any time in BCD, on a session protected or not: the read stays in its extent
 pub read-back : {G : Geometry} (S : Sound G) (d : Disk) (w : Request) → kindOf (w .asked .number) ≡ Write → accepts G d w ≡ true
-    → (qs : List Request) → AllLeaveAlone G (outcomeOf G d w .lent .fcb) (after G d w) qs
+    → (acts : List Act) → AllLeaveAlone G (outcomeOf G d w .lent .fcb) (after G d w) acts
     → (asked : Asked) → asked .number ≡ 33 → timeRight asked ≡ true → (buffer : Bytes) → length buffer ≡ recordBytes
-    → Gives (outcomeOf G (run G (after G d w) qs) (record { asked = asked; fcb = readFcb G d w; buffer = buffer })) (w .buffer)
+    → Gives (outcomeOf G (run G (after G d w) acts) (record { asked = asked; fcb = readFcb G d w; buffer = buffer })) (w .buffer)
 unfolding readFcb
-read-back {G} S d w writes accepted qs alone asked n time buffer hb =
+read-back {G} S d w writes accepted acts alone asked n time buffer hb =
     let k = wrote S d w writes accepted in
     let f : Bytes = outcomeOf G d w .lent .fcb in
     let rec : ℕ = targetRecord (w .asked .number) (w .fcb) in
     let x : extentOf f ≡ targetExtent (w .asked .number) (w .fcb) = k .fcb .extent in
-    subst (λ (i : ℕ). Gives (outcomeOf G (run G (after G d w) qs) (record { asked = asked; fcb = atRecord f (recordNumber i rec); buffer = buffer })) (w .buffer)) x
-    (kept-read S (d .session .user) f (k .fcb .long) (k .entry) rec (w .buffer) (run G (after G d w) qs)
-    (kept-run S (d .session .user) f (k .fcb .long) (k .entry) rec (w .buffer) (after G d w) qs alone (wrote-kept S d w writes accepted))
+    subst (λ (i : ℕ). Gives (outcomeOf G (run G (after G d w) acts) (record { asked = asked; fcb = atRecord f (recordNumber i rec); buffer = buffer })) (w .buffer)) x
+    (kept-read S (d .session .user) f (k .fcb .long) (k .entry) rec (w .buffer) (run G (after G d w) acts)
+    (kept-run S (d .session .user) f (k .fcb .long) (k .entry) rec (w .buffer) (after G d w) acts alone (wrote-kept S d w writes accepted))
     (rw (k .fcb .first) (k .drive)) (rw x (k .extent)) asked n time buffer hb)

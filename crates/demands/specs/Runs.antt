@@ -1,11 +1,11 @@
--- Lists of calls. Each call brings its own number, argument, FCB and buffer, of any bytes and any length; image, map and session pass
--- from call to call.
+-- Runs: lists of calls, with the protection lifted and set between them. Each call brings its own number, argument, FCB and buffer, of any bytes
+-- and any length; image, map and session pass from one to the next.
 use mathlib.Core.Bool.{Bool}
 use mathlib.Core.List.{List, [], _∷_}
 use Rattle.format.specs.Diskette.{Bytes, Geometry}
 use Rattle.model.specs.declared.Asked.{Asked}
 use Rattle.model.specs.declared.Session.{Session}
-use Rattle.model.specs.Lent.{Drive, Lent, Outcome}
+use Rattle.model.specs.Lent.{Drive, Lent, Outcome, lift, protect}
 use Rattle.model.specs.Step.{step}
 use Rattle.table.specs.Accepted.{acceptedAnswer}
 use Rattle.effects.specs.Book.{Book, bookStep}
@@ -37,15 +37,38 @@ after G d q = left (outcomeOf G d q)
 abbrev pub accepts : Geometry → Disk → Request → Bool
 accepts G d q = acceptedAnswer (q .asked .number) (outcomeOf G d q .answer)
 
--- the disk after the calls, one after the other
-unfoldable pub run : Geometry → Disk → List Request → Disk
-run G d [] = d
-run G d (q ∷ qs) = run G (after G d q) qs
+-- ---- document 02, [12]: what a run is made of, a call, or the protection lifted or set, which counts as a call that names no file
+pub data Act : Type 0 where
+  calls : Request → Act
+  lifts : Act
+  protects : Act
 
--- the book after the calls
+-- the disk with its session's protection lifted, or set; all else stays
+abbrev pub lifted : Disk → Disk
+lifted d = record { drive = d .drive; session = lift (d .session) }
+
+abbrev pub shut : Disk → Disk
+shut d = record { drive = d .drive; session = protect (d .session) }
+
+abbrev pub afterAct : Geometry → Disk → Act → Disk
+afterAct G d (calls q) = after G d q
+afterAct G d lifts = lifted d
+afterAct G d protects = shut d
+
+-- the disk after a run, one act after the other
+unfoldable pub run : Geometry → Disk → List Act → Disk
+run G d [] = d
+run G d (a ∷ acts) = run G (afterAct G d a) acts
+
+-- the book after a call, and after a run
 unfoldable pub bookAfter : Geometry → Disk → Request → Book → Book
 bookAfter G d q u = bookStep G (q .asked .number) (lentTo d q) (d .session) (outcomeOf G d q) u
 
-unfoldable pub bookRun : Geometry → Disk → List Request → Book → Book
+abbrev pub bookAct : Geometry → Disk → Act → Book → Book
+bookAct G d (calls q) u = bookAfter G d q u
+bookAct G d lifts u = u
+bookAct G d protects u = u
+
+unfoldable pub bookRun : Geometry → Disk → List Act → Book → Book
 bookRun G d [] u = u
-bookRun G d (q ∷ qs) u = bookRun G (after G d q) qs (bookAfter G d q u)
+bookRun G d (a ∷ acts) u = bookRun G (afterAct G d a) acts (bookAct G d a u)

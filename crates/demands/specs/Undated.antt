@@ -16,12 +16,12 @@ use Rattle.format.specs.Consistent.{fileRight, asideRight, entryRight, slotsInA
 use Rattle.consistency.specs.Reflect.{aside-either}
 use Rattle.model.specs.declared.Asked.{Asked}
 use Rattle.model.specs.declared.Session.{Session}
-use Rattle.model.specs.declared.Code.the-variants.{NotListed, BadParameter, BadDisk}
+use Rattle.model.specs.declared.Code.the-variants.{NotListed, BadParameter, BadDisk, Protected}
 use Rattle.model.specs.declared.Verdict.{Verdict}
 use Rattle.model.specs.declared.Verdict.the-variants.{Passed, Refused}
 use Rattle.model.specs.Kinds.{kindOf, isCall}
 use Rattle.model.specs.Lent.{Lent, rowsOf}
-use Rattle.model.specs.Table.{timeRight, parametersRight, diskRight, when, firstRow, ownRows, table, verdict}
+use Rattle.model.specs.Table.{timeRight, parametersRight, diskRight, when, firstRow, ownRows, table, verdict, wouldSucceed, moveChanges, protectionHolds}
 use Rattle.model.specs.Stamps.{Stamp, stampsBy, stampedOutcome}
 use Rattle.model.specs.Step.{effect, carriedOut, stampsMade, step}
 use Rattle.table.specs.OwnStep.{does-same}
@@ -89,9 +89,10 @@ module _ (G : Geometry) (asked : Asked) (day hour minute : ℕ) (l : Lent) (s : 
     parameters-same = rw (now, then)
 
     verdict-same : verdict G other l s ≡ verdict G asked l s
-    unfolding verdict table diskRight
+    unfolding verdict table diskRight protectionHolds wouldSucceed moveChanges
     verdict-same =
-        ap (λ (b : Bool). firstRow (when (not (isCall (asked .number))) NotListed ∷ when (not b) BadParameter ∷ when (not (diskRight G l asked)) BadDisk ∷ ownRows G asked l s))
+        ap (λ (b : Bool). firstRow (when (not (isCall (asked .number))) NotListed ∷ when (not b) BadParameter ∷ when (not (diskRight G l asked)) BadDisk
+        ∷ when (protectionHolds G asked l s) Protected ∷ ownRows G asked l s))
         parameters-same
 
     pub times-same : dated (rowsOf G l) ≡ false → step G other l s ≡ step G asked l s

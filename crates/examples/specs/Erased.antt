@@ -23,11 +23,12 @@ use Rattle.fields.specs.Erased.{ErasedDisk, erased-consistent, erased-unlisted}
 use Rattle.model.specs.declared.Asked.{Asked}
 use Rattle.model.specs.declared.Session.{Session}
 use Rattle.model.specs.Table.{timeRight}
-use Rattle.model.specs.Lent.{lend, Outcome, ended}
+use Rattle.model.specs.Lent.{lend, Outcome, ended, lift}
 use Rattle.model.specs.Entering.{threeBytes}
 use Rattle.model.specs.Kinds.{usesFcb, isCall, kindOf}
 use Rattle.model.specs.Calls.{done, loggedIn, space}
 use Rattle.model.specs.Step.{step, effect, stamped, settled, told}
+use Rattle.table.specs.Protection.{other-open}
 use Rattle.table.specs.Facts.{Fits, Ready}
 use Rattle.table.specs.Reflect.{login-ready}
 use Rattle.table.specs.Total.{step-carried}
@@ -77,9 +78,9 @@ pub ask-right : (n : ℕ) → timeRight (ask n) ≡ true
 unfolding timeRight bcd _and_
 ask-right n = refl
 
--- user 0 with no search, any map, a blank buffer
+-- user 0 with no search, protected: a session of zeros. Any map, a blank buffer
 abbrev pub start : Session
-start = record { user = 0; pattern = replicate 12 0; place = 0; on = 0 }
+start = record { user = 0; pattern = replicate 12 0; place = 0; on = 0; lifted = 0 }
 
 abbrev pub blank : Bytes
 blank = replicate 128 0
@@ -96,6 +97,10 @@ fitting fcb long = record {
   place-low = omega arith;
 }
 
+-- lifting the protection leaves the rest
+pub fitting-lifted : {G : Geometry} {map fcb buffer : Bytes} {s : Session} → Fitting G map fcb buffer s → Fitting G map fcb buffer (lift s)
+fitting-lifted f = record { map-long = f .map-long; fcb-long = f .fcb-long; buffer-long = f .buffer-long; user-low = f .user-low; place-low = f .place-low }
+
 module _ (G : Geometry) (img : Bytes) (long : Long G img) (right : consistent G img ≡ true)
     (map fcb buffer : Bytes) (s : Session) (fit : Fitting G map fcb buffer s) where
   fits : Fits G (lend img map fcb buffer) s
@@ -111,7 +116,8 @@ module _ (G : Geometry) (img : Bytes) (long : Long G img) (right : consistent G 
   -- an image that is consistent can be logged in, whatever the map
   pub login-step : (asked : Asked) → timeRight asked ≡ true → step G (calling 13 asked) (lend img map fcb buffer) s ≡ done 0 s (lend img (freshMap G (entryAt G img)) fcb buffer)
   unfolding loggedIn effect stamped settled isCall kindOf
-  login-step asked time = step-carried G (calling 13 asked) (lend img map fcb buffer) s refl (login-ready G asked (lend img map fcb buffer) s fits time right) tt
+  login-step asked time = step-carried G (calling 13 asked) (lend img map fcb buffer) s refl (login-ready G asked (lend img map fcb buffer) s fits time right)
+      (other-open G (calling 13 asked) (lend img map fcb buffer) s refl) tt
 
   -- after it every call finds image and map right
   pub logged-ready : (asked : Asked) → timeRight asked ≡ true → (usesFcb (asked .number) ≡ true → getD fcb 0 0 ≤ 1)
@@ -136,7 +142,8 @@ module _ (G : Geometry) (img : Bytes) (long : Long G img) (right : consistent G 
       ≡ done 0 s (lend img (freshMap G (entryAt G img)) fcb (splice buffer 0 (threeBytes (G .perBlock * freeCount G (freshMap G (entryAt G img))))))
   unfolding space usesFcb effect stamped told isCall kindOf timeRight
   space-step asked time =
-      step-carried G (calling 46 asked) (lend img (freshMap G (entryAt G img)) fcb buffer) (ended s) refl (logged-ready (calling 46 asked) time (λ u. clash (sym u))) tt
+      step-carried G (calling 46 asked) (lend img (freshMap G (entryAt G img)) fcb buffer) (ended s) refl (logged-ready (calling 46 asked) time (λ u. clash (sym u)))
+      (other-open G (calling 46 asked) (lend img (freshMap G (entryAt G img)) fcb buffer) (ended s) refl) tt
 
 -- a call after another: on what that left, with the session that it left
 abbrev pub next : Geometry → Asked → Outcome → Outcome

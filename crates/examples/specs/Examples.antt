@@ -17,7 +17,7 @@ use Rattle.disk.specs.Eight.{eight-sound}
 use Rattle.model.specs.declared.Asked.{Asked}
 use Rattle.model.specs.declared.Session.{Session}
 use Rattle.model.specs.Table.{timeRight}
-use Rattle.model.specs.Lent.{Lent}
+use Rattle.model.specs.Lent.{Lent, protected}
 use Rattle.model.specs.Search.{patternOf, extentHit, hit}
 use Rattle.model.specs.Kinds.{oneOf}
 use Rattle.model.specs.Entering.{threeBytes}
@@ -46,8 +46,8 @@ pub record Examples : Type 0 where
   pub e-met : (img : Bytes) × (map : Bytes) × (fcb : Bytes) × (buffer : Bytes) × (s : Session) × ErasedDisk eightInch img × Fitting eightInch map fcb buffer s
   -- R = 262,143 is extent 2,047, record 127; 262,144 gives 6
   pub f-last : (asked : Asked) (l : Lent) (s : Session) → oneOf (asked .number) (33 ∷ 34 ∷ []) ≡ true → RandomIs (l .fcb) 255 255 3 → Last eightInch asked l s
-  pub f-over : (asked : Asked) (l : Lent) (s : Session) → oneOf (asked .number) (33 ∷ 34 ∷ []) ≡ true → Ready eightInch asked l s → RandomIs (l .fcb) 0 0 4
-      → Six eightInch asked l s
+  pub f-over : (asked : Asked) (l : Lent) (s : Session) → oneOf (asked .number) (33 ∷ 34 ∷ []) ≡ true → Ready eightInch asked l s
+      → (asked .number ≡ 34 → protected s ≡ false) → RandomIs (l .fcb) 0 0 4 → Six eightInch asked l s
   pub f-met : (asked : Asked) → timeRight asked ≡ true → (r0 r1 r2 : ℕ) → LentWith asked (λ (f : Bytes). RandomIs f r0 r1 r2)
   -- an entry of extent 2,047 with rc 128, or more, which is read as 128: size bytes 00H 00H 04H; there is one with each such number
   pub g : (asked : Asked) (l : Lent) (s : Session) → Ready eightInch (calling 35 asked) l s → nameRight false (l .fcb) 1 ≡ true → HasEntry eightInch l s 2047 128

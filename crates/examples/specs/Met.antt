@@ -18,12 +18,12 @@ use Rattle.format.specs.Fcb.{fcbBytes, crOf}
 use Rattle.model.specs.declared.Asked.{Asked}
 use Rattle.model.specs.declared.Session.{Session}
 use Rattle.model.specs.Table.{timeRight}
-use Rattle.model.specs.Lent.{Lent, lend, rowsOf, ended}
+use Rattle.model.specs.Lent.{Lent, lend, rowsOf, ended, lift, protected}
 use Rattle.fields.specs.Erased.{ErasedDisk, erased-consistent}
 use Rattle.disk.specs.Eight.{eight-sound}
 use Rattle.table.specs.Own.{calling}
 use Rattle.table.specs.Facts.{Ready}
-use Rattle.examples.specs.Erased.{start, blank, notes, fitting, logged-ready}
+use Rattle.examples.specs.Erased.{start, blank, notes, fitting, fitting-lifted, logged-ready}
 use Rattle.examples.specs.Numbers.{Gives, HasEntry, size-largest}
 use Rattle.examples.specs.Random.{RandomIs}
 use Rattle.examples.specs.Pattern.{AllAny}
@@ -48,9 +48,9 @@ pub record SlotOf (img : Bytes) (e j : ℕ) : Type 0 where
   pub slot : j < slotCount
   pub uses : used (entryAt eightInch img e) ≡ true
 
--- what a call can be lent so that image, map, lengths and drive are right, with an FCB of which P holds
+-- what a call can be lent so that image, map, lengths and drive are right and the protection is lifted, with an FCB of which P holds
 abbrev pub LentWith : Asked → (Bytes → Type 0) → Type 0
-LentWith asked P = (l : Lent) × (s : Session) × Ready eightInch asked l s × P (l .fcb)
+LentWith asked P = (l : Lent) × (s : Session) × Ready eightInch asked l s × (protected s ≡ false) × P (l .fcb)
 
 -- extent 1, cr 128
 abbrev atEnd : Bytes
@@ -66,10 +66,12 @@ any-met = (anyName, refl, λ i h. eqb-true _ _ (all-at (λ (k : ℕ). eqb (getD 
 
 module _ (img : Bytes) (erased : ErasedDisk eightInch img) where
   with-fcb : (P : Bytes → Type 0) (asked : Asked) → timeRight asked ≡ true → (fcb : Bytes) → length fcb ≡ fcbBytes → getD fcb 0 0 ≤ 1 → P fcb → LentWith asked P
+  unfolding protected
   with-fcb P asked time fcb long drive p = (
     lend img (freshMap eightInch (entryAt eightInch img)) fcb blank,
-    ended start,
-    logged-ready eightInch img (erased .long) (erased-consistent eightInch img erased eight-sound) notes fcb blank start (fitting fcb long) asked time (λ u. drive),
+    ended (lift start),
+    logged-ready eightInch img (erased .long) (erased-consistent eightInch img erased eight-sound) notes fcb blank (lift start) (fitting-lifted (fitting fcb long)) asked time (λ u. drive),
+    refl,
     p,
   )
 

@@ -1,7 +1,7 @@
 -- Example f: the random record of 33 and 34.
 use mathlib.Core.Path.{_≡_, refl, _∙_}
 use mathlib.Core.List.{[], _∷_}
-use mathlib.Core.Bool.{true}
+use mathlib.Core.Bool.{true, false}
 use Prim.Native.Nat.{ℕ, _+_, _*_}
 use native.Mathlib.Omega.{arith}
 use lib.ListN.{getD}
@@ -12,13 +12,14 @@ use Rattle.model.specs.declared.Asked.{Asked}
 use Rattle.model.specs.declared.Session.{Session}
 use Rattle.model.specs.declared.Code.the-variants.{BadRecord}
 use Rattle.model.specs.declared.Verdict.the-variants.{Refused}
-use Rattle.model.specs.Lent.{Lent}
+use Rattle.model.specs.Lent.{Lent, protected}
 use Rattle.model.specs.Kinds.{isCall, isRandom, kindOf, oneOf}
 use Rattle.model.specs.Target.{targetExtent, targetRecord}
 use Rattle.model.specs.Table.{verdict}
 use Rattle.model.specs.Step.{refused, step}
 use Rattle.table.specs.First.{_&_, here}
 use Rattle.table.specs.Own.{calling, at-one}
+use Rattle.table.specs.Protection.{lifted-open, refused-open}
 use Rattle.table.specs.Facts.{Ready}
 use Rattle.fields.specs.Target.{extent-random, record-random}
 use Rattle.table.specs.Refuse.{random-over}
@@ -44,15 +45,16 @@ pub record Six (G : Geometry) (asked : Asked) (l : Lent) (s : Session) : Type 0 
 six : (G : Geometry) (asked : Asked) (l : Lent) (s : Session) → randomOf (l .fcb) ≡ 262144 → step G asked l s ≡ refused BadRecord s l → Six G asked l s
 six G asked l s is q = record { is-number = is; refuses = q; is-a = rw q; is-h = rw q }
 
+-- 33 on any session; 34 where the protection is lifted
 pub random-six : (G : Geometry) (asked : Asked) (l : Lent) (s : Session) → oneOf (asked .number) (33 ∷ 34 ∷ []) ≡ true → Ready G asked l s
-    → RandomIs (l .fcb) 0 0 4 → Six G asked l s
+    → (asked .number ≡ 34 → protected s ≡ false) → RandomIs (l .fcb) 0 0 4 → Six G asked l s
 unfolding isCall kindOf
-random-six G asked l s which ready r =
+random-six G asked l s which ready writable r =
     let over = lt-ltb lastRecord (randomOf (l .fcb)) (omega (arith, random-is (l .fcb) 0 0 4 r)) in
     six G asked l s (random-is (l .fcb) 0 0 4 r)
-    (at-one (λ (m : ℕ). Ready G (calling m asked) l s → step G (calling m asked) l s ≡ refused BadRecord s l) (asked .number) (33 ∷ 34 ∷ []) which
-    ((λ p. step-refused G (calling 33 asked) l s BadRecord refl p (here over refl))
-    & (λ p. step-refused G (calling 34 asked) l s BadRecord refl p (here over refl)) & tt) ready)
+    (at-one (λ (m : ℕ). Ready G (calling m asked) l s → (m ≡ 34 → protected s ≡ false) → step G (calling m asked) l s ≡ refused BadRecord s l) (asked .number) (33 ∷ 34 ∷ []) which
+    ((λ p w. step-refused G (calling 33 asked) l s BadRecord refl p (refused-open G (calling 33 asked) l s refl BadRecord (here over refl)) (here over refl))
+    & (λ p w. step-refused G (calling 34 asked) l s BadRecord refl p (lifted-open G (calling 34 asked) l s (w refl)) (here over refl)) & tt) ready writable)
 
 -- 262,143 is the last that is taken: record 127 of extent 2,047
 pub record Last (G : Geometry) (asked : Asked) (l : Lent) (s : Session) : Type 0 where

@@ -1,5 +1,5 @@
 -- Stamps, by computing, on a disk that is small enough for that: a label, two empty entries and a date entry, and three blocks. They are put
--- down where the laws of stamps say, and nothing else of the date entry changes.
+-- down where the laws of stamps say, and nothing else of the date entry changes. And the protection, on the same disk.
 use mathlib.Core.Path.{_≡_, refl}
 use mathlib.Core.List.{[], _∷_, _++_}
 use Prim.Native.Nat.{ℕ, _+_}
@@ -13,22 +13,22 @@ use Rattle.lists.specs.Tab.{tab}
 use Rattle.lists.specs.Tests.{_and_, _or_, agree}
 use Rattle.format.specs.Consistent.{slotRight, slotsRight, fileRight, asideRight, entryRight, listed, listedOnce, sameFile, alone, datesPlaced, labelOnce, placesRight, consistentRows, consistent}
 use Rattle.format.specs.Dates.{isLabel, isDates, bcd, stampRight, asksCreate, asksUpdate, asksAccess, labelRight, asks, datesRight, withStamp}
-use Rattle.format.specs.Diskette.{Bytes, Geometry, Sound, slotsOn, isLong, sectorsBefore, offsetOf, withRecord}
+use Rattle.format.specs.Diskette.{Bytes, Geometry, Sound, slotsOn, isLong, sectorsBefore, offsetOf, recordAt, withRecord}
 use Rattle.format.specs.Entries.{entryPlace, entryAt, withEntry, countOf, withNumbers, slotsOf, slotIn, slotAt, slotOf, withSlot, empty, used, readOnly, extentOf, runOf, covers, countIn, endOf, slotFor, named, isFile, findFile, findEmpty}
-use Rattle.format.specs.Fcb.{fcbEnd, fcbRight, slotFits, slotsFit, current}
+use Rattle.format.specs.Fcb.{fcbEnd, fcbCountIn, randomOf, fcbRight, slotFits, slotsFit, current}
 use Rattle.format.specs.Found.{foundBelow}
 use Rattle.format.specs.Names.{nameByte, nameRight, byteLike, nameLike}
 use Rattle.format.specs.Notes.{pendingFor, isPending, pendingEntry, pendingSlot, isListed, heldByUsed, noteRight, mapRight, freshNote, freshMap, isFree, findFree, withNote}
-use Rattle.model.specs.Calls.{loggedIn, openedAt, opened, closedAt, closed, createdAt, created, writtenAt, written}
+use Rattle.model.specs.Calls.{loggedIn, openedAt, opened, closedAt, closed, createdAt, created, readAt, read, writtenAt, written}
 use Rattle.model.specs.Closing.{takesSlot, mergedByte, mergedSlots, endsLater, laterEnd, closedRow, closedNote, closedMap, closeChanges, closedImage, closedFcb}
 use Rattle.model.specs.Entering.{copied, interfaceByte, interfaceCleared, asExtent, entered, madeRow, nextRow}
 use Rattle.model.specs.Kinds.{kindOf, usesFcb, isRandom, isCall}
 use Rattle.model.specs.Stamps.{timeStamp, noStamp, accessStamps, closeStamps, newStamps, createStamps}
 use Rattle.model.specs.Step.{told, settled, effect, step}
-use Rattle.model.specs.Table.{timeRight, lengthsRight, parametersRight, diskRight, askedEntry, firstRow, table, verdict}
-use Rattle.model.specs.Target.{targetExtent, targetRecord, crAfter, presentEntry, stays, within, targetSlot, targetEntry, blockThere, targetBlock, readOnlyThere, planFrom, plan, made, placeIn, writtenCount, writtenFcb, writtenMap, haveWritten}
+use Rattle.model.specs.Table.{timeRight, lengthsRight, parametersRight, diskRight, askedEntry, firstRow, wouldSucceed, moveChanges, protectionHolds, table, verdict}
+use Rattle.model.specs.Target.{targetExtent, targetRecord, crAfter, presentEntry, stays, within, targetSlot, targetEntry, blockThere, targetBlock, readOnlyThere, countThere, recordThere, planFrom, plan, moved, made, placeIn, haveRead, writtenCount, writtenFcb, writtenMap, haveWritten}
 use Rattle.model.specs.declared.Asked.{Asked}
-use Rattle.model.specs.Lent.{lend, Outcome}
+use Rattle.model.specs.Lent.{lend, Outcome, lift, protect, protected}
 use Rattle.examples.specs.Erased.{start, blank, next}
 use Rattle.examples.specs.OneFile.{fileFcb}
 use Rattle.examples.specs.Dates.{labelWith}
@@ -77,7 +77,7 @@ abbrev at : ℕ → ℕ → Asked
 at n k = record { number = n; argument = 0; day = 256 + k; hour = 18; minute = 48 }
 
 abbrev loggedOn : ℕ → Bytes → Outcome
-loggedOn asking dates = step tiny (at 13 0) (lend (diskWith asking dates) (replicate 3 0) fileFcb blank) start
+loggedOn asking dates = step tiny (at 13 0) (lend (diskWith asking dates) (replicate 3 0) fileFcb blank) (lift start)
 
 -- file A is made
 abbrev madeOn : ℕ → Outcome
@@ -104,6 +104,14 @@ movedOn = next tiny (at 21 3) (atEnd wrote)
 abbrev openedAgain : Outcome
 openedAgain = next tiny (at 15 2) (madeOn 96)
 
+-- ---- the protection is set on what a call left
+abbrev shut : Outcome → Outcome
+shut o = record { answer = record { a = o .answer .a; h = o .answer .h; session = protect (o .answer .session) }; lent = o .lent }
+
+-- record r of the file is read
+abbrev readAgain : ℕ → Outcome → Outcome
+readAgain r o = next tiny (at 33 5) record { answer = o .answer; lent = lend (o .lent .drive .image) (o .lent .drive .map) (set (set (o .lent .fcb) 33 r) 34 0) (o .lent .buffer) }
+
 -- the call is accepted and answers a; the date entry is then this
 abbrev Leaves : Outcome → ℕ → Bytes → Type 0
 Leaves o a dates = (o .answer .a ≡ a) × (o .answer .h ≡ 0) × (entryAt tiny (o .lent .drive .image) 3 ≡ dates)
@@ -124,24 +132,36 @@ pub record Stamps : Type 0 where
   -- where create is not asked for a new entry's two stamps are zero; access is the time of the open
   pub make-no-create : Leaves (madeOn 96) 1 (beside zeros zeros nines nines)
   pub access : Leaves openedAgain 1 (beside (noon 2) zeros nines nines)
+  -- an open on a protected session is accepted and stamps nothing
+  pub access-shut : Leaves (next tiny (at 15 2) (shut (madeOn 96))) 1 (beside zeros zeros nines nines)
   -- without date entries nothing is stamped, whatever the label asks
   pub undated : Leaves (next tiny (at 22 1) (loggedOn 48 (replicate 32 229))) 1 (replicate 32 229)
   -- a label that asks for create and access, an hour that is no BCD
   pub create-access : Answers (loggedOn 80 (beside nines nines nines nines)) 255 1
   pub bad-hour : Answers (loggedOn 48 (beside nines (9 ∷ 9 ∷ 10 ∷ 9 ∷ []) nines nines)) 255 1
+  -- on a protected session: a make and a write are refused; a read that stays is not, before the close and after it
+  pub make-shut : Answers (next tiny (at 22 1) (shut (loggedOn 48 (beside nines nines nines nines)))) 255 2
+  pub write-shut : Answers (next tiny (at 21 2) (shut (madeOn 48))) 255 2
+  pub read-shut : Answers (readAgain 0 (shut wrote)) 0 0
+  -- a read whose move would change an entry is refused, and accepted once the protection is lifted; after a close it is not refused, since its
+  -- move changes nothing; and one of a record that is not there answers 1
+  pub move-shut : Answers (readAgain 0 (shut movedOn)) 255 2
+  pub move-lifted : Answers (readAgain 0 movedOn) 0 0
+  pub move-closed : Answers (readAgain 0 (shut (next tiny (at 16 4) movedOn))) 0 0
+  pub no-record-shut : Answers (readAgain 9 (shut movedOn)) 1 0
 
 pub stamps : Stamps
 unfolding diskWith fileFcb allBelow anyBelow firstOf firstIn foldBelow taken part splice tab _and_ _or_ agree slotRight slotsRight fileRight
     asideRight entryRight listed listedOnce sameFile alone datesPlaced labelOnce placesRight consistentRows consistent isLabel isDates bcd
-    stampRight asksCreate asksUpdate asksAccess labelRight asks datesRight withStamp slotsOn isLong sectorsBefore offsetOf withRecord
+    stampRight asksCreate asksUpdate asksAccess labelRight asks datesRight withStamp slotsOn isLong sectorsBefore offsetOf recordAt withRecord
     entryPlace entryAt withEntry countOf withNumbers slotsOf slotIn slotAt slotOf withSlot empty used readOnly extentOf runOf covers countIn
-    endOf slotFor named isFile findFile findEmpty fcbEnd fcbRight slotFits slotsFit current foundBelow nameByte nameRight byteLike nameLike
+    endOf slotFor named isFile findFile findEmpty fcbEnd fcbCountIn randomOf fcbRight slotFits slotsFit current foundBelow nameByte nameRight byteLike nameLike
     pendingFor isPending pendingEntry pendingSlot isListed heldByUsed noteRight mapRight freshNote freshMap isFree findFree withNote
-    loggedIn openedAt opened closedAt closed createdAt created writtenAt written takesSlot mergedByte mergedSlots endsLater laterEnd
+    loggedIn openedAt opened closedAt closed createdAt created readAt read writtenAt written takesSlot mergedByte mergedSlots endsLater laterEnd
     closedRow closedNote closedMap closeChanges closedImage closedFcb copied interfaceByte interfaceCleared asExtent entered madeRow nextRow
     kindOf usesFcb isRandom isCall timeStamp noStamp accessStamps closeStamps newStamps createStamps told settled effect step timeRight
-    lengthsRight parametersRight diskRight askedEntry firstRow table verdict targetExtent targetRecord crAfter presentEntry stays within
-    targetSlot targetEntry blockThere targetBlock readOnlyThere planFrom plan made placeIn writtenCount writtenFcb writtenMap haveWritten
+    lengthsRight parametersRight diskRight askedEntry firstRow protected wouldSucceed moveChanges protectionHolds table verdict targetExtent targetRecord crAfter presentEntry stays within
+    targetSlot targetEntry blockThere targetBlock readOnlyThere countThere recordThere planFrom plan moved made placeIn haveRead writtenCount writtenFcb writtenMap haveWritten
 stamps = record {
   make = (refl, refl, refl);
   write = (refl, refl, refl);
@@ -150,7 +170,15 @@ stamps = record {
   move = (refl, refl, refl);
   make-no-create = (refl, refl, refl);
   access = (refl, refl, refl);
+  access-shut = (refl, refl, refl);
   undated = (refl, refl, refl);
   create-access = (refl, refl);
   bad-hour = (refl, refl);
+  make-shut = (refl, refl);
+  write-shut = (refl, refl);
+  read-shut = (refl, refl);
+  move-shut = (refl, refl);
+  move-lifted = (refl, refl);
+  move-closed = (refl, refl);
+  no-record-shut = (refl, refl);
 }

@@ -32,7 +32,7 @@ use Rattle.fields.specs.Making.{length-madeRow}
 use Rattle.fields.specs.Erased.{ErasedDisk, all-erased, erased-consistent}
 use Rattle.table.specs.Total.{total, total-refused}
 use Rattle.table.specs.Accepted.{acceptedAnswer}
-use Rattle.demands.specs.Runs.{Request, Disk, lentTo, outcomeOf, left, accepts, after, run}
+use Rattle.demands.specs.Runs.{Request, Disk, lentTo, outcomeOf, left, accepts, after, lifted, run}
 use Rattle.demands.specs.Reading.{Gives, atRecord, recordNumber}
 use Rattle.demands.specs.ReadBack.{readFcb}
 use Rattle.demands.specs.Begins.{Asks}
@@ -137,7 +137,7 @@ module _ (img : Bytes) (erased : ErasedDisk eightInch img) where
   unfolding splice fileFcb
   one-size r h = let two = one-sized img erased (small r) (in-range r) notes blank start refl (fitting fileFcb length-fileFcb) (ask 0) (ask-right 0) in rw (two, file-count (small r) h) (omega arith)
 
--- ---- a write that `step` accepts: the first one to a file made on an erased disk that is logged in
+-- ---- a write that `step` accepts: the first one to a file made on an erased disk that is logged in, with the protection lifted
 abbrev asking : ℕ → Bytes → Bytes → Request
 asking n fcb buffer = record { asked = ask n; fcb = fcb; buffer = buffer }
 
@@ -145,7 +145,7 @@ abbrev atHand : Bytes → Disk
 atHand img = record { drive = record { image = img; map = notes }; session = start }
 
 abbrev logged : Bytes → Disk
-logged img = after eightInch (atHand img) (asking 13 fileFcb blank)
+logged img = lifted (after eightInch (atHand img) (asking 13 fileFcb blank))
 
 abbrev making : Request
 making = asking 22 fileFcb blank

@@ -1,7 +1,7 @@
 -- The stamps of a call: each stands beside an entry, they keep image and map good, and each stamp of the disk becomes the newest of them or stays.
 use mathlib.Core.Path.{_≡_, refl, ap, sym, _∙_, subst}
 use mathlib.Core.Logic.{_⊎_, inl, inr}
-use mathlib.Core.Bool.{Bool, true, false, cond}
+use mathlib.Core.Bool.{Bool, true, false, cond, not}
 use mathlib.Core.List.{List, [], _∷_, _++_}
 use Prim.Native.Nat.{ℕ, _%_, _≤_, _<_}
 use native.Mathlib.Omega.{arith}
@@ -23,7 +23,7 @@ use Rattle.model.specs.declared.Plan.{Plan}
 use Rattle.model.specs.declared.Kind.{Kind}
 use Rattle.model.specs.declared.Kind.the-variants.{Unlisted, Quiet, Search, User, Settle, Close, Delete, Create, Rename, Read, Write}
 use Rattle.model.specs.Kinds.{kindOf}
-use Rattle.model.specs.Lent.{Lent, rowsOf}
+use Rattle.model.specs.Lent.{Lent, rowsOf, protected}
 use Rattle.model.specs.Table.{timeRight, askedEntry}
 use Rattle.model.specs.Target.{presentEntry, plan}
 use Rattle.model.specs.Closing.{closeChanges}
@@ -153,7 +153,7 @@ module _ {G : Geometry} (S : Sound G) (asked : Asked) (l : Lent) (s : Session) (
 
   pub access-each : (e : ℕ) → Here e → Each P (accessStamps G asked l s e)
   unfolding accessStamps
-  access-each e h = each-only P (asks G (rowsOf G l) asksAccess) (first e (timeStamp asked)) (by e 0 (timeStamp asked) (omega arith) stamp-time h)
+  access-each e h = each-only P (not (protected s) and asks G (rowsOf G l) asksAccess) (first e (timeStamp asked)) (by e 0 (timeStamp asked) (omega arith) stamp-time h)
 
   pub new-each : (e : ℕ) → Here e → Each P (newStamps G asked l s e)
   unfolding newStamps

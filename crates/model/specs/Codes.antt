@@ -17,6 +17,7 @@ saysOf (Code.Accepted n) = says n 0
 saysOf Code.NotListed = says 255 255
 saysOf Code.BadParameter = says 255 4
 saysOf Code.BadDisk = says 255 1
+saysOf Code.Protected = says 255 2
 saysOf Code.BadRecord = says 6 0
 saysOf Code.NotCurrent = says 9 0
 saysOf Code.Failed = says 255 0

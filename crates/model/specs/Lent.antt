@@ -53,14 +53,28 @@ ends code s l = record { answer = answerOf code s; lent = l }
 -- ---- the session's changes
 -- a search ends: it is off and its place is 0; the pattern stays
 abbrev pub ended : Session → Session
-ended s = record { user = s .user; pattern = s .pattern; place = 0; on = 0 }
+ended s = record { user = s .user; pattern = s .pattern; place = 0; on = 0; lifted = s .lifted }
 
 -- a search goes on from a place
 abbrev pub searching : Session → Bytes → ℕ → Session
-searching s pattern place = record { user = s .user; pattern = pattern; place = place; on = 1 }
+searching s pattern place = record { user = s .user; pattern = pattern; place = place; on = 1; lifted = s .lifted }
 
 abbrev pub withUser : Session → ℕ → Session
-withUser s user = record { user = user; pattern = s .pattern; place = s .place; on = s .on }
+withUser s user = record { user = user; pattern = s .pattern; place = s .place; on = s .on; lifted = s .lifted }
 
 abbrev pub searchOn : Session → Bool
 searchOn s = cond (eqb (s .on) 0) false true
+
+-- ---- document 02, [12]: the write protection, "a field of the session; lifting or setting it changes nothing else". 0 is protected, any other
+-- byte is lifted
+abbrev pub withLifted : Session → ℕ → Session
+withLifted s lifted = record { user = s .user; pattern = s .pattern; place = s .place; on = s .on; lifted = lifted }
+
+abbrev pub lift : Session → Session
+lift s = withLifted s 1
+
+abbrev pub protect : Session → Session
+protect s = withLifted s 0
+
+unfoldable pub protected : Session → Bool
+protected s = eqb (s .lifted) 0

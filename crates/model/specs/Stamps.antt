@@ -1,6 +1,6 @@
 -- Document 02, [8]: the stamps that a call makes. They are worked out from the state as it came, and put down once the call's own rule is done:
 -- no rule touches a date entry.
-use mathlib.Core.Bool.{Bool, cond}
+use mathlib.Core.Bool.{Bool, cond, not}
 use mathlib.Core.List.{List, [], _∷_, _++_}
 use Prim.Native.Nat.{ℕ, _/_, _%_}
 use lib.Dec.{eqb}
@@ -15,7 +15,7 @@ use Rattle.model.specs.declared.Plan.{Plan}
 use Rattle.model.specs.declared.Plan.the-variants.{Stay, Move, Make}
 use Rattle.model.specs.declared.Kind.{Kind}
 use Rattle.model.specs.declared.Kind.the-variants.{Unlisted, Quiet, Search, User, Settle, Close, Delete, Create, Rename, Read, Write}
-use Rattle.model.specs.Lent.{Lent, lend, rowsOf, Outcome}
+use Rattle.model.specs.Lent.{Lent, lend, rowsOf, Outcome, protected}
 use Rattle.model.specs.Closing.{closeChanges}
 use Rattle.model.specs.Target.{presentEntry, plan}
 use Rattle.model.specs.Table.{askedEntry}
@@ -54,9 +54,9 @@ stampedWith G [] img = img
 stampedWith G (x ∷ xs) img = stampedWith G xs (withStamp G img (x .entry) (x .which) (x .bytes))
 
 module _ (G : Geometry) (asked : Asked) (l : Lent) (s : Session) where
-  -- 15: access, where the label asks
+  -- 15: access, where the label asks; "an open on a protected session stamps no date" (02, [12])
   unfoldable pub accessStamps : ℕ → List Stamp
-  accessStamps e = onlyIf (asks G (rowsOf G l) asksAccess) (first e (timeStamp asked))
+  accessStamps e = onlyIf (not (protected s) and asks G (rowsOf G l) asksAccess) (first e (timeStamp asked))
 
   -- 16, and the close of a move: update, where the label asks and the close changes the entry
   unfoldable pub closeStamps : ℕ → List Stamp

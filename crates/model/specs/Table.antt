@@ -1,6 +1,6 @@
--- Document 01, "Codes, in the order they are tested", without the row of 3, 0, which request [7] takes away (docs/changes/07-code-3.md). Each
--- row says to which calls it applies, when, and with which code. Every row looks at the state as it came; the first that holds decides, and
--- only the table refuses.
+-- Document 01, "Codes, in the order they are tested", without the row of 3, 0, which request [7] takes away (docs/changes/07-code-3.md), and with
+-- the row of 255, 2, which request [12] puts in (docs/changes/12-protect.md). Each row says to which calls it applies, when, and with which code.
+-- Every row looks at the state as it came; the first that holds decides, and only the table refuses.
 use mathlib.Core.Bool.{Bool, true, false, cond, not}
 use mathlib.Core.List.{List, [], _∷_}
 use Prim.Native.Nat.{ℕ}
@@ -15,7 +15,7 @@ use Rattle.format.specs.Dates.{bcd}
 use Rattle.format.specs.Consistent.{extentRight, consistent}
 use Rattle.format.specs.Notes.{mapRight, findFree}
 use Rattle.format.specs.Fcb.{fcbBytes, crRight, randomOf}
-use Rattle.format.specs.Found.{isFound}
+use Rattle.format.specs.Found.{isFound, numberOf}
 use Rattle.format.specs.declared.Found.{Found}
 use Rattle.model.specs.declared.Session.{Session}
 use Rattle.model.specs.declared.Code.{Code}
@@ -24,8 +24,9 @@ use Rattle.model.specs.declared.Verdict.{Verdict}
 use Rattle.model.specs.declared.Verdict.the-variants.{Passed, Refused}
 use Rattle.model.specs.declared.Asked.{Asked}
 use Rattle.model.specs.Kinds.{oneOf, usesFcb, isCall}
-use Rattle.model.specs.Lent.{Lent, rowsOf, searchOn}
-use Rattle.model.specs.Target.{targetExtent, presentEntry, targetEntry, blockThere, recordThere, readOnlyThere}
+use Rattle.model.specs.Lent.{Lent, rowsOf, searchOn, protected}
+use Rattle.model.specs.Closing.{closeChanges}
+use Rattle.model.specs.Target.{targetExtent, presentEntry, stays, targetEntry, blockThere, recordThere, readOnlyThere}
 use Rattle.model.specs.Search.{patternOf, findHit}
 
 -- ---- the tests
@@ -90,6 +91,10 @@ unfoldable pub firstRow : List Row → Verdict
 firstRow [] = Passed
 firstRow (r ∷ rs) = cond (r .holds) (Refused (r .code)) (firstRow rs)
 
+abbrev pub isPassed : Verdict → Bool
+isPassed Passed = true
+isPassed (Refused code) = false
+
 abbrev pub row : List ℕ → Bool → Code → RowFor
 row calls test code = record { calls = calls; row = when test code }
 
@@ -143,6 +148,22 @@ module _ (G : Geometry) (asked : Asked) (l : Lent) (s : Session) where
   abbrev pub ownRows : List Row
   ownRows = rowsAt (asked .number) callRows
 
+  -- ---- document 02, [12]
+  -- a read would else succeed: no later row holds
+  unfoldable pub wouldSucceed : Bool
+  wouldSucceed = isPassed (firstRow ownRows)
+
+  -- it moves, and the close with which a move begins changes the entry
+  unfoldable pub moveChanges : Bool
+  moveChanges =
+      not (stays (asked .number) (l .fcb)) and closeChanges G (rowsOf G l (numberOf (G .entries) (presentEntry G (s .user) l))) (l .fcb)
+
+  -- "until the caller lifts it", the protection refuses these calls, "and .. a read that would else succeed by a move that changes an entry"
+  unfoldable pub protectionHolds : Bool
+  protectionHolds =
+      protected s
+      and (oneOf (asked .number) (16 ∷ 19 ∷ 21 ∷ 22 ∷ 23 ∷ 34 ∷ []) or (oneOf (asked .number) (20 ∷ 33 ∷ []) and wouldSucceed and moveChanges))
+
   unfoldable pub table : List Row
   table =
       -- 255, 255
@@ -151,6 +172,8 @@ module _ (G : Geometry) (asked : Asked) (l : Lent) (s : Session) where
       ∷ when (not (parametersRight G l asked s)) Code.BadParameter
       -- 255, 1
       ∷ when (not (diskRight G l asked)) Code.BadDisk
+      -- 255, 2
+      ∷ when protectionHolds Code.Protected
       ∷ ownRows
 
   unfoldable pub verdict : Verdict

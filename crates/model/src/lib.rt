@@ -11,13 +11,15 @@ pub struct Asked {
     pub minute: u8,
 }
 
-// What passes from call to call: the user, and a search with its pattern, its next place, and whether it is on (any but 0).
+// What passes from call to call: the user, a search with its pattern, its next place, and whether it is on (any but 0), and whether the
+// write protection is lifted (any but 0).
 #[repr(C)]
 pub struct Session {
     pub user: u8,
     pub pattern: [u8; 12],
     pub place: u16,
     pub on: u8,
+    pub lifted: u8,
 }
 
 #[repr(C)]
@@ -48,6 +50,7 @@ pub enum Code {
     NotListed,
     BadParameter,
     BadDisk,
+    Protected,
     BadRecord,
     NotCurrent,
     Failed,

@@ -5,6 +5,7 @@ use mathlib.Core.Bool.{Bool, true, false, cond}
 use Prim.Native.Nat.{ℕ, _<_}
 use native.Mathlib.Omega.{arith}
 use lib.ListN.{length}
+use Rattle.lists.specs.Tests.{_and_}
 use Rattle.format.specs.Diskette.{Bytes, Geometry, Sound, Long, entryBytes}
 use Rattle.format.specs.Entries.{entryAt, extentOf, slotFor}
 use Rattle.format.specs.Fcb.{fcbBytes}
@@ -19,16 +20,17 @@ use Rattle.model.specs.Entering.{nextRow}
 use Rattle.model.specs.declared.Session.{Session}
 use Rattle.model.specs.declared.Answer.{Answer}
 use Rattle.model.specs.declared.Code.{Code}
-use Rattle.model.specs.declared.Code.the-variants.{Accepted}
+use Rattle.model.specs.declared.Code.the-variants.{Accepted, Protected}
 use Rattle.model.specs.declared.Plan.{Plan}
 use Rattle.model.specs.declared.Plan.the-variants.{Stay, Move, Make}
-use Rattle.model.specs.Lent.{Lent, answerOf, ended}
+use Rattle.model.specs.Lent.{Lent, answerOf, ended, protected}
 use Rattle.model.specs.Target.{targetSlot, moved, made, haveRead, haveWritten, targetExtent}
 use Rattle.model.specs.Kinds.{kindOf, same, ofRecord}
-use Rattle.model.specs.declared.Kind.the-variants.{Write}
+use Rattle.model.specs.declared.Kind.the-variants.{Read, Write}
 use Rattle.model.specs.Calls.{done, readAt, reading, writtenAt, writing}
 use Rattle.model.specs.Step.{refusedSession}
-use Rattle.table.specs.OwnStep.{ownStep}
+use Rattle.table.specs.Protection.{planChanges}
+use Rattle.table.specs.OwnStep.{readyStep, ready-held, ready-own}
 use Rattle.table.specs.Plans.{entryOf}
 use Rattle.targets.specs.declared.Target.{Target}
 use Rattle.targets.specs.Target.{TargetOf}
@@ -36,6 +38,7 @@ use Rattle.rulings.specs.declared.Ruling.the-variants.{Refuse, Follow}
 use Rattle.rulings.specs.Ruling.{ruling}
 use Rattle.rulings.specs.Bounds.{OnDisk, OwnExtent}
 use Rattle.rulings.specs.Own.{own-record}
+use Rattle.rulings.specs.Held.{refused-free, followed-held, followed-free}
 
 -- the buffers once the FCB has come to the target's extent, ext
 abbrev pub arrived : Geometry → ℕ → Lent → Plan → Lent
@@ -102,15 +105,20 @@ module _ (G : Geometry) (s : Session) (l : Lent) (n : ℕ) where
   following-by p t is true = writing-by p ∙ sym (rw (is .extent, is .at, is .after))
   following-by p t is false = reading-by p ∙ sym (rw (is .extent, is .at, is .after))
 
--- ---- a record call: refused with nothing changed, or the plan carried out
+-- ---- a record call: refused with nothing changed, by its ruling or by the protection, or the plan carried out
 module _ (G : Geometry) (asked : Asked) (l : Lent) (s : Session) (r : Answer)
-    (which : ofRecord (kindOf (asked .number)) ≡ true) where
+    (which : ofRecord (kindOf (asked .number)) ≡ true) (only : protected s ≡ true → kindOf (asked .number) ≡ Read) where
   pub record-refused : (code : Code) → ruling G (asked .number) (s .user) l ≡ Refuse code → r ≡ answerOf code (refusedSession code s)
-      → record { answer = r; lent = l } ≡ ownStep G asked l s
-  record-refused code q h = rw (own-record G asked l s which, q, h)
+      → record { answer = r; lent = l } ≡ readyStep G asked l s
+  record-refused code q h = rw (ready-own G asked l s (refused-free G asked l s only code q), own-record G asked l s which, q, h)
 
-  pub record-carried : (p : Plan) (t : Target) (left : Lent) → ruling G (asked .number) (s .user) l ≡ Follow p → TargetOf (asked .number) (l .fcb) t
+  pub record-held : (p : Plan) → ruling G (asked .number) (s .user) l ≡ Follow p → (protected s and planChanges G l p) ≡ true
+      → r ≡ answerOf Protected (refusedSession Protected s) → record { answer = r; lent = l } ≡ readyStep G asked l s
+  record-held p q held h = rw (ready-held G asked l s (followed-held G asked l s only p q held), h)
+
+  pub record-carried : (p : Plan) (t : Target) (left : Lent) → ruling G (asked .number) (s .user) l ≡ Follow p → (protected s and planChanges G l p) ≡ false
+      → TargetOf (asked .number) (l .fcb) t
       → r ≡ answerOf (Accepted 0) (ended s) → left ≡ transferred G (same (kindOf (asked .number)) Write) p t (arrived G (t .extent) l p)
-      → record { answer = r; lent = left } ≡ ownStep G asked l s
-  record-carried p t left q is h k =
-      rw (own-record G asked l s which, q, following-by G s l (asked .number) p t is (same (kindOf (asked .number)) Write), h, k)
+      → record { answer = r; lent = left } ≡ readyStep G asked l s
+  record-carried p t left q free is h k =
+      rw (ready-own G asked l s (followed-free G asked l s only p q free), own-record G asked l s which, q, following-by G s l (asked .number) p t is (same (kindOf (asked .number)) Write), h, k)

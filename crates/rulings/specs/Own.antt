@@ -72,13 +72,13 @@ same-code (x ∷ front) rs t r code h = past-row (x .holds) _ _ _ (λ f. same-co
 
 module _ (G : Geometry) (asked : Asked) (l : Lent) (s : Session) where
   -- ---- the rows: a record that is there has an entry
-  rows-20 : firstRow (ownRows G (calling 20 asked) l s) ≡ firstRow (rulingRows G 20 (s .user) l)
+  pub rows-20 : firstRow (ownRows G (calling 20 asked) l s) ≡ firstRow (rulingRows G 20 (s .user) l)
   unfolding rulingRows readRows missingCode kindOf isRandom
   rows-20 =
       same-code (_ ∷ []) _ _ _ NoRecord (λ h r. found-so _ (there-target G 20 (s .user) l (is-found _ (not-false _ (h .0))) r))
       ∙ sym (gone [] _ _ BadRecord (λ h. over-sequential 20 _ refl))
 
-  rows-33 : firstRow (ownRows G (calling 33 asked) l s) ≡ firstRow (rulingRows G 33 (s .user) l)
+  pub rows-33 : firstRow (ownRows G (calling 33 asked) l s) ≡ firstRow (rulingRows G 33 (s .user) l)
   unfolding rulingRows readRows missingCode kindOf isRandom
   rows-33 = rw (over-random 33 (l .fcb) refl)
 

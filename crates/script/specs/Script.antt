@@ -1,17 +1,21 @@
--- Lists of calls as code is handed them. A script has seven numbers a call: its own, its argument, the time (day, hour and minute), and the
--- lengths of its FCB and of its buffer. The FCBs stand one after the other in one slice, the buffers in another.
+-- Runs as code is handed them. A script has seven numbers a call: its own, its argument, the time (day, hour and minute), and the lengths of its
+-- FCB and of its buffer. The FCBs stand one after the other in one slice, the buffers in another. In place of a call's number 256 lifts the
+-- protection and 257 sets it; the FCB and the buffer that stand with it are passed over.
 use mathlib.Core.Path.{_≡_, refl, ap, sym, _∙_}
+use mathlib.Core.Bool.{true, false, cond}
 use mathlib.Core.List.{List, [], _∷_, _++_, append-assoc}
 use Prim.Native.Nat.{ℕ, suc, _+_, _-_, _%_, _≤_, _<_}
 use native.Mathlib.Omega.{arith}
+use lib.Dec.{eqb}
+use borrow.Author.Tests.{eq-eqb, ne-eqb}
 use lib.ListN.{length, getD, take, drop, take-append-drop, length-append, length-drop, drop-of-length-le}
 use lib.Seq.{take-all, take-append-seam, drop-append-seam, drop-cons, drop-at, length-take-le, length-front}
 use Rattle.format.specs.Diskette.{Bytes, eightInch}
 use Rattle.model.specs.declared.Asked.{Asked}
 use Rattle.model.specs.declared.Session.{Session}
-use Rattle.model.specs.Lent.{Lent, lend, Outcome}
+use Rattle.model.specs.Lent.{lend, Outcome, lift, protect}
 use Rattle.model.specs.Step.{step}
-use Rattle.demands.specs.Runs.{Request, Disk, outcomeOf, after, run}
+use Rattle.demands.specs.Runs.{Request, Disk, outcomeOf, left, after, Act, calls, lifts, protects, afterAct, run}
 use Rattle.script.specs.declared.Point.{Point}
 
 abbrev pub request : Asked → Bytes → Bytes → Request
@@ -21,30 +25,44 @@ request asked fcb buffer = record { asked = asked; fcb = fcb; buffer = buffer }
 abbrev pub askedBy : ℕ → ℕ → ℕ → ℕ → ℕ → Asked
 askedBy n a d h m = record { number = n % 256; argument = a % 256; day = d % 65536; hour = h % 256; minute = m % 256 }
 
--- the calls that a script stands for. One that ends within a call ends before it; where FCBs or buffers run out, what is left is lent
-unfoldable pub requests : List ℕ → Bytes → Bytes → List Request
-requests (n ∷ a ∷ d ∷ h ∷ m ∷ f ∷ b ∷ script) fcbs buffers =
-    request (askedBy n a d h m) (take f fcbs) (take b buffers) ∷ requests script (drop f fcbs) (drop b buffers)
-requests [] fcbs buffers = []
-requests (n ∷ []) fcbs buffers = []
-requests (n ∷ a ∷ []) fcbs buffers = []
-requests (n ∷ a ∷ d ∷ []) fcbs buffers = []
-requests (n ∷ a ∷ d ∷ h ∷ []) fcbs buffers = []
-requests (n ∷ a ∷ d ∷ h ∷ m ∷ []) fcbs buffers = []
-requests (n ∷ a ∷ d ∷ h ∷ m ∷ f ∷ []) fcbs buffers = []
+-- the numbers that stand for no call
+abbrev pub lifting : ℕ
+lifting = 256
+
+abbrev pub protecting : ℕ
+protecting = 257
+
+abbrev pub actBy : ℕ → Request → Act
+actBy n q = cond (eqb n lifting) lifts (cond (eqb n protecting) protects (calls q))
+
+-- the run that a script stands for. One that ends within a call ends before it; where FCBs or buffers run out, what is left is lent
+unfoldable pub acts : List ℕ → Bytes → Bytes → List Act
+acts (n ∷ a ∷ d ∷ h ∷ m ∷ f ∷ b ∷ script) fcbs buffers =
+    actBy n (request (askedBy n a d h m) (take f fcbs) (take b buffers)) ∷ acts script (drop f fcbs) (drop b buffers)
+acts [] fcbs buffers = []
+acts (n ∷ []) fcbs buffers = []
+acts (n ∷ a ∷ []) fcbs buffers = []
+acts (n ∷ a ∷ d ∷ []) fcbs buffers = []
+acts (n ∷ a ∷ d ∷ h ∷ []) fcbs buffers = []
+acts (n ∷ a ∷ d ∷ h ∷ m ∷ []) fcbs buffers = []
+acts (n ∷ a ∷ d ∷ h ∷ m ∷ f ∷ []) fcbs buffers = []
 
 abbrev pub diskOf : Bytes → Bytes → Session → Disk
 diskOf image map s = record { drive = record { image = image; map = map }; session = s }
 
--- every list of calls whose numbers are in range is that of a script
-abbrev numbersOf : List Request → List ℕ
+-- every run whose numbers are in range is that of a script
+abbrev numbersOf : List Act → List ℕ
 numbersOf [] = []
-numbersOf (q ∷ qs) =
-    q .asked .number ∷ q .asked .argument ∷ q .asked .day ∷ q .asked .hour ∷ q .asked .minute ∷ length (q .fcb) ∷ length (q .buffer) ∷ numbersOf qs
+numbersOf (calls q ∷ rest) =
+    q .asked .number ∷ q .asked .argument ∷ q .asked .day ∷ q .asked .hour ∷ q .asked .minute ∷ length (q .fcb) ∷ length (q .buffer) ∷ numbersOf rest
+numbersOf (lifts ∷ rest) = lifting ∷ 0 ∷ 0 ∷ 0 ∷ 0 ∷ 0 ∷ 0 ∷ numbersOf rest
+numbersOf (protects ∷ rest) = protecting ∷ 0 ∷ 0 ∷ 0 ∷ 0 ∷ 0 ∷ 0 ∷ numbersOf rest
 
-abbrev joined : (Request → Bytes) → List Request → Bytes
+abbrev joined : (Request → Bytes) → List Act → Bytes
 joined bytes [] = []
-joined bytes (q ∷ qs) = bytes q ++ joined bytes qs
+joined bytes (calls q ∷ rest) = bytes q ++ joined bytes rest
+joined bytes (lifts ∷ rest) = joined bytes rest
+joined bytes (protects ∷ rest) = joined bytes rest
 
 pub record InRange (asked : Asked) : Type 0 where
   pub number : asked .number < 256
@@ -53,9 +71,11 @@ pub record InRange (asked : Asked) : Type 0 where
   pub hour : asked .hour < 256
   pub minute : asked .minute < 256
 
-abbrev AllInRange : List Request → Type 0
+abbrev AllInRange : List Act → Type 0
 AllInRange [] = Unit {0}
-AllInRange (q ∷ qs) = InRange (q .asked) × AllInRange qs
+AllInRange (calls q ∷ rest) = InRange (q .asked) × AllInRange rest
+AllInRange (lifts ∷ rest) = AllInRange rest
+AllInRange (protects ∷ rest) = AllInRange rest
 
 asked-again : (asked : Asked) → InRange asked → askedBy (asked .number) (asked .argument) (asked .day) (asked .hour) (asked .minute) ≡ asked
 asked-again asked r =
@@ -66,24 +86,33 @@ asked-again asked r =
     let m : asked .minute % 256 ≡ asked .minute = omega (arith, r .minute) in
     rw (n, a, d, h, m)
 
-pub scripted : (qs : List Request) → AllInRange qs → requests (numbersOf qs) (joined (λ (q : Request). q .fcb) qs) (joined (λ (q : Request). q .buffer) qs) ≡ qs
-unfolding requests
+-- a call's number is neither of the two
+call-act : (q : Request) → q .asked .number < 256 → actBy (q .asked .number) q ≡ calls q
+call-act q h =
+    let a : eqb (q .asked .number) lifting ≡ false = ne-eqb (q .asked .number) 256 (λ z. omega arith) in
+    let b : eqb (q .asked .number) protecting ≡ false = ne-eqb (q .asked .number) 257 (λ z. omega arith) in rw (a, b)
+
+pub scripted : (run : List Act) → AllInRange run → acts (numbersOf run) (joined (λ (q : Request). q .fcb) run) (joined (λ (q : Request). q .buffer) run) ≡ run
+unfolding acts
 scripted [] all = refl
-scripted (q ∷ qs) all =
+scripted (calls q ∷ rest) all =
     rw (
       asked-again (q .asked) (all .0),
-      take-append-seam (q .fcb) (joined (λ (r : Request). r .fcb) qs),
-      take-append-seam (q .buffer) (joined (λ (r : Request). r .buffer) qs),
-      drop-append-seam (q .fcb) (joined (λ (r : Request). r .fcb) qs),
-      drop-append-seam (q .buffer) (joined (λ (r : Request). r .buffer) qs),
-      scripted qs (all .1),
+      take-append-seam (q .fcb) (joined (λ (r : Request). r .fcb) rest),
+      take-append-seam (q .buffer) (joined (λ (r : Request). r .buffer) rest),
+      drop-append-seam (q .fcb) (joined (λ (r : Request). r .fcb) rest),
+      drop-append-seam (q .buffer) (joined (λ (r : Request). r .buffer) rest),
+      scripted rest (all .1),
+      call-act q (all .0 .number),
     )
+scripted (lifts ∷ rest) all = rw (scripted rest all)
+scripted (protects ∷ rest) all = rw (scripted rest all)
 
 -- ---- the loop that makes them
 -- the disk that is come to by the calls from `at` on, from a point of a run
 unfoldable pub callsLeft : List ℕ → ℕ → Bytes → Bytes → Bytes → Bytes → Point → Disk
 callsLeft script at fcbs buffers image map p =
-    run eightInch (diskOf image map (p .session)) (requests (drop at script) (drop (p .fcbs) fcbs) (drop (p .buffers) buffers))
+    run eightInch (diskOf image map (p .session)) (acts (drop at script) (drop (p .fcbs) fcbs) (drop (p .buffers) buffers))
 
 -- `to` is where the next n bytes end, or all that is left
 pub record Ends (bytes : Bytes) (from n to : ℕ) : Type 0 where
@@ -141,8 +170,8 @@ seven xs at h =
       next xs (at + 6) (at + 7) (omega arith) (omega arith),
     )
 
-none-left : (xs : List ℕ) (fcbs buffers : Bytes) → length xs < 7 → requests xs fcbs buffers ≡ []
-unfolding requests
+none-left : (xs : List ℕ) (fcbs buffers : Bytes) → length xs < 7 → acts xs fcbs buffers ≡ []
+unfolding acts
 none-left [] fcbs buffers l = refl
 none-left (n ∷ []) fcbs buffers l = refl
 none-left (n ∷ a ∷ []) fcbs buffers l = refl
@@ -157,16 +186,35 @@ abbrev pub askedAt : List ℕ → ℕ → Asked
 askedAt script at =
     askedBy (getD script at 0) (getD script (at + 1) 0) (getD script (at + 2) 0) (getD script (at + 3) 0) (getD script (at + 4) 0)
 
+-- ---- one act, by the number that stands for it
+module _ (image map : Bytes) (s : Session) (n : ℕ) (asked : Asked) (fcb buffer : Bytes) where
+  abbrev made : Disk
+  made = afterAct eightInch (diskOf image map s) (actBy n (request asked fcb buffer))
+
+  pub act-lifts : n ≡ lifting → (t : Session) → t ≡ lift s → diskOf image map t ≡ made
+  act-lifts z t q = let w : eqb n lifting ≡ true = eq-eqb _ _ z in rw (w, q)
+
+  pub act-protects : (n ≡ lifting → ⊥) → n ≡ protecting → (t : Session) → t ≡ protect s → diskOf image map t ≡ made
+  act-protects y z t q =
+      let v : eqb n lifting ≡ false = ne-eqb _ _ y in
+      let w : eqb n protecting ≡ true = eq-eqb _ _ z in rw (v, w, q)
+
+  pub act-calls : (n ≡ lifting → ⊥) → (n ≡ protecting → ⊥) → (o : Outcome) → o ≡ step eightInch asked (lend image map fcb buffer) s → left o ≡ made
+  unfolding after outcomeOf
+  act-calls y z o q =
+      let v : eqb n lifting ≡ false = ne-eqb _ _ y in
+      let w : eqb n protecting ≡ false = ne-eqb _ _ z in rw (v, w, q)
+
 -- a slice whose part came back
 abbrev pub mended : Bytes → ℕ → ℕ → Bytes → Bytes
 mended bytes from to part = take from bytes ++ (part ++ drop (to - from) (drop from bytes))
 
--- it is as long as it was; the part is one of an outcome's buffers
-pub length-mended : (get : Lent → Bytes) (o p : Outcome) → o ≡ p → (bytes : Bytes) (from n to : ℕ) → Ends bytes from n to
-    → length (get (o .lent)) ≡ length (take (to - from) (drop from bytes)) → length (mended bytes from to (get (o .lent))) ≡ length bytes
-length-mended get o p meets bytes from n to e h =
-    length-append (take from bytes) (get (o .lent) ++ drop (to - from) (drop from bytes))
-    ∙ ap (λ (k : ℕ). length (take from bytes) + k) (length-front (drop from bytes) (get (o .lent)) (to - from) h)
+-- it is as long as it was, where the part is
+pub length-mended : (part bytes : Bytes) (from n to : ℕ) → Ends bytes from n to
+    → length part ≡ length (take (to - from) (drop from bytes)) → length (mended bytes from to part) ≡ length bytes
+length-mended part bytes from n to e h =
+    length-append (take from bytes) (part ++ drop (to - from) (drop from bytes))
+    ∙ ap (λ (k : ℕ). length (take from bytes) + k) (length-front (drop from bytes) part (to - from) h)
     ∙ sym (length-append (take from bytes) (drop from bytes)) ∙ ap length (take-append-drop from bytes)
 
 module _ (script : List ℕ) (at : ℕ) (fcbs buffers image map : Bytes) (p : Point) where
@@ -177,23 +225,23 @@ module _ (script : List ℕ) (at : ℕ) (fcbs buffers image map : Bytes) (p : Po
       let none = none-left (drop at script) (drop (p .fcbs) fcbs) (drop (p .buffers) buffers) (omega arith) in
       ap (run eightInch (diskOf image map (p .session))) none
 
-  -- one call is made
+  -- one act is made, with the next parts of the two slices
   pub calls-next : at + 7 ≤ length script → (f b : ℕ) → Ends fcbs (p .fcbs) (getD script (at + 5) 0) f → Ends buffers (p .buffers) (getD script (at + 6) 0) b
-      → (asked : Asked) → asked ≡ askedAt script at → (o : Outcome)
-      → o ≡ step eightInch asked
-      (lend image map (take (f - p .fcbs) (drop (p .fcbs) fcbs)) (take (b - p .buffers) (drop (p .buffers) buffers))) (p .session)
-      → length (o .lent .fcb) ≡ length (take (f - p .fcbs) (drop (p .fcbs) fcbs))
-      → length (o .lent .buffer) ≡ length (take (b - p .buffers) (drop (p .buffers) buffers))
-      → callsLeft script (at + 7) (mended fcbs (p .fcbs) f (o .lent .fcb)) (mended buffers (p .buffers) b (o .lent .buffer)) (o .lent .drive .image) (o .lent .drive .map)
-      record { fcbs = f; buffers = b; session = o .answer .session }
+      → (asked : Asked) → asked ≡ askedAt script at → (img notes fcb buffer : Bytes) (s : Session)
+      → diskOf img notes s ≡ afterAct eightInch (diskOf image map (p .session))
+      (actBy (getD script at 0) (request asked (take (f - p .fcbs) (drop (p .fcbs) fcbs)) (take (b - p .buffers) (drop (p .buffers) buffers))))
+      → length fcb ≡ length (take (f - p .fcbs) (drop (p .fcbs) fcbs))
+      → length buffer ≡ length (take (b - p .buffers) (drop (p .buffers) buffers))
+      → callsLeft script (at + 7) (mended fcbs (p .fcbs) f fcb) (mended buffers (p .buffers) b buffer) img notes
+      record { fcbs = f; buffers = b; session = s }
       ≡ callsLeft script at fcbs buffers image map p
-  unfolding callsLeft run requests after outcomeOf
-  calls-next h f b ef eb asked q o meets lf lb =
+  unfolding callsLeft run acts
+  calls-next h f b ef eb asked q img notes fcb buffer s meets lf lb =
       let x : ℕ = getD script (at + 5) 0 in
       let y : ℕ = getD script (at + 6) 0 in
       rw (
-        past-part fcbs (o .lent .fcb) (p .fcbs) x f ef (lf ∙ part-long fcbs (p .fcbs) x f ef),
-        past-part buffers (o .lent .buffer) (p .buffers) y b eb (lb ∙ part-long buffers (p .buffers) y b eb),
+        past-part fcbs fcb (p .fcbs) x f ef (lf ∙ part-long fcbs (p .fcbs) x f ef),
+        past-part buffers buffer (p .buffers) y b eb (lb ∙ part-long buffers (p .buffers) y b eb),
         seven script at h,
         meets,
         q,

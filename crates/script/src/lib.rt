@@ -1,15 +1,20 @@
-// A script: calls in plain numbers, with FCBs and buffers of any lengths, made one after another through the public call.
+// A script: calls in plain numbers, with FCBs and buffers of any lengths, made one after another through the public call; and the protection
+// lifted and set between them.
 ghost use mathlib.Core.Path.{_≡_};
 ghost use Prim.Native.Nat.{_+_, _≤_};
 ghost use lib.ListN.{length};
 ghost use Rattle.format.specs.Diskette.{eightInch};
-ghost use Rattle.demands.specs.Runs.{run};
-ghost use Rattle.script.specs.Script.{askedAt, requests, callsLeft, Ends, diskOf};
+ghost use Rattle.demands.specs.Runs.{afterAct, run};
+ghost use Rattle.script.specs.Script.{askedAt, request, actBy, acts, callsLeft, Ends, diskOf};
 use model::Asked;
 use model::Session;
 
 // The numbers of a call in a script: its own, its argument, day, hour and minute, and the lengths of its FCB and of its buffer.
 const CALL_NUMBERS: usize = 7;
+
+// In place of a call's number: the protection lifted, and set.
+const LIFTS: usize = 256;
+const PROTECTS: usize = 257;
 
 // Where a run stands: past the FCBs and the buffers of the calls that were made, and the session that these left.
 struct Point {
@@ -43,7 +48,31 @@ fn ends_at(bytes: &[u8], from: usize, n: usize) -> usize
     bytes.len()
 }
 
-// The next call of a script: those that are left, made on what it leaves, come to what they and it came to before. What it requires is the
+// One act of a script, by the number that stands for it.
+fn make_act(
+    number: usize,
+    asked: Asked,
+    image: &mut [u8],
+    map: &mut [u16],
+    fcb: &mut [u8],
+    buffer: &mut [u8],
+    session: Session,
+) -> Session
+    ensures { λ r. ⌜ diskOf (now (image .exit)) (now (map .exit)) r
+        ≡ afterAct eightInch (diskOf (now (image .entry)) (now (map .entry)) session)
+        (actBy number (request asked (now (fcb .entry)) (now (buffer .entry)))) ⌝ }
+{
+    if number == LIFTS {
+        return protection::lift(session);
+    }
+    if number == PROTECTS {
+        return protection::protect(session);
+    }
+    let answer = bdos::call(asked, image, map, fcb, buffer, session);
+    answer.session
+}
+
+// The next act of a script: those that are left, made on what it leaves, come to what they and it came to before. What it requires is the
 // loop's test and invariant.
 fn make_call(
     script: &[usize],
@@ -65,7 +94,9 @@ fn make_call(
     let from = p.buffers;
     let to = ends_at(buffers, from, script[at + 6]);
     let asked = asked_at(script, at);
-    let r = bdos::call(
+    let number = script[at];
+    let t = make_act(
+        number,
         asked,
         image,
         map,
@@ -73,7 +104,6 @@ fn make_call(
         &mut buffers[from..to],
         s,
     );
-    let t = r.session;
     Point {
         fcbs: fcb_to,
         buffers: to,
@@ -81,7 +111,7 @@ fn make_call(
     }
 }
 
-// The calls of a script, one after the other, with FCBs and buffers of any length.
+// The acts of a script, one after the other, with FCBs and buffers of any length.
 pub fn run_calls(
     script: &[usize],
     fcbs: &mut [u8],
@@ -92,7 +122,7 @@ pub fn run_calls(
 ) -> Session
     ensures { λ r. ⌜ diskOf (now (image .exit)) (now (map .exit)) r
         ≡ run eightInch (diskOf (now (image .entry)) (now (map .entry)) session)
-        (requests (now (script .entry)) (now (fcbs .entry)) (now (buffers .entry))) ⌝ }
+        (acts (now (script .entry)) (now (fcbs .entry)) (now (buffers .entry))) ⌝ }
 {
     let mut p = Point {
         fcbs: 0,

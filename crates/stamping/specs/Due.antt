@@ -1,6 +1,6 @@
 -- What is due is what the call makes, call by call.
 use mathlib.Core.Path.{_≡_, refl, ap, sym, _∙_}
-use mathlib.Core.Bool.{Bool, true, false, cond}
+use mathlib.Core.Bool.{Bool, true, false, cond, not}
 use mathlib.Core.List.{List, [], _∷_, _++_, append-nil}
 use Prim.Native.Nat.{ℕ, _≤_}
 use borrow.Author.Tests.{ne-eqb}
@@ -8,7 +8,7 @@ use types.Run.{OneOf, miss}
 use denote.Enum.Declared.{tagOf}
 use Rattle.model.proofs.Kind.{the-type}
 use Rattle.lists.specs.Cases.{split, bool-cases}
-use Rattle.lists.specs.Tests.{_and_}
+use Rattle.lists.specs.Tests.{_and_, and-both, and-fails-left, and-fails-right}
 use Rattle.format.specs.Diskette.{Bytes, Geometry}
 use Rattle.format.specs.Entries.{entryAt, findEmpty}
 use Rattle.format.specs.Dates.{asksCreate, asksUpdate, asksAccess, asks}
@@ -21,7 +21,7 @@ use Rattle.model.specs.declared.Session.{Session}
 use Rattle.model.specs.declared.Kind.{Kind}
 use Rattle.model.specs.declared.Kind.the-variants.{Unlisted, Quiet, Search, User, Settle, Close, Delete, Create, Rename, Read, Write}
 use Rattle.model.specs.Kinds.{kindOf, same, ofRecord}
-use Rattle.model.specs.Lent.{Lent, rowsOf}
+use Rattle.model.specs.Lent.{Lent, rowsOf, protected}
 use Rattle.model.specs.Closing.{closeChanges}
 use Rattle.model.specs.Target.{presentEntry, stays, targetEntry, planFrom, plan}
 use Rattle.model.specs.Table.{askedEntry, ownRows}
@@ -126,17 +126,22 @@ module _ (G : Geometry) (asked : Asked) (l : Lent) (s : Session) where
 
 -- ---- 15, 16 and 22
 module _ (G : Geometry) (asked : Asked) (l : Lent) (s : Session) where
+  -- a protected session stamps no access, nor does a disk whose label does not ask for it
+  pub open-protected : protected s ≡ true → stampsBy G (calling 15 asked) l s Quiet ≡ []
+  unfolding accessStamps
+  open-protected p = rw (and-fails-left _ (asks G (rowsOf G l) asksAccess) (ap not p))
+
   pub open-unasked : asks G (rowsOf G l) asksAccess ≡ false → stampsBy G (calling 15 asked) l s Quiet ≡ []
   unfolding accessStamps
-  open-unasked f = rw f
+  open-unasked f = rw (and-fails-right (not (protected s)) _ f)
 
-  pub open-due : asks G (rowsOf G l) asksAccess ≡ true → (f : Found) → f ≡ askedEntry G l (s .user)
+  pub open-due : protected s ≡ false → asks G (rowsOf G l) asksAccess ≡ true → (f : Found) → f ≡ askedEntry G l (s .user)
       → Dues G (calling 15 asked) l s record { update = Nothing; new = Nothing; first = f }
   unfolding dueStamps accessStamps kindOf
-  open-due wish f is none =
+  open-due lifted wish f is none =
       let p = opens-of G asked l s none .entry in
       let w : f ≡ At (p .place) = is ∙ p .is in
-      rw (w, p .is, wish)
+      rw (w, p .is, and-both _ _ (ap not lifted) wish)
 
   pub quiet-none : (asked .number ≡ 15 → ⊥) → stampsBy G asked l s Quiet ≡ []
   quiet-none n = let t = ne-eqb (asked .number) 15 n in rw t

@@ -1,5 +1,6 @@
--- The stamps of a call that the first three rows have passed: none where its own rows refuse it, or where the disk has no date entries; else
--- those of its kind. What is due is told from the state as it came, as if the call were accepted, and its answer then says whether it was.
+-- The stamps of a call that the first three rows have passed: none where the protection or its own rows refuse it, or where the disk has no
+-- date entries; else those of its kind. What is due is told from the state as it came, as if the call were accepted, and its answer then says
+-- whether it was.
 use mathlib.Core.Path.{_≡_, refl, ap, sym, _∙_}
 use mathlib.Core.Bool.{true, false}
 use mathlib.Core.List.{List, []}
@@ -20,16 +21,16 @@ use Rattle.model.specs.Step.{stampsMade, step}
 use Rattle.table.specs.First.{NoneHolds, none-passed}
 use Rattle.table.specs.Stamping.{where-dated, where-undated}
 use Rattle.table.specs.Own.{calling}
-use Rattle.table.specs.Facts.{Ready}
+use Rattle.table.specs.Facts.{Ready, AcceptedCall}
 use Rattle.table.specs.Total.{total-accepted}
-use Rattle.table.specs.OwnStep.{ownStep, verdict-own, step-own}
+use Rattle.table.specs.OwnStep.{readyRows, readyStep, verdict-ready, step-ready}
 use Rattle.table.specs.Accepted.{acceptedAnswer, carried-says, accepted-carried}
 use Rattle.stamps.specs.declared.Due.{Due}
 use Rattle.stamps.specs.Due.{dueStamps, acceptedStamps}
 
--- the stamps of a call by its own rows
+-- the stamps of a call by the rows behind the first three
 abbrev pub madeBy : Geometry → Asked → Lent → Session → List Stamp
-madeBy G asked l s = stampsMade G asked l s (firstRow (ownRows G asked l s))
+madeBy G asked l s = stampsMade G asked l s (firstRow (readyRows G asked l s))
 
 -- what is due is what the call makes, where none of its rows refuses it
 abbrev pub Dues : Geometry → Asked → Lent → Session → Due → Type 0
@@ -41,47 +42,52 @@ made-at G asked l s n q = ap (λ (m : ℕ). madeBy G (calling m asked) l s) (sym
 
 -- 13 stamps nothing
 pub log-in-made : (G : Geometry) (asked : Asked) (l : Lent) (s : Session) → madeBy G (calling 13 asked) l s ≡ []
-unfolding kindOf firstRow
-log-in-made G asked l s = refl
+unfolding kindOf
+log-in-made G asked l s = none (firstRow (readyRows G (calling 13 asked) l s))
+  where
+    none : (v : Verdict) → stampsMade G (calling 13 asked) l s v ≡ []
+    none Passed = refl
+    none (Refused code) = refl
 
 module _ (G : Geometry) (asked : Asked) (l : Lent) (s : Session) where
   pub made-undated : dated (rowsOf G l) ≡ false → madeBy G asked l s ≡ []
-  made-undated f = none (firstRow (ownRows G asked l s))
+  made-undated f = none (firstRow (readyRows G asked l s))
     where
       none : (v : Verdict) → stampsMade G asked l s v ≡ []
       none Passed = where-undated (dated (rowsOf G l)) (stampsBy G asked l s (kindOf (asked .number))) f
       none (Refused code) = refl
 
   module _ (t : isCall (asked .number) ≡ true) (r : Ready G asked l s) where
-    -- ---- the answer says whether one of its rows has refused the call
-    answers-own : step G asked l s .answer ≡ ownStep G asked l s .answer
-    answers-own = ap (λ (o : Outcome). o .answer) (step-own G asked l s t r)
+    -- ---- the answer says whether one of these rows has refused the call
+    answers-ready : step G asked l s .answer ≡ readyStep G asked l s .answer
+    answers-ready = ap (λ (o : Outcome). o .answer) (step-ready G asked l s t r)
 
-    accepted-none : acceptedAnswer (asked .number) (ownStep G asked l s .answer) ≡ true → NoneHolds (ownRows G asked l s)
-    accepted-none h = accepted-carried G asked l s (ap (acceptedAnswer (asked .number)) answers-own ∙ h) .facts .none
+    accepted-facts : acceptedAnswer (asked .number) (readyStep G asked l s .answer) ≡ true → AcceptedCall G asked l s
+    accepted-facts h = accepted-carried G asked l s (ap (acceptedAnswer (asked .number)) answers-ready ∙ h) .facts
 
-    refused-none : acceptedAnswer (asked .number) (ownStep G asked l s .answer) ≡ false → madeBy G asked l s ≡ []
-    refused-none h = none (firstRow (ownRows G asked l s)) refl
+    refused-none : acceptedAnswer (asked .number) (readyStep G asked l s .answer) ≡ false → madeBy G asked l s ≡ []
+    refused-none h = none (firstRow (readyRows G asked l s)) refl
       where
-        none : (v : Verdict) → firstRow (ownRows G asked l s) ≡ v → stampsMade G asked l s v ≡ []
+        none : (v : Verdict) → firstRow (readyRows G asked l s) ≡ v → stampsMade G asked l s v ≡ []
         none Passed q =
-            let says = carried-says G asked l s (total-accepted G asked l s (verdict-own G asked l s t r ∙ q)) in
-            not-both _ (ap (acceptedAnswer (asked .number)) (sym answers-own) ∙ says) h
+            let says = carried-says G asked l s (total-accepted G asked l s (verdict-ready G asked l s t r ∙ q)) in
+            not-both _ (ap (acceptedAnswer (asked .number)) (sym answers-ready) ∙ says) h
         none (Refused code) q = refl
 
     pub made-accepted : dated (rowsOf G l) ≡ true → (due : Due) → Dues G asked l s due
-        → acceptedStamps asked (ownStep G asked l s .answer) due ≡ madeBy G asked l s
+        → acceptedStamps asked (readyStep G asked l s .answer) due ≡ madeBy G asked l s
     made-accepted dates due makes =
-        split (bool-cases (acceptedAnswer (asked .number) (ownStep G asked l s .answer)))
-        (λ y. let none = accepted-none y in
-        rw y (makes none ∙ sym (rw (none-passed (ownRows G asked l s) none) (where-dated (dated (rowsOf G l)) (stampsBy G asked l s (kindOf (asked .number))) dates))))
+        split (bool-cases (acceptedAnswer (asked .number) (readyStep G asked l s .answer)))
+        (λ y. let c = accepted-facts y in
+        rw y (makes (c .none)
+        ∙ sym (rw (none-passed (readyRows G asked l s) (c .free, c .none)) (where-dated (dated (rowsOf G l)) (stampsBy G asked l s (kindOf (asked .number))) dates))))
         (λ n. rw n (sym (refused-none n)))
 
     -- ---- the whole call, from what its own function leaves: as it is where no stamp is made, or with the stamps put
-    module _ (a : Answer) (img map fcb buffer : Bytes) (own : outcome a img map fcb buffer ≡ ownStep G asked l s) where
+    module _ (a : Answer) (img map fcb buffer : Bytes) (own : outcome a img map fcb buffer ≡ readyStep G asked l s) where
       stamped : (xs : List Stamp) (after : Bytes) → xs ≡ madeBy G asked l s → after ≡ stampedWith G xs img → outcome a after map fcb buffer ≡ step G asked l s
       stamped xs after m q =
-          rw (q, m) (ap (λ (o : Outcome). stampedOutcome G (madeBy G asked l s) o) own ∙ sym (step-own G asked l s t r))
+          rw (q, m) (ap (λ (o : Outcome). stampedOutcome G (madeBy G asked l s) o) own ∙ sym (step-ready G asked l s t r))
 
       pub step-plain : madeBy G asked l s ≡ [] → outcome a img map fcb buffer ≡ step G asked l s
       step-plain none = stamped [] img (sym none) refl

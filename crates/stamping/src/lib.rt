@@ -48,12 +48,15 @@ fn label_asks(image: &[u8], label: u8, what: u8) -> bool
     dates::asks(rows::row(image, lists::wide(label) - 1), what)
 }
 
-// 15: access of the entry opened.
+// 15: access of the entry opened, on a session whose protection is lifted.
 fn open_due(image: &[u8], fcb: &[u8], session: Session, chain: &[u8], label: u8) -> Due
     requires { ⌜ Findable eightInch (now image) (now chain) (session .user) (now fcb) × Dated eightInch (now image) label ⌝ }
     ensures { λ r. ⌜ Puttable eightInch r × ((asked : Asked) (map buffer : Bytes)
         → Dues eightInch (calling 15 asked) (lend (now (image .entry)) map (now (fcb .entry)) buffer) session r) ⌝ }
 {
+    if protection::is_protected(session) {
+        return none_due();
+    }
     if !label_asks(image, label, dates::ACCESS) {
         return none_due();
     }

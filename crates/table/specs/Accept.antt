@@ -26,7 +26,7 @@ use Rattle.model.specs.declared.Kind.the-variants.{Unlisted, Quiet, Search, Use
 use Rattle.model.specs.Kinds.{Listed, calls, kindOf, same, numbersIn, isCall, isRandom}
 use Rattle.model.specs.Search.{findHit}
 use Rattle.model.specs.Step.{pattern, place}
-use Rattle.model.specs.Table.{parametersRight, diskRight, ownRows, verdict}
+use Rattle.model.specs.Table.{parametersRight, diskRight, ownRows, protectionHolds, verdict}
 use Rattle.table.specs.First.{_&_, NoneHolds, passed-none, none-passed, passed-refused}
 use Rattle.table.specs.Own.{calling, AtEach, at-kind, not-unlisted, rowsFor, verdict-rows, verdict-unlisted}
 use Rattle.table.specs.Present.{there-target, file-extent-below}
@@ -190,15 +190,16 @@ module _ (G : Geometry) (asked : Asked) (l : Lent) (s : Session) where
       let t = passed-call q in
       let none = passed-none (rowsFor G asked l s) (sym (verdict-rows G asked l s t) ∙ q) in
       let ready = ready-of G asked l s (not-false (parametersRight G l asked s) (none .0)) (not-false (diskRight G l asked) (none .1 .0)) in
-      record { listed = t; ready = ready; none = none .1 .1; own = own-of G asked l s (none .1 .1) t ready (kindOf (asked .number)) refl }
+      let own = none .1 .1 .1 in
+      record { listed = t; ready = ready; free = none .1 .1 .0; none = own; own = own-of G asked l s own t ready (kindOf (asked .number)) refl }
 
   -- its own facts, where its kind is known
   pub own-at : {k : Kind} → AcceptedCall G asked l s → kindOf (asked .number) ≡ k → Own G asked l s k
   own-at c q = subst (Own G asked l s) q (c .own)
 
   -- a call none of whose rows holds is passed
-  pub passes : isCall (asked .number) ≡ true → Ready G asked l s → NoneHolds (ownRows G asked l s) → verdict G asked l s ≡ Passed
-  passes t r o =
+  pub passes : isCall (asked .number) ≡ true → Ready G asked l s → protectionHolds G asked l s ≡ false → NoneHolds (ownRows G asked l s) → verdict G asked l s ≡ Passed
+  passes t r p o =
       verdict-rows G asked l s t
       ∙ none-passed (rowsFor G asked l s)
-      (ap not (parameters-right G asked l s (r .fits) (r .time) (r .drive)) & ap not (disk-right G asked l s (r .image-right) (r .map-right)) & o)
+      (ap not (parameters-right G asked l s (r .fits) (r .time) (r .drive)) & ap not (disk-right G asked l s (r .image-right) (r .map-right)) & p & o)

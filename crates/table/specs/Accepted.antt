@@ -22,7 +22,7 @@ use Rattle.model.specs.Kinds.{oneOf, kindOf, ofRecord}
 use Rattle.model.specs.Table.{callRows}
 use Rattle.model.specs.Step.{refusedSession, told, step}
 use Rattle.table.specs.Carried.{AnswersEntry, Done}
-use Rattle.table.specs.Refuse.{row-of, Refuses, unlisted, parameter, disk, own}
+use Rattle.table.specs.Refuse.{row-of, Refuses, unlisted, parameter, disk, protection, own}
 use Rattle.table.specs.Total.{RefusedBy, CarriedOut, total}
 
 -- the answer of an accepted call: H is 0, and A is 0 for the record calls, not 255 for the others
@@ -103,7 +103,8 @@ module _ (G : Geometry) (asked : Asked) (l : Lent) (s : Session) where
       go (unlisted e f) = error-refused (asked .number) c (refusedSession c s) (ap (λ (d : Code). eqb (hOf d) 0) e)
       go (parameter e t f) = error-refused (asked .number) c (refusedSession c s) (ap (λ (d : Code). eqb (hOf d) 0) e)
       go (disk e t f) = error-refused (asked .number) c (refusedSession c s) (ap (λ (d : Code). eqb (hOf d) 0) e)
-      go (own g w d) =
+      go (protection e t w f) = error-refused (asked .number) c (refusedSession c s) (ap (λ (d : Code). eqb (hOf d) 0) e)
+      go (own g w p d) =
           let row = row-of refusal (asked .number) c (callRows G asked l s) refl d in
           refusal-refused (asked .number) (row .calls) c (refusedSession c s) (row .passes) (row .applies)
 

@@ -20,7 +20,7 @@ use Rattle.model.specs.declared.Asked.{Asked}
 use Rattle.model.specs.declared.Kind.{Kind}
 use Rattle.model.specs.declared.Kind.the-variants.{Unlisted, Quiet, Search, User, Settle, Close, Delete, Create, Rename, Read, Write}
 use Rattle.model.specs.Kinds.{usesFcb, kindOf, isCall}
-use Rattle.model.specs.Table.{timeRight, askedEntry, ownRows}
+use Rattle.model.specs.Table.{timeRight, askedEntry, ownRows, protectionHolds}
 use Rattle.table.specs.First.{NoneHolds}
 
 -- the lengths, the user and the search place are right
@@ -121,5 +121,7 @@ Own G asked l s Write = Writes G l s (asked .number)
 pub record AcceptedCall (G : Geometry) (asked : Asked) (l : Lent) (s : Session) : Type 0 where
   pub listed : isCall (asked .number) ≡ true
   pub ready : Ready G asked l s
+  -- the protection does not refuse it
+  pub free : protectionHolds G asked l s ≡ false
   pub none : NoneHolds (ownRows G asked l s)
   pub own : Own G asked l s (kindOf (asked .number))

@@ -1,5 +1,6 @@
 pub mod First
 pub mod Own
+pub mod Protection
 pub mod Present
 pub mod Facts
 pub mod Reflect

@@ -12,11 +12,11 @@ use Rattle.model.specs.declared.Asked.{Asked}
 use Rattle.model.specs.declared.Session.{Session}
 use Rattle.model.specs.declared.Kind.{Kind}
 use Rattle.model.specs.declared.Kind.the-variants.{Unlisted, Quiet, Search, User, Settle, Close, Delete, Create, Rename, Read, Write}
-use Rattle.model.specs.declared.Code.the-variants.{NotListed, BadParameter, BadDisk}
+use Rattle.model.specs.declared.Code.the-variants.{NotListed, BadParameter, BadDisk, Protected}
 use Rattle.model.specs.declared.Verdict.the-variants.{Refused}
 use Rattle.model.specs.Kinds.{Listed, calls, lineIn, kindOf, kindNumber, same, isCall, keepNumber, numbersIn, oneOf}
 use Rattle.model.specs.Lent.{Lent}
-use Rattle.model.specs.Table.{parametersRight, diskRight, Row, when, firstRow, ownRows, table, verdict}
+use Rattle.model.specs.Table.{parametersRight, diskRight, Row, when, firstRow, ownRows, protectionHolds, table, verdict}
 
 -- the same asked of the call with this number
 abbrev pub calling : ℕ → Asked → Asked
@@ -110,7 +110,9 @@ not-unlisted n t q = let z : false ≡ true = rw q at t in clash (sym z)
 module _ (G : Geometry) (asked : Asked) (l : Lent) (s : Session) where
   -- all rows that apply to a listed call
   abbrev pub rowsFor : List Row
-  rowsFor = when (not (parametersRight G l asked s)) BadParameter ∷ when (not (diskRight G l asked)) BadDisk ∷ ownRows G asked l s
+  rowsFor =
+      when (not (parametersRight G l asked s)) BadParameter ∷ when (not (diskRight G l asked)) BadDisk
+      ∷ when (protectionHolds G asked l s) Protected ∷ ownRows G asked l s
 
   -- the table decides a listed call as these rows do
   pub verdict-rows : isCall (asked .number) ≡ true → verdict G asked l s ≡ firstRow rowsFor

@@ -1,6 +1,8 @@
--- One call once the first three rows have passed it: its own rows decide, and then it is carried out. What a call's own function does.
+-- One call once the first three rows have passed it: the protection and its own rows decide, and then it is carried out. What a call's own function
+-- does; but for the record calls, which ask for the protection themselves, the protection has been asked for before.
 use mathlib.Core.Path.{_≡_, refl, sym, ap, _∙_}
-use mathlib.Core.Bool.{true, not}
+use mathlib.Core.Bool.{true, false, not}
+use mathlib.Core.List.{List, _∷_}
 use Prim.Native.Nat.{ℕ}
 use Rattle.format.specs.Diskette.{Geometry}
 use Rattle.model.specs.declared.Asked.{Asked}
@@ -9,14 +11,15 @@ use Rattle.model.specs.declared.Kind.{Kind}
 use Rattle.model.specs.declared.Kind.the-variants.{Unlisted, Quiet, Search, User, Settle, Close, Delete, Create, Rename, Read, Write}
 use Rattle.model.specs.declared.Answer.{Answer}
 use Rattle.model.specs.declared.Code.{Code}
-use Rattle.model.specs.declared.Code.the-variants.{BadParameter, BadDisk}
+use Rattle.model.specs.declared.Code.the-variants.{BadParameter, BadDisk, Protected}
+use Rattle.model.specs.declared.Verdict.the-variants.{Refused}
 use Rattle.model.specs.Kinds.{kindOf, isCall}
 use Rattle.model.specs.Lent.{Lent, Outcome, outcome, answerOf}
-use Rattle.model.specs.Table.{parametersRight, diskRight, when, firstRow, ownRows, verdict}
+use Rattle.model.specs.Table.{parametersRight, diskRight, Row, when, firstRow, ownRows, protectionHolds, verdict}
 use Rattle.model.specs.Calls.{quietly}
 use Rattle.model.specs.Step.{refusedSession, refused, told, pattern, place, settled, does, effect, carriedOut, stampsMade, step}
 use Rattle.model.specs.Stamps.{stampedOutcome}
-use Rattle.table.specs.First.{NoneHolds, Decides, first-passes, none-passed, decides-refused}
+use Rattle.table.specs.First.{NoneHolds, Decides, first-passes, none-passed, decides-refused, first-holds}
 use Rattle.table.specs.Own.{calling, verdict-rows}
 use Rattle.table.specs.Facts.{Ready}
 use Rattle.table.specs.Reflect.{parameters-right, disk-right}
@@ -50,17 +53,36 @@ module _ (G : Geometry) (asked : Asked) (l : Lent) (s : Session) where
   unfolding effect
   quiet-own o k none q = carries-own o none (q ∙ rw k)
 
-  -- ---- the table decides a call that the first three rows have passed as its own rows do
-  pub verdict-own : isCall (asked .number) ≡ true → Ready G asked l s → verdict G asked l s ≡ firstRow (ownRows G asked l s)
-  verdict-own t r =
+  -- ---- the rows behind the first three: the protection's, and the call's own
+  abbrev pub readyRows : List Row
+  readyRows = when (protectionHolds G asked l s) Protected ∷ ownRows G asked l s
+
+  -- refused by one of them, or carried out
+  unfoldable pub readyStep : Outcome
+  readyStep = carriedOut G asked l s (firstRow readyRows)
+
+  pub ready-held : protectionHolds G asked l s ≡ true → readyStep ≡ refused Protected s l
+  unfolding readyStep
+  ready-held h = ap (carriedOut G asked l s) (first-holds _ _ h)
+
+  pub ready-own : protectionHolds G asked l s ≡ false → readyStep ≡ ownStep
+  unfolding readyStep ownStep
+  ready-own f = ap (carriedOut G asked l s) (first-passes _ _ f)
+
+  -- ---- the table decides a call that the first three rows have passed as these do
+  pub verdict-ready : isCall (asked .number) ≡ true → Ready G asked l s → verdict G asked l s ≡ firstRow readyRows
+  verdict-ready t r =
       verdict-rows G asked l s t
       ∙ first-passes (when (not (parametersRight G l asked s)) BadParameter) _ (ap not (parameters-right G asked l s (r .fits) (r .time) (r .drive)))
       ∙ first-passes (when (not (diskRight G l asked)) BadDisk) _ (ap not (disk-right G asked l s (r .image-right) (r .map-right)))
 
-  -- the step of a call is its own step, stamped
-  pub step-own : isCall (asked .number) ≡ true → Ready G asked l s → step G asked l s ≡ stampedOutcome G (stampsMade G asked l s (firstRow (ownRows G asked l s))) ownStep
-  unfolding step ownStep
-  step-own t r = rw (verdict-own t r)
+  pub verdict-held : isCall (asked .number) ≡ true → Ready G asked l s → protectionHolds G asked l s ≡ true → verdict G asked l s ≡ Refused Protected
+  verdict-held t r h = verdict-ready t r ∙ first-holds _ _ h
+
+  -- the step of a call is what they leave, stamped
+  pub step-ready : isCall (asked .number) ≡ true → Ready G asked l s → step G asked l s ≡ stampedOutcome G (stampsMade G asked l s (firstRow readyRows)) readyStep
+  unfolding step readyStep
+  step-ready t r = rw (verdict-ready t r)
 
 -- ---- what a call does goes by its number and its argument, whatever the time
 module _ (G : Geometry) (asked other : Asked) (l : Lent) (s : Session) (number : other .number ≡ asked .number) (argument : other .argument ≡ asked .argument) where

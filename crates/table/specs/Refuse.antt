@@ -28,9 +28,10 @@ use Rattle.model.specs.Codes.{saysOf, hOf}
 use Rattle.model.specs.Kinds.{Listed, calls, kindOf, isCall, numbersIn, oneOf}
 use Rattle.model.specs.Lent.{Lent, rowsOf, searchOn}
 use Rattle.model.specs.Search.{patternOf, findHit}
-use Rattle.model.specs.Table.{parametersRight, diskRight, Row, RowFor, when, keep, rowsAt, callRows, firstRow, ownRows, verdict}
+use Rattle.model.specs.Table.{parametersRight, diskRight, Row, RowFor, when, keep, rowsAt, callRows, firstRow, ownRows, protectionHolds, verdict}
 use Rattle.table.specs.First.{_&_, NoneHolds, Decides, here, later, passed-refused, refused-same, refused-decides, decides-refused}
 use Rattle.table.specs.Own.{calling, at-one, rowsFor, verdict-rows, verdict-unlisted}
+use Rattle.table.specs.Protection.{heldCalls, holds-call, other-open}
 use Rattle.table.specs.Facts.{Ready}
 use Rattle.table.specs.Reflect.{pattern-of, pattern-right, parameters-right, disk-right, ready-of}
 
@@ -122,13 +123,14 @@ abbrev hasCode : Code → List Row → Bool
 hasCode c [] = false
 hasCode c (r ∷ rs) = cond (isCode c (r .code)) true (hasCode c rs)
 
--- the calls that a row of their own may refuse with a code, as document 01's table has them, 3, 0 aside. The first three rows are every call's, and an
--- acceptance is no refusal
+-- the calls that a row of their own may refuse with a code, as document 01's table has them, 3, 0 aside. The first three rows are every call's, that of
+-- the protection has its own list (`Protection: heldCalls`), and an acceptance is no refusal
 abbrev pub gives : Code → List ℕ
 gives (Code.Accepted a) = []
 gives Code.NotListed = []
 gives Code.BadParameter = []
 gives Code.BadDisk = []
+gives Code.Protected = []
 gives Code.BadRecord = 33 ∷ 34 ∷ []
 gives Code.NotCurrent = 20 ∷ 21 ∷ 33 ∷ 34 ∷ []
 gives Code.Failed = 15 ∷ 16 ∷ 18 ∷ 19 ∷ 22 ∷ 23 ∷ 32 ∷ 35 ∷ 36 ∷ []
@@ -152,6 +154,7 @@ module _ (G : Geometry) (asked : Asked) (l : Lent) (s : Session) where
   by-code Code.NotListed = refl
   by-code Code.BadParameter = refl
   by-code Code.BadDisk = refl
+  by-code Code.Protected = refl
   by-code Code.BadRecord = refl
   by-code Code.NotCurrent = refl
   by-code Code.Failed = refl
@@ -170,17 +173,20 @@ module _ (G : Geometry) (asked : Asked) (l : Lent) (s : Session) where
       let r = row-of (λ (cs : List ℕ) (c : Code). within cs (gives c)) (asked .number) code (callRows G asked l s) refl d in
       within-one (asked .number) (r .calls) (gives code) (r .passes) (r .applies)
 
-  -- where a refusal comes from: one of the first three rows, or a row of the call's own, with a code that the table has for the call
+  -- where a refusal comes from: one of the first three rows, the protection, of one of the calls that it can refuse, or a row of the call's own,
+  -- with a code that the table has for the call
   pub data Refuses (code : Code) : Type 0 where
     unlisted : code ≡ Code.NotListed → isCall (asked .number) ≡ false → Refuses code
     parameter : code ≡ Code.BadParameter → isCall (asked .number) ≡ true → parametersRight G l asked s ≡ false → Refuses code
     disk : code ≡ Code.BadDisk → isCall (asked .number) ≡ true → diskRight G l asked ≡ false → Refuses code
-    own : oneOf (asked .number) (gives code) ≡ true → Ready G asked l s → Decides code (ownRows G asked l s) → Refuses code
+    protection : code ≡ Code.Protected → oneOf (asked .number) heldCalls ≡ true → Ready G asked l s → protectionHolds G asked l s ≡ true → Refuses code
+    own : oneOf (asked .number) (gives code) ≡ true → Ready G asked l s → protectionHolds G asked l s ≡ false → Decides code (ownRows G asked l s) → Refuses code
 
   refuses-call : (code : Code) → isCall (asked .number) ≡ true → Decides code (rowsFor G asked l s) → Refuses code
   refuses-call code c (here t q) = parameter (sym q) c (not-true _ t)
   refuses-call code c (later f (here t q)) = disk (sym q) c (not-true _ t)
-  refuses-call code c (later f (later g d)) = own (own-given code d) (ready-of G asked l s (not-false _ f) (not-false _ g)) d
+  refuses-call code c (later f (later g (here t q))) = protection (sym q) (holds-call G asked l s t) (ready-of G asked l s (not-false _ f) (not-false _ g)) t
+  refuses-call code c (later f (later g (later p d))) = own (own-given code d) (ready-of G asked l s (not-false _ f) (not-false _ g)) p d
 
   pub refuses : (code : Code) → verdict G asked l s ≡ Refused code → Refuses code
   refuses code q =
@@ -188,31 +194,34 @@ module _ (G : Geometry) (asked : Asked) (l : Lent) (s : Session) where
       (λ t. refuses-call code t (refused-decides code (rowsFor G asked l s) (sym (verdict-rows G asked l s t) ∙ q)))
       (λ f. unlisted (refused-same code Code.NotListed (sym q ∙ verdict-unlisted G asked l s f)) f)
 
-  -- a code that none of the first three rows has comes from the call's own
+  -- a code that none of the rows before has comes from the call's own
   pub own-decides : (t : Code → Bool) (code : Code) → t code ≡ true → t Code.NotListed ≡ false → t Code.BadParameter ≡ false → t Code.BadDisk ≡ false
-      → Refuses code → Ready G asked l s × Decides code (ownRows G asked l s)
-  own-decides t code h u p d (unlisted e f) = other t code h Code.NotListed u (sym e)
-  own-decides t code h u p d (parameter e c f) = other t code h Code.BadParameter p (sym e)
-  own-decides t code h u p d (disk e c f) = other t code h Code.BadDisk d (sym e)
-  own-decides t code h u p d (own g r w) = (r, w)
+      → t Code.Protected ≡ false → Refuses code → Ready G asked l s × Decides code (ownRows G asked l s)
+  own-decides t code h u p d v (unlisted e f) = other t code h Code.NotListed u (sym e)
+  own-decides t code h u p d v (parameter e c f) = other t code h Code.BadParameter p (sym e)
+  own-decides t code h u p d v (disk e c f) = other t code h Code.BadDisk d (sym e)
+  own-decides t code h u p d v (protection e c r f) = other t code h Code.Protected v (sym e)
+  own-decides t code h u p d v (own g r o w) = (r, w)
 
   -- ---- no call is refused with an acceptance
   pub never-accepted : (k : ℕ) → verdict G asked l s ≡ Refused (Code.Accepted k) → ⊥
-  never-accepted k q = clash (sym (own-given (Code.Accepted k) (own-decides (isCode (Code.Accepted k)) (Code.Accepted k) refl refl refl refl (refuses (Code.Accepted k) q) .1)))
+  never-accepted k q = clash (sym (own-given (Code.Accepted k) (own-decides (isCode (Code.Accepted k)) (Code.Accepted k) refl refl refl refl refl (refuses (Code.Accepted k) q) .1)))
 
-  -- a row of the call's own decides, once the first three have failed
-  pub refused-own : (code : Code) → isCall (asked .number) ≡ true → Ready G asked l s → Decides code (ownRows G asked l s) → verdict G asked l s ≡ Refused code
-  refused-own code t r d =
+  -- a row of the call's own decides, once those before have failed
+  pub refused-own : (code : Code) → isCall (asked .number) ≡ true → Ready G asked l s → protectionHolds G asked l s ≡ false → Decides code (ownRows G asked l s)
+      → verdict G asked l s ≡ Refused code
+  refused-own code t r p d =
       verdict-rows G asked l s t
       ∙ decides-refused code (rowsFor G asked l s)
-      (later (ap not (parameters-right G asked l s (r .fits) (r .time) (r .drive))) (later (ap not (disk-right G asked l s (r .image-right) (r .map-right))) d))
+      (later (ap not (parameters-right G asked l s (r .fits) (r .time) (r .drive))) (later (ap not (disk-right G asked l s (r .image-right) (r .map-right))) (later p d)))
 
   -- ---- a consistent image with a right map is never refused for the disk
   bad-disk : (code : Code) → eqb (hOf code) 1 ≡ true → Refuses code → diskRight G l asked ≡ false
   bad-disk code h (unlisted e f) = other (λ (c : Code). eqb (hOf c) 1) code h Code.NotListed refl (sym e)
   bad-disk code h (parameter e c f) = other (λ (c : Code). eqb (hOf c) 1) code h Code.BadParameter refl (sym e)
   bad-disk code h (disk e c f) = f
-  bad-disk code h (own g r d) =
+  bad-disk code h (protection e c r f) = other (λ (c : Code). eqb (hOf c) 1) code h Code.Protected refl (sym e)
+  bad-disk code h (own g r p d) =
       not-both (eqb (hOf code) 1) h
       (not-true _ (row-of (λ (cs : List ℕ) (c : Code). not (eqb (hOf c) 1)) (asked .number) code (callRows G asked l s) refl d .passes))
 
@@ -225,7 +234,7 @@ module _ (G : Geometry) (asked : Asked) (l : Lent) (s : Session) where
   -- ---- code 6 comes out only where the random record is over 262,143
   pub random-over : verdict G asked l s ≡ Refused Code.BadRecord → lastRecord < randomOf (l .fcb)
   random-over q =
-      let d = own-decides G asked l s (isCode Code.BadRecord) Code.BadRecord refl refl refl refl (refuses G asked l s Code.BadRecord q) .1 in
+      let d = own-decides G asked l s (isCode Code.BadRecord) Code.BadRecord refl refl refl refl refl (refuses G asked l s Code.BadRecord q) .1 in
       ltb-true _ _ (at-one (λ (n : ℕ). Decides Code.BadRecord (ownRows G (calling n asked) l s) → ltb lastRecord (randomOf (l .fcb)) ≡ true) (asked .number) (gives Code.BadRecord)
       (own-given G asked l s Code.BadRecord d)
       ((λ v. only-row (isCode Code.BadRecord) Code.BadRecord refl _ Code.BadRecord _ v refl)
@@ -234,7 +243,7 @@ module _ (G : Geometry) (asked : Asked) (l : Lent) (s : Session) where
   -- ---- a search is over exactly where its row decides
   pub search-over : (code : Code) → saysOf code .over ≡ true → Refuses G asked l s code → SearchEnds G asked l s (asked .number)
   search-over code h q =
-      let d = own-decides G asked l s (λ (c : Code). saysOf c .over) code h refl refl refl q in
+      let d = own-decides G asked l s (λ (c : Code). saysOf c .over) code h refl refl refl refl q in
       let r = row-of (λ (cs : List ℕ) (c : Code). cond (saysOf c .over) (within cs (17 ∷ 18 ∷ [])) true) (asked .number) code (callRows G asked l s) refl (d .1) in
       at-one (λ (n : ℕ). Ready G (calling n asked) l s → Decides code (ownRows G (calling n asked) l s) → SearchEnds G asked l s n) (asked .number) (17 ∷ 18 ∷ [])
       (within-one (asked .number) (r .calls) (17 ∷ 18 ∷ []) (rw h at (r .passes)) (r .applies))
@@ -249,5 +258,5 @@ module _ (G : Geometry) (asked : Asked) (l : Lent) (s : Session) where
   pub over-search : (n : ℕ) → SearchEnds G asked l s n → verdict G (calling n asked) l s ≡ Refused Code.SearchOver
   unfolding isCall kindOf
   over-search n (ends17 r name ex none) =
-      refused-own G (calling 17 asked) l s Code.SearchOver refl r (later (ap not name) (later (pattern-right _ ex) (here (missed-row _ none) refl)))
-  over-search n (ends18 r is-on none) = refused-own G (calling 18 asked) l s Code.SearchOver refl r (later (ap not is-on) (here (missed-row _ none) refl))
+      refused-own G (calling 17 asked) l s Code.SearchOver refl r (other-open G (calling 17 asked) l s refl) (later (ap not name) (later (pattern-right _ ex) (here (missed-row _ none) refl)))
+  over-search n (ends18 r is-on none) = refused-own G (calling 18 asked) l s Code.SearchOver refl r (other-open G (calling 18 asked) l s refl) (later (ap not is-on) (here (missed-row _ none) refl))

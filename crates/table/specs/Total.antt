@@ -19,7 +19,7 @@ use Rattle.model.specs.Codes.{saysOf, aOf, hOf}
 use Rattle.model.specs.Kinds.{kindOf, isCall}
 use Rattle.model.specs.Lent.{Lent, Outcome, ended, withUser}
 use Rattle.model.specs.Search.{findHit}
-use Rattle.model.specs.Table.{ownRows, table, verdict}
+use Rattle.model.specs.Table.{ownRows, protectionHolds, table, verdict}
 use Rattle.model.specs.Step.{refusedSession, refused, place, effect, stamped, step}
 use Rattle.table.specs.First.{NoneHolds, Decides, passed-none, refused-same, refused-decides}
 use Rattle.table.specs.Facts.{Ready, AcceptedCall}
@@ -32,7 +32,7 @@ module _ (G : Geometry) (asked : Asked) (l : Lent) (s : Session) where
   pub record RefusedBy (c : Code) : Type 0 where
     -- c is the code of the first row of the table that holds
     pub row : Decides c (table G asked l s)
-    -- where that row stands: the first three, or those of the call
+    -- where that row stands: the first three, the protection's, or those of the call
     pub source : Refuses G asked l s c
     pub is : step G asked l s ≡ refused c s l
     pub is-a : step G asked l s .answer .a ≡ aOf c
@@ -103,12 +103,14 @@ module _ (G : Geometry) (asked : Asked) (l : Lent) (s : Session) where
       }
 
   -- a call whose facts hold is carried out
-  pub step-carried : isCall (asked .number) ≡ true → Ready G asked l s → NoneHolds (ownRows G asked l s) → step G asked l s ≡ stamped G asked l s
-  step-carried t r o = passed-is (passes G asked l s t r o)
+  pub step-carried : isCall (asked .number) ≡ true → Ready G asked l s → protectionHolds G asked l s ≡ false → NoneHolds (ownRows G asked l s)
+      → step G asked l s ≡ stamped G asked l s
+  step-carried t r p o = passed-is (passes G asked l s t r p o)
 
   -- a call that a row of its own refuses is refused
-  pub step-refused : (code : Code) → isCall (asked .number) ≡ true → Ready G asked l s → Decides code (ownRows G asked l s) → step G asked l s ≡ refused code s l
-  step-refused code t r d = refused-is code (refused-own G asked l s code t r d)
+  pub step-refused : (code : Code) → isCall (asked .number) ≡ true → Ready G asked l s → protectionHolds G asked l s ≡ false → Decides code (ownRows G asked l s)
+      → step G asked l s ≡ refused code s l
+  step-refused code t r p d = refused-is code (refused-own G asked l s code t r p d)
 
   -- every call is the one or the other
   pub total : ((c : Code) × RefusedBy c) ⊎ CarriedOut

@@ -1,15 +1,17 @@
 -- `bdos::call` meets its contract: a test that fails is a row that decides, and what passed them all is ready for its own function.
-use mathlib.Core.Path.{_≡_, sym, _∙_}
+use mathlib.Core.Path.{_≡_, sym, ap, _∙_}
 use mathlib.Core.Bool.{true}
+use Prim.Native.Nat.{ℕ}
 use borrow.Author.Needs.{needs}
 use borrow.Author.Tests.{not-true, not-false}
 use Rattle.format.specs.Diskette.{eightInch}
 use Rattle.model.specs.Lent.{Lent, lend}
-use Rattle.model.specs.Kinds.{isCall}
+use Rattle.model.specs.Kinds.{isCall, oneOf}
 use Rattle.model.specs.Table.{parametersRight}
 use Rattle.table.specs.Facts.{Ready}
 use Rattle.table.specs.Reflect.{fits-of, ready-of}
-use Rattle.table.specs.OwnStep.{own-at}
+use Rattle.table.specs.OwnStep.{ready-own, own-at}
+use Rattle.table.specs.Protection.{heldCalls, other-open}
 use Rattle.table.specs.Early.{unlisted-step, parameter-step, disk-step}
 use Rattle.stamping.specs.Made.{made-at, step-plain, log-in-made}
 use Rattle.bdos.proofs.call.Statement.{statement}
@@ -64,11 +66,12 @@ returns-4 c =
     let a = s .args .asked in
     let thirteen = c .before .before .before .before .before .if4 .taken in
     step-plain eightInch a _ (s .args .session) (called (c .before .before .before .before .before .before .before .before .before .before .before .before .before .before .before .before .before .before .before .before .before .before)) (ready (c .before .before .before .before .before .before)) _ _ _ _ _
-    (c .before .before .log-in .ensures a _ _ _ (c .before .before .before .before .before .before .before .before .before .before .disk-right .ensures .1 (not-false _ (c .before .before .before .before .before .before .if3 .left)) .0) ∙ own-at eightInch a _ _ 13 thirteen)
+    (c .before .before .log-in .ensures a _ _ _ (c .before .before .before .before .before .before .before .before .before .before .disk-right .ensures .1 (not-false _ (c .before .before .before .before .before .before .if3 .left)) .0) ∙ own-at eightInch a _ _ 13 thirteen
+    ∙ sym (ready-own eightInch a (given s) (s .args .session) (other-open eightInch a (given s) (s .args .session) (ap (λ (n : ℕ). oneOf n heldCalls) thirteen))))
     (sym (made-at eightInch a (given s) (s .args .session) 13 thirteen) ∙ log-in-made eightInch a (given s) (s .args .session))
 
-passed-call-requires : tie.Need-passed-call-requires
-passed-call-requires c κs =
+ready-call-requires : tie.Need-ready-call-requires
+ready-call-requires c κs =
     let checked = c .before .before .before .before .before .before .before .before .before .before .disk-right .ensures .1 (not-false _ (c .before .before .before .before .before .before .if3 .left)) in
     (c .before .before .before .before .before .before .before .before .before .before .before .before .before .before .before .before .before .before .before .before .before .before .before .before .kind-of .ensures, called (c .before .before .before .before .before .before .before .before .before .before .before .before .before .before .before .before .before .before .before .before .before .before), c .before .before .before .before .before .if4 .left, ready (c .before .before .before .before .before .before), checked .1, checked .2)
 
@@ -106,7 +109,7 @@ call-spec =
     returns-4
     (λ c. search needs)
     (λ c. search needs)
-    passed-call-requires
+    ready-call-requires
     (λ c. search needs)
     (λ c. search needs)
     (λ c. search needs)

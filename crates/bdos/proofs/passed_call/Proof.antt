@@ -12,8 +12,8 @@ due-requires c κs =
     let p = c .before .before .before .before .before .before .before .before .before .before .pre in
     let f = p .3 .fits in (
       p .0,
-      record { image-long = f .image-long; fcb-long = f .fcb-long; user-low = f .user-low; indexed = p .4 },
-      λ t. record { right = p .3 .image-right; dates = sym (c .before .before .before .is-dated .ensures) ∙ t; labelled = p .5 },
+      record { image-long = f .image-long; fcb-long = f .fcb-long; user-low = f .user-low; indexed = p .5 },
+      λ t. record { right = p .3 .image-right; dates = sym (c .before .before .before .is-dated .ensures) ∙ t; labelled = p .6 },
     )
 
 returns : tie.Need-returns

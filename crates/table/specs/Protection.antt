@@ -1,0 +1,145 @@
+-- The row of 255, 2: of which calls and sessions it can hold at all, and of which it does.
+use mathlib.Core.Path.{_≡_, refl, sym, ap, _∙_}
+use mathlib.Core.Bool.{Bool, true, false, not}
+use mathlib.Core.List.{List, [], _∷_}
+use Prim.Native.Nat.{ℕ}
+use Rattle.lists.specs.Cases.{split, bool-cases, clash, not-both, refute}
+use Rattle.lists.specs.Tests.{and-left, and-right, and-both, and-fails-left, and-fails-right, and-then, or-left, or-right, or-then, or-cases}
+use Rattle.format.specs.Diskette.{Geometry}
+use Rattle.format.specs.Found.{numberOf}
+use Rattle.format.specs.declared.Found.{Found}
+use Rattle.format.specs.declared.Found.the-variants.{At, Nothing}
+use Rattle.model.specs.declared.Asked.{Asked}
+use Rattle.model.specs.declared.Session.{Session}
+use Rattle.model.specs.declared.Plan.{Plan}
+use Rattle.model.specs.declared.Plan.the-variants.{Stay, Move, Make}
+use Rattle.model.specs.declared.Code.{Code}
+use Rattle.model.specs.declared.Verdict.{Verdict}
+use Rattle.model.specs.declared.Verdict.the-variants.{Passed, Refused}
+use Rattle.model.specs.declared.Kind.{Kind}
+use Rattle.model.specs.declared.Kind.the-variants.{Read, Write}
+use Rattle.model.specs.Kinds.{kindOf, same, ofRecord, oneOf}
+use Rattle.model.specs.Lent.{Lent, rowsOf, protected}
+use Rattle.model.specs.Closing.{closeChanges}
+use Rattle.model.specs.Target.{presentEntry, stays, targetEntry, planTo, planFrom, plan}
+use Rattle.model.specs.Table.{ownRows, isPassed, wouldSucceed, moveChanges, protectionHolds}
+use Rattle.table.specs.First.{_&_, NoneHolds, Decides, passed-none, none-passed, decides-refused}
+use Rattle.table.specs.Own.{at-one, at-kind, same-is, kinds-apart}
+
+-- the calls that are refused whatever else they are handed, and the reads
+abbrev pub writers : List ℕ
+writers = 16 ∷ 19 ∷ 21 ∷ 22 ∷ 23 ∷ 34 ∷ []
+
+abbrev pub readers : List ℕ
+readers = 20 ∷ 33 ∷ []
+
+-- all of them
+abbrev pub heldCalls : List ℕ
+heldCalls = 16 ∷ 19 ∷ 20 ∷ 21 ∷ 22 ∷ 23 ∷ 33 ∷ 34 ∷ []
+
+writer-held : (n : ℕ) → oneOf n writers ≡ true → oneOf n heldCalls ≡ true
+writer-held n h = at-one (λ (m : ℕ). oneOf m heldCalls ≡ true) n writers h (refl & refl & refl & refl & refl & refl & tt)
+
+reader-held : (n : ℕ) → oneOf n readers ≡ true → oneOf n heldCalls ≡ true
+reader-held n h = at-one (λ (m : ℕ). oneOf m heldCalls ≡ true) n readers h (refl & refl & tt)
+
+-- 20 and 33 are the reads
+pub not-reader : (n : ℕ) (k : Kind) → kindOf n ≡ k → same k Read ≡ false → oneOf n readers ≡ false
+unfolding kindOf
+not-reader n k q f =
+    sym (refute _ (λ t. kinds-apart k Read f (sym q ∙ at-one (λ (m : ℕ). kindOf m ≡ Read) n readers t (refl & refl & tt))))
+
+-- and a record call that does not write is one
+pub record-reads : (n : ℕ) → ofRecord (kindOf n) ≡ true → oneOf n writers ≡ false → kindOf n ≡ Read
+record-reads n h f =
+    split (bool-cases (same (kindOf n) Read)) (λ t. same-is (kindOf n) Read t)
+    (λ g. not-both (oneOf n writers)
+    (at-kind (λ (m : ℕ). oneOf m writers ≡ true) Write n refl (refl & refl & tt) (same-is (kindOf n) Write (rw g at h))) f)
+
+passed-is : (v : Verdict) → isPassed v ≡ true → v ≡ Passed
+passed-is Passed h = refl
+passed-is (Refused c) h = clash (sym h)
+
+-- a plan moves, and the close of its move changes the entry
+abbrev pub planChanges : Geometry → Lent → Plan → Bool
+planChanges G l (Stay e b) = false
+planChanges G l (Move e t b) = closeChanges G (rowsOf G l e) (l .fcb)
+planChanges G l (Make e t b) = closeChanges G (rowsOf G l e) (l .fcb)
+
+module _ (G : Geometry) (asked : Asked) (l : Lent) (s : Session) where
+  -- ---- where it holds
+  pub holds-protected : protectionHolds G asked l s ≡ true → protected s ≡ true
+  unfolding protectionHolds
+  holds-protected h = and-left _ _ h
+
+  pub holds-call : protectionHolds G asked l s ≡ true → oneOf (asked .number) heldCalls ≡ true
+  unfolding protectionHolds
+  holds-call h = split (or-cases _ _ (and-right _ _ h)) (λ w. writer-held (asked .number) w) (λ r. reader-held (asked .number) (and-left _ _ r))
+
+  -- ---- a session with the protection lifted is not refused so, nor is any other call
+  pub lifted-open : protected s ≡ false → protectionHolds G asked l s ≡ false
+  unfolding protectionHolds
+  lifted-open f = and-fails-left _ _ f
+
+  pub other-open : oneOf (asked .number) heldCalls ≡ false → protectionHolds G asked l s ≡ false
+  other-open f = sym (refute _ (λ t. not-both (oneOf (asked .number) heldCalls) (holds-call t) f))
+
+  -- nor, where the session of a call that writes is not protected, is any but a read
+  pub unread-open : (protected s ≡ true → oneOf (asked .number) writers ≡ false) → oneOf (asked .number) readers ≡ false → protectionHolds G asked l s ≡ false
+  unfolding protectionHolds
+  unread-open w r =
+      split (bool-cases (protected s)) (λ t. and-fails-right _ _ (or-then _ _ (w t) ∙ and-fails-left _ _ r)) (λ f. and-fails-left _ _ f)
+
+  -- ---- the calls that it holds of on every protected session
+  pub writer-closed : protected s ≡ true → oneOf (asked .number) writers ≡ true → protectionHolds G asked l s ≡ true
+  unfolding protectionHolds
+  writer-closed p w = and-both _ _ p (or-left _ _ w)
+
+  -- ---- the reads: where it does not hold, one that succeeds makes no move that changes an entry
+  pub read-closed : protected s ≡ true → oneOf (asked .number) readers ≡ true → wouldSucceed G asked l s ≡ true → moveChanges G asked l s ≡ true
+      → protectionHolds G asked l s ≡ true
+  unfolding protectionHolds
+  read-closed p r t m = and-both _ _ p (or-right _ _ (and-both _ _ r (and-both _ _ t m)))
+
+  pub none-succeeds : NoneHolds (ownRows G asked l s) → wouldSucceed G asked l s ≡ true
+  unfolding wouldSucceed
+  none-succeeds n = ap isPassed (none-passed (ownRows G asked l s) n)
+
+  pub succeeds-none : wouldSucceed G asked l s ≡ true → NoneHolds (ownRows G asked l s)
+  unfolding wouldSucceed
+  succeeds-none t = passed-none (ownRows G asked l s) (passed-is _ t)
+
+  pub open-unchanged : protected s ≡ true → oneOf (asked .number) readers ≡ true → NoneHolds (ownRows G asked l s) → protectionHolds G asked l s ≡ false
+      → moveChanges G asked l s ≡ false
+  open-unchanged p r n o = sym (refute _ (λ m. not-both (protectionHolds G asked l s) (read-closed p r (none-succeeds n) m) o))
+
+  -- a read that moves nowhere, or whose close changes nothing, is not refused so
+  pub unchanged-open : oneOf (asked .number) readers ≡ true → moveChanges G asked l s ≡ false → protectionHolds G asked l s ≡ false
+  unfolding protectionHolds
+  unchanged-open r m =
+      and-fails-right _ _
+      (or-then _ _ (at-one (λ (n : ℕ). oneOf n writers ≡ false) (asked .number) readers r (refl & refl & tt))
+      ∙ and-fails-right _ _ (and-fails-right _ _ m))
+
+  -- nor is one that a row of its own refuses: that row then decides
+  pub refused-open : oneOf (asked .number) readers ≡ true → (code : Code) → Decides code (ownRows G asked l s) → protectionHolds G asked l s ≡ false
+  unfolding protectionHolds wouldSucceed
+  refused-open r code d =
+      and-fails-right _ _
+      (or-then _ _ (at-one (λ (n : ℕ). oneOf n writers ≡ false) (asked .number) readers r (refl & refl & tt))
+      ∙ and-fails-right _ _ (and-fails-left _ _ (ap isPassed (decides-refused code (ownRows G asked l s) d))))
+
+  pub stay-unchanged : stays (asked .number) (l .fcb) ≡ true → moveChanges G asked l s ≡ false
+  unfolding moveChanges
+  stay-unchanged t = and-fails-left _ _ (ap not t)
+
+  -- ---- the move is that of the call's plan
+  planned-to : (e : ℕ) (r : Found) → planChanges G l (planTo G (asked .number) (s .user) l e r) ≡ closeChanges G (rowsOf G l e) (l .fcb)
+  planned-to e (At t) = refl
+  planned-to e Nothing = refl
+
+  pub plan-changes : moveChanges G asked l s ≡ planChanges G l (plan G (asked .number) (s .user) l)
+  unfolding moveChanges plan planFrom
+  plan-changes =
+      split (bool-cases (stays (asked .number) (l .fcb))) (λ t. rw t (and-fails-left _ _ refl))
+      (λ f. rw f (and-then _ _ refl ∙ sym (planned-to (numberOf (G .entries) (presentEntry G (s .user) l)) (targetEntry G (asked .number) (s .user) l))))
