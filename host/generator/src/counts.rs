@@ -681,21 +681,6 @@ impl Counts {
             let times = self.bad_times[usize::from(number)];
             (format!("255,  4  time, {number}"), times, enough::BAD_TIME)
         };
-        let protected = |number: u8| {
-            let times = self.protected[usize::from(number)];
-            let what = format!("accepted {number}, protected");
-            (what, times, enough::PROTECTED)
-        };
-        let odd = |&(number, _): &(u8, Cause)| {
-            let times = self.odd[usize::from(number)];
-            let what = format!("accepted {number}, lifted by 2 to 255");
-            (what, times, enough::LIFTED)
-        };
-        let first = |number: u8| {
-            let times = self.protected_first[usize::from(number)];
-            let what = format!("255,  2  before another row, {number}");
-            (what, times, enough::LIFTED)
-        };
         let event = |&event: &Event| {
             let times = self.events[event as usize];
             (format!("{event:?}"), times, event.enough())
@@ -711,11 +696,32 @@ impl Counts {
         lines.extend(LISTED.iter().map(bad_time));
         lines.extend(Fault::ALL.iter().map(fault));
         lines.extend(BadBcd::ALL.into_iter().zip(&self.bad_bcd).map(bad_bcd));
-        lines.extend(refused_protected().map(first));
         lines.extend(LISTED.iter().map(accepted));
+        lines.extend(self.lines_of_protection());
+        lines.extend(Event::ALL.iter().map(event));
+        lines
+    }
+
+    /// Those of the write protection.
+    fn lines_of_protection(&self) -> Vec<(String, usize, usize)> {
+        let protected = |number: u8| {
+            let times = self.protected[usize::from(number)];
+            let what = format!("accepted {number}, protected");
+            (what, times, enough::PROTECTED)
+        };
+        let odd = |&(number, _): &(u8, Cause)| {
+            let times = self.odd[usize::from(number)];
+            let what = format!("accepted {number}, lifted by 2 to 255");
+            (what, times, enough::LIFTED)
+        };
+        let first = |number: u8| {
+            let times = self.protected_first[usize::from(number)];
+            let what = format!("255,  2  before another row, {number}");
+            (what, times, enough::LIFTED)
+        };
+        let mut lines: Vec<_> = refused_protected().map(first).collect();
         lines.extend(accepted_protected().map(protected));
         lines.extend(PROTECTED.iter().map(odd));
-        lines.extend(Event::ALL.iter().map(event));
         lines
     }
 

@@ -1,8 +1,8 @@
 //! A disk: an image with what the calls need beside it.
 
 use crate::{
-    lend, lift, protect, Asked, Buffer, Call, Code, Entry, Fcb, Image, Map, Session, Time, BUFFER_LEN, ENTRY_LEN,
-    IMAGE_LEN, MAP_LEN,
+    lend, lift, protect, Asked, Buffer, Call, Code, Entry, Fcb, Image, Map, Session, Time,
+    BUFFER_LEN, ENTRY_LEN, IMAGE_LEN, MAP_LEN,
 };
 use std::fmt;
 

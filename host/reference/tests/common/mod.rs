@@ -115,12 +115,7 @@ impl Desk {
             self.session,
         );
         self.session = session;
-        assert_eq!(session.lifted, before.session.lifted, "call {number}");
-        if session.lifted == 0 {
-            let makes_a_map = matches!(number, 13 | 98);
-            assert!(self.image == before.image, "call {number}");
-            assert!(makes_a_map || self.map == before.map, "call {number}");
-        }
+        self.check_protection(number, &before);
         match cause {
             Some(cause) => {
                 assert_eq!((a, h), cause.code());
@@ -144,6 +139,17 @@ impl Desk {
             }
         }
         (a, h)
+    }
+
+    /// No call touches the write protection, and on a protected session none
+    /// changes the image, or the map but 13 and 98.
+    fn check_protection(&self, number: u8, before: &Desk) {
+        assert_eq!(self.session.lifted, before.session.lifted, "call {number}");
+        if before.session.lifted == 0 {
+            let makes_a_map = matches!(number, 13 | 98);
+            assert!(self.image == before.image, "call {number}");
+            assert!(makes_a_map || self.map == before.map, "call {number}");
+        }
     }
 
     /// Why this call would be refused.
