@@ -2,7 +2,7 @@
 
 mod common;
 
-use benzokamuri::{Call, Code, Disk, Fcb, Session, Time};
+use benzokamuri::{Call, Code, Disk, Fcb, Pattern, Session, Time};
 
 fn named(name: &str) -> Fcb {
     Fcb::named(name.parse().expect(name))
@@ -36,7 +36,7 @@ fn what_would_change_a_protected_disk_is_refused() {
     let mut open = named("A");
     disk.open(&mut open).expect("opened");
     for call in Call::ALL {
-        let mut fcb = open.clone();
+        let mut fcb = open;
         let answer = disk.call(*call, &mut fcb);
         let writes = matches!(call.number(), 16 | 19 | 21 | 22 | 23 | 34);
         assert_eq!(answer == Err(Code::Protected), writes, "call {call}");
@@ -46,16 +46,14 @@ fn what_would_change_a_protected_disk_is_refused() {
 }
 
 #[test]
-fn lifting_and_protecting_keep_a_search_and_the_user() {
+fn lifting_and_protecting_keep_a_search() {
     let mut disk = with_a_file();
     disk.lift();
     for name in ["B", "C"] {
         disk.make(&mut named(name)).expect("made");
     }
-    disk.set_user(0).expect("set");
     disk.protect();
-    let mut all = Fcb::named("A".parse().expect("a name"));
-    all.bytes_mut()[1..13].fill(b'?');
+    let mut all = Fcb::matching(Pattern::EVERY);
     assert_eq!(disk.search_first(&mut all).expect("found").number, 0);
     disk.lift();
     assert!(!disk.is_protected());
