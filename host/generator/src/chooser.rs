@@ -111,8 +111,8 @@ impl Chooser {
         // Between any two calls too, a search's among them.
         if self.random.chance(4) {
             let at = self.random.below(steps.len());
-            let step = self.random.one_of(&[true, false]);
-            steps.insert(at, if step { Step::Lift } else { Step::Protect });
+            let lifts = self.random.chance(50);
+            steps.insert(at, if lifts { Step::Lift } else { Step::Protect });
         }
         steps
     }
