@@ -1,7 +1,7 @@
 //! Counts what came up in a run, and tells whether it is enough.
 
 use crate::faults::{self, BadBcd, Fault};
-use crate::laws::close_changes;
+use crate::laws::{close_changes, read_moves};
 use crate::sequence::{Ask, Step};
 use crate::world::{asks, World};
 use reference::{Answer, Cause, LISTED};
@@ -485,17 +485,13 @@ impl Counts {
         let first = by_protection && before.refusal_if_lifted(ask).is_some();
         self.protected_first[usize::from(ask.number)] += usize::from(first);
         let fcb = before.fcb(ask.fcb);
-        let changes = close_changes(before, &fcb);
-        let extent = 32 * u32::from(fcb[14]) + u32::from(fcb[12]);
-        let record = u32::from_le_bytes([fcb[33], fcb[34], fcb[35], 0]);
+        let changes = read_moves(ask.number, &fcb) && close_changes(before, &fcb);
         match cause {
             Cause::NoExtent20 | Cause::LastExtent20 | Cause::PastCount20 | Cause::NoBlock20 => {
-                let moves = fcb[32] == 128;
-                self.tally(Event::ProtectedNotThereBy20, moves && changes);
+                self.tally(Event::ProtectedNotThereBy20, changes);
             }
             Cause::NoExtent33 | Cause::PastCount33 | Cause::NoBlock33 => {
-                let moves = record / 128 != extent;
-                self.tally(Event::ProtectedNotThereBy33, moves && changes);
+                self.tally(Event::ProtectedNotThereBy33, changes);
             }
             _ => {}
         }

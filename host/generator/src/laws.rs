@@ -23,6 +23,15 @@ pub fn close_changes(world: &World, fcb: &[u8]) -> bool {
     })
 }
 
+/// Whether a 20 or 33 with an FCB goes to another extent than the FCB's.
+pub fn read_moves(number: u8, fcb: &[u8]) -> bool {
+    let record = u32::from_le_bytes([fcb[33], fcb[34], fcb[35], 0]);
+    match number {
+        20 => fcb[32] == 128,
+        _ => record / 128 != 32 * u32::from(fcb[14]) + u32::from(fcb[12]),
+    }
+}
+
 /// Calls that don't use the FCB.
 const WITHOUT_FCB: [u8; 5] = [13, 18, 32, 46, 98];
 
@@ -116,15 +125,9 @@ impl Laws {
     /// Whether a read would be accepted on a lifted session, by a move whose
     /// close changes the entry that the FCB is current for.
     fn move_would_change(&self, ask: &Ask) -> bool {
-        let fcb = self.before.fcb(ask.fcb);
-        let moves = match ask.number {
-            20 => fcb[32] == 128,
-            _ => {
-                let record = u32::from_le_bytes([fcb[33], fcb[34], fcb[35], 0]);
-                record / 128 != 32 * u32::from(fcb[14]) + u32::from(fcb[12])
-            }
-        };
-        moves && close_changes(&self.before, &fcb) && self.before.refusal_if_lifted(ask).is_none()
+        let (before, fcb) = (&self.before, self.before.fcb(ask.fcb));
+        let changes = read_moves(ask.number, &fcb) && close_changes(before, &fcb);
+        changes && before.refusal_if_lifted(ask).is_none()
     }
 
     /// No call changes the protection, and on a protected session none changes
