@@ -1,11 +1,12 @@
 /* Benzokamuri: the file calls of CP/M Plus over a lent image of the 8-inch
  * single-density diskette.
  *
- * There is one function, benzo_call. It keeps nothing between calls: what a
- * call works on is lent to it, and what it has to remember is the session that
+ * One function makes the calls, benzo_call. It keeps nothing between calls: what
+ * a call works on is lent to it, and what it has to remember is the session that
  * it answers with. It never fails otherwise than by a code: any bytes, any
  * notes, any lengths and any session are answered, and a refused call changes
- * none of the four buffers.
+ * none of the four buffers. Two more, benzo_lift and benzo_protect, lift and set
+ * the write protection that every session begins with.
  *
  *   static uint8_t image[BENZO_IMAGE_LEN], fcb[BENZO_FCB_LEN], buffer[BENZO_BUFFER_LEN];
  *   static uint16_t map[BENZO_MAP_LEN];
@@ -15,7 +16,9 @@
  *   benzo_asked log_in = {BENZO_LOG_IN, 0, 17851, 0x06, 0x00};
  *   benzo_answer answer = benzo_call(log_in, image, sizeof image, map, BENZO_MAP_LEN,
  *                                    fcb, sizeof fcb, buffer, sizeof buffer, session);
- *   session = answer.session;
+ *   session = benzo_lift(answer.session);
+ *
+ * From the lift on calls may change the image; who only reads leaves it out.
  *
  * An image that is all E5H is an empty disk. One that is all zeros is not
  * consistent, and is refused with 255, 1.
@@ -33,8 +36,8 @@
 extern "C" {
 #endif
 
-/* Changes whenever the types below or the function's parameters do. */
-#define BENZO_VERSION 2
+/* Changes whenever the types below or the functions do. */
+#define BENZO_VERSION 3
 
 /* The lengths that every call is due, whether it uses the buffer or not. The
  * map's is in notes of sixteen bits, the others in bytes. Any other length is
@@ -74,9 +77,10 @@ extern "C" {
  * fourth of every four. Where the disk's label (byte 0 20H) asks for it, 22
  * stamps create, 15 access, and a close or move that changes an entry update,
  * beside that entry; a new entry's stamps start at zero. Nothing else is stamped,
- * and a refused call stamps nothing. So 15 may change the image, and so may 20
- * and 33 where they move: who saves an image saves it after them too, or leaves
- * their stamps out.
+ * and a refused call stamps nothing. So 15 may change the image once the write
+ * protection is lifted, and so may 20 and 33 where they move: who saves an image
+ * saves it after them too, or reads on a protected session, where nothing changes
+ * and nothing is to be saved.
  *
  * A label asks by its byte 12: bit 4 for create, 5 for update, 6 for access. A
  * date entry has from byte 1 on ten bytes for each of the three entries before
@@ -92,12 +96,25 @@ typedef struct {
 } benzo_asked;
 
 /* What a caller keeps from one call to the next. It begins at zero, and each
- * answer has the session for the call after it. */
+ * answer has the session for the call after it.
+ *
+ * A session begins write-protected, and stays so until its caller lifts the
+ * protection. Until then no call changes the image: 16, 19, 21, 22, 23 and 34
+ * are 255, 2, and so is a read that would else succeed by a move that changes an
+ * entry; an open stamps no access. 13 and 98 change the map all the same. No
+ * call lifts or sets the protection, and lifting or setting it changes nothing
+ * else, a search included.
+ *
+ * So whoever only reads never lifts it, and need not save the image. Who writes
+ * lifts it with benzo_lift, as late as may be, and may set it again with
+ * benzo_protect. What was written and not closed before that stays pending, and
+ * is closed after another lift. Every answer has the field as it came. */
 typedef struct {
     uint8_t user;        /* 0 to 15 */
     uint8_t pattern[12]; /* of the last search: name, type and extent */
     uint16_t place;      /* where the search goes on, 0 to 64 */
     uint8_t on;          /* a search is on: anything but 0 */
+    uint8_t lifted;      /* the write protection is lifted: anything but 0 */
 } benzo_session;
 
 /* What a call answers: the registers A and H, and the session.
@@ -119,6 +136,10 @@ typedef struct {
  *   255, 1                         The directory of the image is not consistent,
  *                                  or the map does not fit it (13 takes any map,
  *                                  and makes it fit).
+ *   255, 2     16 19 20 21 22 23 33 34
+ *                                  The session is write-protected (20 and 33
+ *                                  answer so only where they would else succeed,
+ *                                  by a move that changes an entry).
  *   6, 0       33 34               The random record number is over 262,143.
  *   9, 0       20 21 33 34         The FCB is not current: the file has changed
  *                                  since it was opened, or was never opened.
@@ -177,6 +198,14 @@ benzo_answer benzo_call(benzo_asked asked,
                         uint8_t *fcb, size_t fcb_len,
                         uint8_t *buffer, size_t buffer_len,
                         benzo_session session);
+
+/* Lifts the write protection: the session that is handed in with lifted 1, and
+ * all else in it as it came, a search included. Any session may be handed in. */
+benzo_session benzo_lift(benzo_session session);
+
+/* Sets the write protection: the session that is handed in with lifted 0, and
+ * all else in it as it came. Any session may be handed in. */
+benzo_session benzo_protect(benzo_session session);
 
 #ifdef __cplusplus
 }

@@ -44,6 +44,7 @@ int main(void) {
     memset(image, 0xE5, sizeof image); /* an empty disk */
     call(BENZO_LOG_IN, "log in");
 
+    session = benzo_lift(session); /* it begins write-protected */
     memcpy(fcb + 1, "HELLO   TXT", 11);
     call(BENZO_MAKE, "make");
     memset(buffer, 0x1A, sizeof buffer); /* what a text is filled up with */
@@ -51,6 +52,7 @@ int main(void) {
     call(BENZO_WRITE_NEXT, "write");
     call(BENZO_CLOSE, "close");
 
+    session = benzo_protect(session);     /* what follows only reads */
     memset(fcb + 12, 0, sizeof fcb - 12); /* extent 0, from its beginning */
     memset(buffer, 0, sizeof buffer);
     call(BENZO_OPEN, "open");

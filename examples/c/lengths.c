@@ -26,7 +26,8 @@ static void lend(uint8_t number, const size_t *length, uint8_t filling) {
         memset(lent[i], filling, length[i] * width[i]);
     }
     benzo_asked asked = {number, 0, 17851, 0x06, 0x00};
-    benzo_session session = {0};
+    benzo_session protected = {0};
+    benzo_session session = benzo_lift(protected);
     benzo_answer answer = benzo_call(asked, lent[0], length[0], (uint16_t *)lent[1], length[1],
                                      lent[2], length[2], lent[3], length[3], session);
     for (int i = 0; i < 4; i++) {

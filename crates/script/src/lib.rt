@@ -14,6 +14,7 @@ const CALL_NUMBERS: usize = 7;
 
 // In place of a call's number: the protection lifted, and set.
 const LIFTS: usize = 256;
+
 const PROTECTS: usize = 257;
 
 // Where a run stands: past the FCBs and the buffers of the calls that were made, and the session that these left.

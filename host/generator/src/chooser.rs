@@ -30,6 +30,7 @@ enum Choice {
     ReadRun,
     SearchRun,
     StampRun,
+    ProtectedRun,
     WithoutFcb,
     CopyFcb,
     DamagedImage,
@@ -45,17 +46,18 @@ enum Choice {
 }
 
 /// How likely each choice is. Some make several calls.
-const CHOICES: [(usize, Choice); 18] = [
+const CHOICES: [(usize, Choice); 19] = [
     (300, Choice::ByName),
     (330, Choice::ByFcb),
     (22, Choice::WriteRun),
     (12, Choice::ReadRun),
     (18, Choice::SearchRun),
-    (84, Choice::StampRun),
-    (75, Choice::WithoutFcb),
+    (128, Choice::StampRun),
+    (52, Choice::ProtectedRun),
+    (90, Choice::WithoutFcb),
     (25, Choice::CopyFcb),
     (22, Choice::DamagedImage),
-    (46, Choice::DamagedDates),
+    (56, Choice::DamagedDates),
     (22, Choice::DamagedMap),
     (12, Choice::WrongLength),
     (16, Choice::OddSession),
@@ -87,6 +89,7 @@ impl Chooser {
         steps.push(Step::Session(Session {
             user: cast.users[0],
             pattern: random.bytes(),
+            lifted: random.one_of(&[0, 1, 1, 1, 2, 255]),
             ..Session::default()
         }));
         (Self { random, cast }, steps)
@@ -102,7 +105,32 @@ impl Chooser {
         if self.random.chance(40) {
             steps.insert(0, self.time());
         }
+        if let Some(step) = self.protection(world) {
+            steps.insert(0, step);
+        }
+        // Between any two calls too, a search's among them.
+        if self.random.chance(4) {
+            let at = self.random.below(steps.len());
+            let lifts = self.random.chance(50);
+            steps.insert(at, if lifts { Step::Lift } else { Step::Protect });
+        }
         steps
+    }
+
+    /// What becomes of the write protection before the next calls: it is set
+    /// now and then, and lifted soon, so that most calls meet it lifted.
+    fn protection(&mut self, world: &World) -> Option<Step> {
+        let odd = Step::Session(Session {
+            lifted: self.random.from_to(2, 255) as u8,
+            ..world.session
+        });
+        match (world.is_protected(), self.random.below(100)) {
+            (true, 0..24) => Some(Step::Lift),
+            (true, 24..36) | (false, 0..2) => Some(odd),
+            (false, 2..6) => Some(Step::Protect),
+            (false, 6..8) => Some(Step::Lift),
+            _ => None,
+        }
     }
 
     fn chosen(&mut self, world: &World) -> Vec<Step> {
@@ -113,6 +141,7 @@ impl Chooser {
             Choice::ReadRun => self.read_run(world),
             Choice::SearchRun => self.search_run(world),
             Choice::StampRun => self.stamp_run(world),
+            Choice::ProtectedRun => self.protected_run(world),
             Choice::WithoutFcb => self.without_fcb(),
             Choice::CopyFcb => self.copy_fcb(world),
             Choice::DamagedImage => self.damaged_image(world),
@@ -539,7 +568,7 @@ impl Chooser {
             false => self.name(world),
         });
         let mut steps = self.ask_with(22, which, fcb);
-        for (number, chance) in [(21, 60), (16, 80), (16, 30), (15, 40), (19, 40)] {
+        for (number, chance) in [(21, 60), (16, 80), (16, 30), (15, 65), (19, 40)] {
             if self.random.chance(30) {
                 steps.push(self.time());
             }
@@ -583,6 +612,60 @@ impl Chooser {
         if self.random.chance(25) {
             steps.push(Step::Call(Ask::new(19, 0, which)));
         }
+        steps
+    }
+
+    /// The last record of an extent is written in most cases, and read on from
+    /// there once the protection is set: by a move, to an extent that is there
+    /// in most cases.
+    fn protected_run(&mut self, world: &World) -> Vec<Step> {
+        let which = self.which();
+        let Some(mut bytes) = self.fcb_at_end(world) else {
+            return self.some_protected_calls(world);
+        };
+        let writes = self.random.chance(70);
+        bytes[32] = if writes { 127 } else { 128 };
+        let stays = writes && self.random.chance(40);
+        let record = match stays {
+            // The one that is written, which can be read without a move.
+            true => 128 * (32 * u32::from(bytes[14]) + u32::from(bytes[12])) + 127,
+            false => self.random_record(world, &bytes, 33),
+        };
+        bytes[33..].copy_from_slice(&record.to_le_bytes()[..3]);
+        let fcb = Step::Fcb {
+            which: which as u8,
+            bytes,
+        };
+        let call = |number: u8| Step::Call(Ask::new(number, 0, which));
+        let mut steps = vec![Step::Lift, fcb, self.buffer()];
+        if writes {
+            steps.push(call(21));
+        }
+        steps.push(Step::Protect);
+        if stays && self.random.chance(50) {
+            steps.extend([call(33), call(20)]);
+        }
+        for _ in 0..self.random.from_to(1, 3) {
+            steps.push(call(self.random.one_of(&[20, 20, 33, 33, 36, 16])));
+        }
+        if self.random.chance(60) {
+            steps.push(call(self.random.one_of(&[13, 15, 15, 15, 98])));
+        }
+        if self.random.chance(80) {
+            steps.push(Step::Lift);
+            steps.push(call(self.random.one_of(&[16, 20, 33])));
+        }
+        steps
+    }
+
+    /// Any calls by name or by FCB, protected.
+    fn some_protected_calls(&mut self, world: &World) -> Vec<Step> {
+        let mut steps = vec![Step::Protect];
+        steps.extend(match self.random.chance(50) {
+            true => self.by_name(world),
+            false => self.by_fcb(world),
+        });
+        steps.push(Step::Lift);
         steps
     }
 
@@ -657,6 +740,7 @@ impl Chooser {
             pattern,
             place: self.random.from_to(0, 64) as u16,
             on: self.random.one_of(&[0, 1, 1, 2, 128, 255]),
+            lifted: world.session.lifted,
         };
         let number = match self.random.chance(70) {
             true => 18,
@@ -988,11 +1072,15 @@ impl Chooser {
             _ => (session.user, session.place) = (16, 65),
         }
         let ask = Ask::new(self.listed(), self.argument(), self.which());
-        vec![
-            Step::Session(session),
-            Step::Call(ask),
-            Step::Session(world.session),
-        ]
+        let mut steps = vec![Step::Session(session), Step::Call(ask)];
+        // The protection of any session can be lifted and set.
+        match self.random.below(3) {
+            0 => steps.insert(1, Step::Lift),
+            1 => steps.insert(1, Step::Protect),
+            _ => {}
+        }
+        steps.push(Step::Session(world.session));
+        steps
     }
 
     /// An FCB with byte 0 over 1, for one call.

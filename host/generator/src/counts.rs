@@ -1,8 +1,8 @@
 //! Counts what came up in a run, and tells whether it is enough.
 
 use crate::faults::{self, BadBcd, Fault};
-use crate::laws::count;
-use crate::sequence::Ask;
+use crate::laws::{close_changes, read_moves};
+use crate::sequence::{Ask, Step};
 use crate::world::{asks, World};
 use reference::{Answer, Cause, LISTED};
 use std::fmt;
@@ -22,6 +22,11 @@ pub mod enough {
     pub const FAULT: usize = 100;
     /// Every call, refused for bad BCD in the time.
     pub const BAD_TIME: usize = 50;
+    /// Every call that a protected session takes, accepted on one.
+    pub const PROTECTED: usize = 300;
+    /// Every call that it refuses, accepted where the protection is lifted by
+    /// another byte than 1; and refused by it before a row of its own.
+    pub const LIFTED: usize = 100;
 }
 
 /// Writes the events down as an enum with a list of all.
@@ -155,6 +160,41 @@ events! {
     /// A 20, 21, 33 or 34 of a current FCB that was refused there, where a
     /// close would have changed the entry.
     RefusedByMove;
+    /// A 15 on a protected session and a dated disk whose label asks for
+    /// access.
+    ProtectedAccess;
+    /// A 13 on a protected session that changed the map.
+    ProtectedLogIn;
+    /// A 98 on a protected session that freed blocks.
+    ProtectedFreeBlocks;
+    /// A 20 on a protected session that moved, and changed no entry so.
+    ProtectedMoveBy20;
+    /// A 33 on a protected session that moved, and changed no entry so.
+    ProtectedMoveBy33;
+    /// A 20 on a protected session that stayed, where a close would change the
+    /// entry.
+    ProtectedStayBy20;
+    /// A 33 that did the same.
+    ProtectedStayBy33;
+    /// A 20 on a protected session whose move would change the entry, refused
+    /// for the record that is not there.
+    ProtectedNotThereBy20;
+    /// A 33 that was refused the same way.
+    ProtectedNotThereBy33;
+    /// A lift while a search was on.
+    LiftInSearch;
+    /// The protection set while a search was on.
+    ProtectInSearch;
+    /// A lift where another byte than 0 and 1 stood.
+    LiftOfOddByte;
+    /// The protection set where such a byte stood.
+    ProtectOfOddByte;
+    /// A lift of a session whose user or search place is out of range.
+    LiftOfWrongSession;
+    /// The protection set in such a session.
+    ProtectOfWrongSession;
+    /// A refusal where another byte than 0 and 1 stood.
+    RefusedWithOddByte;
     /// A stamp that replaced a later one.
     StampGoesBack;
     /// A stamp that replaced an equal one.
@@ -251,6 +291,39 @@ const READ_A_COUNT: [(u8, Event, Event); 5] = [
     (34, Event::EntryOver128By34, Event::FcbOver128By34),
 ];
 
+/// The calls that a protected session refuses, each with its cause. The reads
+/// are refused in some cases only.
+const PROTECTED: [(u8, Cause); 8] = [
+    (16, Cause::Protected16),
+    (19, Cause::Protected19),
+    (20, Cause::Protected20),
+    (21, Cause::Protected21),
+    (22, Cause::Protected22),
+    (23, Cause::Protected23),
+    (33, Cause::Protected33),
+    (34, Cause::Protected34),
+];
+
+/// The calls that a protected session accepts: all the others, and the reads.
+fn accepted_protected() -> impl Iterator<Item = u8> {
+    let refused = |number: &u8| matches!(number, 16 | 19 | 21 | 22 | 23 | 34);
+    LISTED
+        .iter()
+        .copied()
+        .filter(move |number| !refused(number))
+}
+
+/// The calls that it refuses whatever they are lent.
+fn refused_protected() -> impl Iterator<Item = u8> {
+    let calls = PROTECTED.iter().map(|&(number, _)| number);
+    calls.filter(|number| !matches!(number, 20 | 33))
+}
+
+/// Whether the protection is lifted by another byte than 1.
+fn is_odd(world: &World) -> bool {
+    world.session.lifted > 1
+}
+
 /// What came up so far.
 #[derive(Clone, Debug)]
 pub struct Counts {
@@ -259,6 +332,12 @@ pub struct Counts {
     causes: Vec<usize>,
     accepted: [usize; 256],
     bad_times: [usize; 256],
+    /// Accepted on a protected session.
+    protected: [usize; 256],
+    /// Accepted where the protection is lifted by another byte than 1.
+    odd: [usize; 256],
+    /// Refused by the protection where another row holds too.
+    protected_first: [usize; 256],
     events: Vec<usize>,
     faults: Vec<usize>,
     bad_bcd: [usize; BadBcd::ALL.len()],
@@ -271,6 +350,9 @@ impl Default for Counts {
             causes: vec![0; Cause::ALL.len()],
             accepted: [0; 256],
             bad_times: [0; 256],
+            protected: [0; 256],
+            odd: [0; 256],
+            protected_first: [0; 256],
             events: vec![0; Event::ALL.len()],
             faults: vec![0; Fault::ALL.len()],
             bad_bcd: [0; BadBcd::ALL.len()],
@@ -307,16 +389,6 @@ fn moved(before: &World, after: &World, ask: &Ask) -> bool {
     extent(before) != extent(after)
 }
 
-/// Whether a close would change the entry of an FCB: "a block recorded, or a
-/// larger count".
-fn close_changes(world: &World, fcb: &[u8]) -> bool {
-    world.entry_of(fcb).is_some_and(|entry| {
-        let row = world.entry(entry);
-        let mut slots = row[16..].iter().zip(&fcb[16..32]);
-        count(fcb[15]) > count(row[15]) || slots.any(|(&slot, &block)| slot == 0 && block != 0)
-    })
-}
-
 impl Counts {
     /// Takes a call in.
     pub fn add(
@@ -335,9 +407,11 @@ impl Counts {
                 self.bad_times[usize::from(ask.number)] += usize::from(bad_time);
                 self.add_faults(before, cause);
                 self.add_refused(before, ask, cause);
+                self.add_refused_protected(before, ask, cause);
             }
             None => {
                 self.accepted[usize::from(ask.number)] += 1;
+                self.add_protected(before, after, ask);
                 self.add_events(before, after, ask, answer);
                 self.add_transfers(before, after, ask);
                 self.add_counts(before, after, ask);
@@ -349,6 +423,78 @@ impl Counts {
 
     fn tally(&mut self, event: Event, is: bool) {
         self.events[event as usize] += usize::from(is);
+    }
+
+    /// Takes a step in that is no call, before it is done.
+    pub fn add_step(&mut self, before: &World, step: &Step) {
+        let searching = before.session.on != 0;
+        let wrong = before.session.user > 15 || before.session.place > 64;
+        let (in_search, of_odd_byte, of_wrong_session) = match step {
+            Step::Lift => (
+                Event::LiftInSearch,
+                Event::LiftOfOddByte,
+                Event::LiftOfWrongSession,
+            ),
+            Step::Protect => (
+                Event::ProtectInSearch,
+                Event::ProtectOfOddByte,
+                Event::ProtectOfWrongSession,
+            ),
+            _ => return,
+        };
+        self.tally(in_search, searching);
+        self.tally(of_odd_byte, is_odd(before));
+        self.tally(of_wrong_session, wrong);
+    }
+
+    /// An accepted call, by the write protection that it met.
+    fn add_protected(&mut self, before: &World, after: &World, ask: &Ask) {
+        let number = usize::from(ask.number);
+        self.odd[number] += usize::from(is_odd(before));
+        if !before.is_protected() {
+            return;
+        }
+        self.protected[number] += 1;
+        let new_map = before.map != after.map;
+        let moved = moved(before, after, ask);
+        let stays = !moved && close_changes(before, &before.fcb(ask.fcb));
+        let asked = before.is_dated() && before.asks(asks::ACCESS);
+        match ask.number {
+            13 => self.tally(Event::ProtectedLogIn, new_map),
+            15 => self.tally(Event::ProtectedAccess, asked),
+            20 => {
+                self.tally(Event::ProtectedMoveBy20, moved);
+                self.tally(Event::ProtectedStayBy20, stays);
+            }
+            33 => {
+                self.tally(Event::ProtectedMoveBy33, moved);
+                self.tally(Event::ProtectedStayBy33, stays);
+            }
+            98 => self.tally(Event::ProtectedFreeBlocks, new_map),
+            _ => {}
+        }
+    }
+
+    /// A refused call, by the write protection that it met.
+    fn add_refused_protected(&mut self, before: &World, ask: &Ask, cause: Cause) {
+        self.tally(Event::RefusedWithOddByte, is_odd(before));
+        if !before.is_protected() {
+            return;
+        }
+        let by_protection = PROTECTED.contains(&(ask.number, cause));
+        let first = by_protection && before.refusal_if_lifted(ask).is_some();
+        self.protected_first[usize::from(ask.number)] += usize::from(first);
+        let fcb = before.fcb(ask.fcb);
+        let changes = read_moves(ask.number, &fcb) && close_changes(before, &fcb);
+        match cause {
+            Cause::NoExtent20 | Cause::LastExtent20 | Cause::PastCount20 | Cause::NoBlock20 => {
+                self.tally(Event::ProtectedNotThereBy20, changes);
+            }
+            Cause::NoExtent33 | Cause::PastCount33 | Cause::NoBlock33 => {
+                self.tally(Event::ProtectedNotThereBy33, changes);
+            }
+            _ => {}
+        }
     }
 
     /// What is wrong with a disk that was refused.
@@ -373,8 +519,8 @@ impl Counts {
         let Some(way) = Way::of(ask.number) else {
             return;
         };
-        let own_row = cause as usize > Cause::MapWrong as usize;
-        if !own_row || !before.is_dated() || !before.asks(way.bit) {
+        let own_row = cause as usize > Cause::Protected34 as usize;
+        if !own_row || before.is_protected() || !before.is_dated() || !before.asks(way.bit) {
             return;
         }
         // The rows before it are tested first, whatever the FCB.
@@ -441,7 +587,7 @@ impl Counts {
             true => before.entry_of(&before.fcb(ask.fcb)),
             false => after.entry_of(&after.fcb(ask.fcb)),
         };
-        let Some(entry) = entry.filter(|_| !stays) else {
+        let Some(entry) = entry.filter(|_| !stays && !before.is_protected()) else {
             return;
         };
         let due = !is_update || before.entry(entry) != after.entry(entry);
@@ -547,7 +693,31 @@ impl Counts {
         lines.extend(Fault::ALL.iter().map(fault));
         lines.extend(BadBcd::ALL.into_iter().zip(&self.bad_bcd).map(bad_bcd));
         lines.extend(LISTED.iter().map(accepted));
+        lines.extend(self.lines_of_protection());
         lines.extend(Event::ALL.iter().map(event));
+        lines
+    }
+
+    /// Those of the write protection.
+    fn lines_of_protection(&self) -> Vec<(String, usize, usize)> {
+        let protected = |number: u8| {
+            let times = self.protected[usize::from(number)];
+            let what = format!("accepted {number}, protected");
+            (what, times, enough::PROTECTED)
+        };
+        let odd = |&(number, _): &(u8, Cause)| {
+            let times = self.odd[usize::from(number)];
+            let what = format!("accepted {number}, lifted by 2 to 255");
+            (what, times, enough::LIFTED)
+        };
+        let first = |number: u8| {
+            let times = self.protected_first[usize::from(number)];
+            let what = format!("255,  2  before another row, {number}");
+            (what, times, enough::LIFTED)
+        };
+        let mut lines: Vec<_> = refused_protected().map(first).collect();
+        lines.extend(accepted_protected().map(protected));
+        lines.extend(PROTECTED.iter().map(odd));
         lines
     }
 

@@ -1,6 +1,6 @@
 //! Runs two implementations side by side on the same steps.
 
-use crate::sequence::{Ask, Sequence, Step};
+use crate::sequence::{Sequence, Step};
 use crate::world::{Implementation, World, FCBS};
 use reference::Answer;
 use std::fmt::Write;
@@ -46,19 +46,20 @@ impl<'a> Duel<'a> {
     }
 
     /// Does a step in both worlds. A call's answer comes back, or what differs
-    /// after it.
+    /// after it, or after the write protection was lifted or set.
     pub fn step(&mut self, step: &Step) -> Result<Option<Answer>, String> {
         self.sequence.steps.push(step.clone());
-        let Step::Call(ask) = step else {
-            self.left_world.prepare(step);
-            self.right_world.prepare(step);
+        let left = take(self.left, &mut self.left_world, step, "left")?;
+        let right = take(self.right, &mut self.right_world, step, "right")?;
+        if !matches!(step, Step::Call(_) | Step::Lift | Step::Protect) {
             return Ok(None);
-        };
-        let left = call(self.left, &mut self.left_world, ask, "left")?;
-        let right = call(self.right, &mut self.right_world, ask, "right")?;
+        }
         let mut text = String::new();
         if left != right {
             let _ = writeln!(text, "answers: {left:?} and {right:?}");
+        } else if self.left_world.session != self.right_world.session {
+            let [left, right] = [&self.left_world, &self.right_world].map(|world| world.session);
+            let _ = writeln!(text, "sessions: {left:?} and {right:?}");
         }
         differences(&self.left_world, &self.right_world, &mut text);
         for (side, world) in [("left", &self.left_world), ("right", &self.right_world)] {
@@ -67,22 +68,22 @@ impl<'a> Duel<'a> {
             }
         }
         if text.is_empty() {
-            Ok(Some(left))
+            Ok(left)
         } else {
             Err(format!("after `{step}`:\n{text}"))
         }
     }
 }
 
-/// Makes a call; a panic is a difference like any other.
-fn call(
+/// Does a step; a panic is a difference like any other.
+fn take(
     implementation: &mut dyn Implementation,
     world: &mut World,
-    ask: &Ask,
+    step: &Step,
     side: &str,
-) -> Result<Answer, String> {
-    catch_unwind(AssertUnwindSafe(|| world.call(implementation, ask)))
-        .map_err(|_| format!("{side}: a panic in call {}", ask.number))
+) -> Result<Option<Answer>, String> {
+    catch_unwind(AssertUnwindSafe(|| world.take(implementation, step)))
+        .map_err(|_| format!("{side}: a panic in `{step}`"))
 }
 
 /// Tells what differs, the first cell of each buffer.
@@ -111,19 +112,19 @@ fn differences(left: &World, right: &World, text: &mut String) {
     first("buffer", left.buffer.cells(), right.buffer.cells(), text);
 }
 
-/// A sequence whose last call showed a difference.
+/// A sequence whose last step, a call or a lift or protect, showed a difference.
 #[derive(Debug)]
 pub struct Failure {
     /// What differs.
     pub difference: String,
-    /// The whole sequence, up to the failing call.
+    /// The whole sequence, up to the failing step.
     pub sequence: Sequence,
-    /// The world just before that call as a sequence of its own, and the call.
+    /// The world just before that step as a sequence of its own, and the step.
     pub last_call: Sequence,
 }
 
 impl Failure {
-    /// For a sequence that just failed. The steps before the failing call are
+    /// For a sequence that just failed. The steps before the failing one are
     /// made once more, on the reference, to get at the world before it.
     pub fn new(difference: String, sequence: Sequence) -> Self {
         let mut world = World::new(sequence.seed);
@@ -132,12 +133,7 @@ impl Failure {
             None => (None, &[][..]),
         };
         for step in before {
-            match step {
-                Step::Call(ask) => {
-                    world.call(&mut reference::call, ask);
-                }
-                _ => world.prepare(step),
-            }
+            world.take(&mut reference::call, step);
         }
         let mut steps = world.steps();
         steps.extend(last.cloned());

@@ -3,7 +3,7 @@
 //! laws are asked of one alone.
 
 use crate::faults::{self, is_bad_bcd};
-use crate::sequence::Ask;
+use crate::sequence::{Ask, Step};
 use crate::world::{asks, Implementation, World, DATES, FCBS, LABEL, RIGHT_LENGTHS};
 use reference::diskette::{self, DIRECTORY_PLACES, RECORD_BYTES};
 use reference::{Answer, Asked, Cause, Session, LISTED};
@@ -11,6 +11,25 @@ use reference::{Answer, Asked, Cause, Session, LISTED};
 /// The records that an rc counts: "the smaller of rc and 128".
 pub fn count(rc: u8) -> u8 {
     rc.min(128)
+}
+
+/// Whether a close would change the entry of an FCB: "a block recorded, or a
+/// larger count".
+pub fn close_changes(world: &World, fcb: &[u8]) -> bool {
+    world.entry_of(fcb).is_some_and(|entry| {
+        let row = world.entry(entry);
+        let mut slots = row[16..].iter().zip(&fcb[16..32]);
+        count(fcb[15]) > count(row[15]) || slots.any(|(&slot, &block)| slot == 0 && block != 0)
+    })
+}
+
+/// Whether a 20 or 33 with an FCB goes to another extent than the FCB's.
+pub fn read_moves(number: u8, fcb: &[u8]) -> bool {
+    let record = u32::from_le_bytes([fcb[33], fcb[34], fcb[35], 0]);
+    match number {
+        20 => fcb[32] == 128,
+        _ => record / 128 != 32 * u32::from(fcb[14]) + u32::from(fcb[12]),
+    }
 }
 
 /// Calls that don't use the FCB.
@@ -36,9 +55,15 @@ impl Laws {
         &self.before
     }
 
-    /// Follows a step that is not a call.
-    pub fn follow(&mut self, step: &crate::sequence::Step) {
+    /// Follows a step that is not a call, and tells whether it broke a law:
+    /// lifting and setting the write protection changes one field of the
+    /// session, and nothing else.
+    pub fn follow(&mut self, after: &World, step: &Step) -> Result<(), &'static str> {
         self.before.prepare(step);
+        match after.session == self.before.session {
+            true => Ok(()),
+            false => Err("lifting or protecting left the wrong session"),
+        }
     }
 
     /// Tells which law a call broke, if it broke one. `cause` is why it was
@@ -51,6 +76,8 @@ impl Laws {
         cause: Option<Cause>,
     ) -> Result<(), &'static str> {
         self.check_verdict(ask, cause)?;
+        self.check_protected_verdict(ask, cause)?;
+        self.check_protection(after, ask, answer)?;
         match cause {
             Some(cause) => self.check_refused(after, answer, cause)?,
             None => self.check_accepted(after, ask, answer)?,
@@ -75,6 +102,51 @@ impl Laws {
             return Err("a map was misjudged");
         }
         Ok(())
+    }
+
+    /// "Until the caller lifts it" six calls are refused wherever the disk is
+    /// right, and a read that would else succeed is exactly where its move
+    /// changes an entry.
+    fn check_protected_verdict(&self, ask: &Ask, cause: Option<Cause>) -> Result<(), &'static str> {
+        let early = cause.is_some_and(|cause| (cause as usize) < Cause::Protected16 as usize);
+        let refused = cause.is_some_and(|cause| cause.code() == (255, 2));
+        let due = match ask.number {
+            _ if early || !self.before.is_protected() => false,
+            16 | 19 | 21 | 22 | 23 | 34 => true,
+            20 | 33 => self.move_would_change(ask),
+            _ => false,
+        };
+        match refused == due {
+            true => Ok(()),
+            false => Err("a protected session was misjudged"),
+        }
+    }
+
+    /// Whether a read would be accepted on a lifted session, by a move whose
+    /// close changes the entry that the FCB is current for.
+    fn move_would_change(&self, ask: &Ask) -> bool {
+        let (before, fcb) = (&self.before, self.before.fcb(ask.fcb));
+        let changes = read_moves(ask.number, &fcb) && close_changes(before, &fcb);
+        changes && before.refusal_if_lifted(ask).is_none()
+    }
+
+    /// No call changes the protection, and on a protected session none changes
+    /// a byte of the image, or of the map but by 13 and 98.
+    fn check_protection(
+        &self,
+        after: &World,
+        ask: &Ask,
+        answer: Answer,
+    ) -> Result<(), &'static str> {
+        if answer.session.lifted != self.before.session.lifted {
+            return Err("a call lifted or set the write protection");
+        }
+        let map_may = matches!(ask.number, 13 | 98) || after.map == self.before.map;
+        let kept = after.image == self.before.image && map_may;
+        match kept || !self.before.is_protected() {
+            true => Ok(()),
+            false => Err("a call changed a protected disk"),
+        }
     }
 
     /// "Every one of these changes nothing", but for a search that ends.
@@ -183,7 +255,8 @@ impl Laws {
             let block = fcb[16 + usize::from(record / 8) % 16];
             diskette::place(block.min(242), record) / RECORD_BYTES
         });
-        let opens = number == 15 && self.before.is_dated() && self.before.asks(asks::ACCESS);
+        let stamps = self.before.is_dated() && !self.before.is_protected();
+        let opens = number == 15 && stamps && self.before.asks(asks::ACCESS);
         let takes_directory = opens || matches!(number, 16 | 19..=23 | 33 | 34);
         for (sector, _) in differing(&self.before, after) {
             if !self.in_blocks[sector] {
@@ -259,9 +332,9 @@ impl Laws {
 
     /// The stamps that are due beside an entry of a disk with date entries.
     /// Beside a new entry: zeros, but create is the time after a 22 where the
-    /// label asks. Beside any other: access after a 15, update after a close or
-    /// move that changes the entry are the time where the label asks. In every
-    /// other case they are as they were.
+    /// label asks. Beside any other: access after a 15 on a lifted session,
+    /// update after a close or move that changes the entry are the time where
+    /// the label asks. In every other case they are as they were.
     fn stamps_due(&self, after: &World, ask: &Ask, entry: usize) -> [[u8; 4]; 2] {
         let before = &self.before;
         let (now, zero) = (before.time.stamp(), [0; 4]);
@@ -273,7 +346,7 @@ impl Laws {
         let opened = ask.number == 15 && after.entry_of(&after.fcb(ask.fcb)) == Some(entry);
         let changed = matches!(ask.number, 16 | 20 | 21 | 33 | 34)
             && before.entry(entry) != after.entry(entry);
-        let accessed = opened && before.asks(asks::ACCESS);
+        let accessed = opened && before.asks(asks::ACCESS) && !before.is_protected();
         let updated = changed && before.asks(asks::UPDATE);
         [
             if accessed { now } else { first },
@@ -301,17 +374,34 @@ impl Laws {
 /// An implementation that is handed another time where the time must not matter:
 /// on disks without date entries. Beside itself it has to do the same.
 pub fn at_another_time(implementation: &mut dyn Implementation) -> impl Implementation + '_ {
-    move |asked: Asked,
-          image: &mut [u8],
-          map: &mut [u16],
-          fcb: &mut [u8],
-          buffer: &mut [u8],
-          session: Session| {
+    AtAnotherTime(implementation)
+}
+
+struct AtAnotherTime<'a>(&'a mut dyn Implementation);
+
+impl Implementation for AtAnotherTime<'_> {
+    fn call(
+        &mut self,
+        asked: Asked,
+        image: &mut [u8],
+        map: &mut [u16],
+        fcb: &mut [u8],
+        buffer: &mut [u8],
+        session: Session,
+    ) -> Answer {
         let asked = match is_undated(image) {
             true => another_time(asked),
             false => asked,
         };
-        implementation.call(asked, image, map, fcb, buffer, session)
+        self.0.call(asked, image, map, fcb, buffer, session)
+    }
+
+    fn lift(&mut self, session: Session) -> Session {
+        self.0.lift(session)
+    }
+
+    fn protect(&mut self, session: Session) -> Session {
+        self.0.protect(session)
     }
 }
 

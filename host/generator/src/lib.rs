@@ -4,12 +4,14 @@
 //! fullness, with date entries and labels or without, by steps that a
 //! [`Chooser`] steers so that every cause of the table comes up. After every
 //! call all of A, H, image, map, FCBs, transfer buffer and session are compared,
-//! and the guards around the buffers looked at. The left implementation has to
-//! keep the [`Laws`] as well, and [`Counts`] tells what came up.
+//! and the guards around the buffers looked at. Lifting and setting the write
+//! protection are steps of their own, compared too. The left implementation has
+//! to keep the [`Laws`] as well, and [`Counts`] tells what came up.
 //!
 //! Anything with the signature of [`reference::call`] is an
-//! [`Implementation`]; so a library behind a foreign interface needs one small
-//! function around it to be run beside the reference:
+//! [`Implementation`], which lifts and sets the write protection as the
+//! reference does; a library behind a foreign interface needs a small type
+//! around it that does that by the library too.
 //!
 //! ```
 //! use generator::{run, Counts};
@@ -96,8 +98,11 @@ fn take_step(
     step: &Step,
 ) -> Result<(), String> {
     let Step::Call(ask) = step else {
-        laws.follow(step);
-        return duel.step(step).map(|_| ());
+        counts.add_step(duel.world(), step);
+        duel.step(step)?;
+        return laws
+            .follow(duel.world(), step)
+            .map_err(|law| format!("after `{step}`: {law}"));
     };
     let cause = duel.world().refusal(ask);
     let Some(answer) = duel.step(step)? else {

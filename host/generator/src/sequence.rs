@@ -11,8 +11,11 @@
 //! note BLOCK VALUE          a note of the map
 //! fcb WHICH HEX             an FCB
 //! buffer HEX                the transfer buffer
-//! session USER HEX PLACE ON the session, its pattern in the middle
+//! session USER HEX PLACE ON LIFTED
+//!                           the session, its pattern after the user
 //! time DAY HOUR MINUTE      the time that calls are handed, 0 0 0 at first
+//! lift                      the session's write protection is lifted
+//! protect                   it is set
 //! call NUMBER ARGUMENT FCB [IMAGE MAP FCB BUFFER]
 //! ```
 //!
@@ -133,6 +136,10 @@ pub enum Step {
     Session(Session),
     /// The time is set.
     Time(Time),
+    /// The implementation lifts the write protection.
+    Lift,
+    /// The implementation sets it.
+    Protect,
     /// A call is made.
     Call(Ask),
 }
@@ -168,8 +175,11 @@ impl fmt::Display for Step {
                 pattern,
                 place,
                 on,
-            }) => write!(f, "session {user} {} {place} {on}", Hex(pattern)),
+                lifted,
+            }) => write!(f, "session {user} {} {place} {on} {lifted}", Hex(pattern)),
             Step::Time(Time { day, hour, minute }) => write!(f, "time {day} {hour} {minute}"),
+            Step::Lift => f.write_str("lift"),
+            Step::Protect => f.write_str("protect"),
             Step::Call(ask) => {
                 write!(f, "call {} {} {}", ask.number, ask.argument, ask.fcb)?;
                 if ask.lengths == RIGHT_LENGTHS {
@@ -275,12 +285,15 @@ fn read_step(kind: &str, words: &mut Words) -> Result<Step, &'static str> {
             pattern: words.bytes()?,
             place: words.number()?,
             on: words.number()?,
+            lifted: words.number()?,
         }),
         "time" => Step::Time(Time {
             day: words.number()?,
             hour: words.number()?,
             minute: words.number()?,
         }),
+        "lift" => Step::Lift,
+        "protect" => Step::Protect,
         "call" => Step::Call(read_call(words)?),
         _ => return Err("no such step"),
     })
@@ -372,12 +385,15 @@ mod tests {
                 pattern: [0x3F; 12],
                 place: 65_535,
                 on: 255,
+                lifted: 254,
             }),
             Step::Time(Time {
                 day: 65_535,
                 hour: 0x9A,
                 minute: 255,
             }),
+            Step::Lift,
+            Step::Protect,
         ]
     }
 
@@ -406,7 +422,11 @@ mod tests {
             "sector 2002 00",
             "fcb 0 00",
             "buffer zz",
-            "session 0 00 0 0",
+            "session 0 00 0 0 0",
+            "session 0 3f3f3f3f3f3f3f3f3f3f3f3f 0 0",
+            "session 0 3f3f3f3f3f3f3f3f3f3f3f3f 0 0 256",
+            "lift 1",
+            "protect 1",
             "time 1 2",
             "time 65536 0 0",
             "time 1 256 0",

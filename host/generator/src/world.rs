@@ -43,8 +43,9 @@ pub const RIGHT_LENGTHS: Lengths = Lengths {
     buffer: RECORD_BYTES,
 };
 
-/// Something that makes calls. Every function with the signature of
-/// [`reference::call`] is one.
+/// Something that makes calls, and lifts and sets the write protection. Every
+/// function with the signature of [`reference::call`] is one, which lifts and
+/// sets as the reference does.
 pub trait Implementation {
     /// Makes one call.
     fn call(
@@ -56,6 +57,12 @@ pub trait Implementation {
         buffer: &mut [u8],
         session: Session,
     ) -> Answer;
+
+    /// Lifts the write protection of a session.
+    fn lift(&mut self, session: Session) -> Session;
+
+    /// Sets the write protection of a session.
+    fn protect(&mut self, session: Session) -> Session;
 }
 
 impl<F> Implementation for F
@@ -72,6 +79,14 @@ where
         session: Session,
     ) -> Answer {
         self(asked, image, map, fcb, buffer, session)
+    }
+
+    fn lift(&mut self, session: Session) -> Session {
+        reference::lift(session)
+    }
+
+    fn protect(&mut self, session: Session) -> Session {
+        reference::protect(session)
     }
 }
 
@@ -236,6 +251,15 @@ impl World {
 
     /// Why the reference would refuse a call.
     pub fn refusal(&self, ask: &Ask) -> Option<reference::Cause> {
+        self.refusal_with(ask, self.session)
+    }
+
+    /// Why it would on a lifted session.
+    pub fn refusal_if_lifted(&self, ask: &Ask) -> Option<reference::Cause> {
+        self.refusal_with(ask, reference::lift(self.session))
+    }
+
+    fn refusal_with(&self, ask: &Ask, session: Session) -> Option<reference::Cause> {
         let lengths = ask.lengths;
         reference::refusal(
             ask.at(self.time),
@@ -243,7 +267,7 @@ impl World {
             self.map.lent(lengths.map),
             self.fcbs[ask.fcb % FCBS].lent(lengths.fcb),
             self.buffer.lent(lengths.buffer),
-            self.session,
+            session,
         )
     }
 
@@ -267,7 +291,25 @@ impl World {
         answer
     }
 
-    /// Does what a step other than a call says.
+    /// Does a step: what it asks of the implementation, or what it says. The
+    /// answer of a call comes back.
+    pub fn take(&mut self, implementation: &mut dyn Implementation, step: &Step) -> Option<Answer> {
+        match step {
+            Step::Call(ask) => return Some(self.call(implementation, ask)),
+            Step::Lift => self.session = implementation.lift(self.session),
+            Step::Protect => self.session = implementation.protect(self.session),
+            _ => self.prepare(step),
+        }
+        None
+    }
+
+    /// Whether the write protection is on.
+    pub fn is_protected(&self) -> bool {
+        self.session.lifted == 0
+    }
+
+    /// Does what a step other than a call says. Lifting and setting the write
+    /// protection is "1" and "0" in one field, and nothing else.
     pub fn prepare(&mut self, step: &Step) {
         match step {
             Step::Sector { number, bytes } => {
@@ -283,6 +325,8 @@ impl World {
             Step::Buffer { bytes } => self.buffer.cells_mut().copy_from_slice(bytes),
             Step::Session(session) => self.session = *session,
             Step::Time(time) => self.time = *time,
+            Step::Lift => self.session.lifted = 1,
+            Step::Protect => self.session.lifted = 0,
             Step::Call(_) => {}
         }
     }

@@ -3,7 +3,7 @@
 
 use generator::{asks, replay, run, Counts, Implementation, Sequence};
 use reference::diskette::{DIRECTORY_PLACES, IMAGE_BYTES};
-use reference::{call, refusal, Answer, Asked, Cause, Session};
+use reference::{call, lift, protect, refusal, Answer, Asked, Cause, Session};
 
 /// Calls in which a wrong implementation has to be found out.
 const CALLS: usize = 60_000;
@@ -281,8 +281,45 @@ fn is_bad(byte: u8) -> bool {
     byte / 16 > 9 || byte % 16 > 9
 }
 
-/// A wrong implementation.
-struct Mutant(fn(&mut Lent) -> Answer);
+/// A wrong implementation: of the calls, or of what lifts or sets the write
+/// protection.
+#[derive(Clone, Copy)]
+struct Mutant {
+    call: fn(&mut Lent) -> Answer,
+    lift: fn(Session) -> Session,
+    protect: fn(Session) -> Session,
+}
+
+impl Mutant {
+    /// One that is right.
+    const NONE: Mutant = Mutant {
+        call: |lent| lent.call(),
+        lift,
+        protect,
+    };
+
+    const fn of_calls(call: fn(&mut Lent) -> Answer) -> Mutant {
+        Mutant {
+            call,
+            ..Mutant::NONE
+        }
+    }
+
+    const fn of_lift(lift: fn(Session) -> Session) -> Mutant {
+        Mutant {
+            lift,
+            ..Mutant::NONE
+        }
+    }
+
+    const fn of_protect(protect: fn(Session) -> Session) -> Mutant {
+        Mutant {
+            protect,
+            ..Mutant::NONE
+        }
+    }
+}
+
 impl Implementation for Mutant {
     fn call(
         &mut self,
@@ -293,7 +330,7 @@ impl Implementation for Mutant {
         buffer: &mut [u8],
         session: Session,
     ) -> Answer {
-        (self.0)(&mut Lent {
+        (self.call)(&mut Lent {
             asked,
             image,
             map,
@@ -302,11 +339,18 @@ impl Implementation for Mutant {
             session,
         })
     }
+
+    fn lift(&mut self, session: Session) -> Session {
+        (self.lift)(session)
+    }
+
+    fn protect(&mut self, session: Session) -> Session {
+        (self.protect)(session)
+    }
 }
 
 /// Runs a wrong implementation until it is found out.
-fn found_out(name: &str, mutant: fn(&mut Lent) -> Answer) {
-    let mut mutant = Mutant(mutant);
+fn found_out(name: &str, mut mutant: Mutant) {
     let mut counts = Counts::default();
     let done = run(11, CALLS, &mut call, &mut mutant, &mut counts);
     let failure = done.expect_err(&format!("{name} was not found out"));
@@ -320,9 +364,9 @@ fn found_out(name: &str, mutant: fn(&mut Lent) -> Answer) {
 }
 
 /// Runs a wrong implementation beside itself: the laws have to find it out.
-fn breaks_laws(name: &str, mutant: fn(&mut Lent) -> Answer) {
+fn breaks_laws(name: &str, mutant: Mutant) {
     let mut counts = Counts::default();
-    let (mut left, mut right) = (Mutant(mutant), Mutant(mutant));
+    let (mut left, mut right) = (mutant, mutant);
     let done = run(11, CALLS, &mut left, &mut right, &mut counts);
     let failure = done.expect_err(&format!("{name} breaks no law"));
     println!(
@@ -332,26 +376,27 @@ fn breaks_laws(name: &str, mutant: fn(&mut Lent) -> Answer) {
 }
 
 /// Finds a wrong implementation out beside the reference, and by the laws.
-fn found_out_both_ways(name: &str, mutant: fn(&mut Lent) -> Answer) {
+fn found_out_both_ways(name: &str, mutant: Mutant) {
     found_out(name, mutant);
     breaks_laws(name, mutant);
 }
 
-/// Writes tests that each find one mutant out, in one way.
+/// Writes tests that each find one mutant out, in one way: of the calls, or of
+/// what lifts or sets the write protection.
 macro_rules! mutants {
-    ($found_out:ident; $($(#[$doc:meta])* $name:ident: $mutant:expr;)*) => {
+    ($found_out:ident, $of:ident; $($(#[$doc:meta])* $name:ident: $mutant:expr;)*) => {
         $(
             $(#[$doc])*
             #[test]
             fn $name() {
-                $found_out(stringify!($name), $mutant);
+                $found_out(stringify!($name), Mutant::$of($mutant));
             }
         )*
     };
 }
 
 mutants! {
-    found_out;
+    found_out, of_calls;
 
     /// "Freeing only recorded blocks at a delete."
     delete_keeps_pending_blocks: |lent| {
@@ -763,7 +808,7 @@ mutants! {
 
 // Labels, date entries and stamps.
 mutants! {
-    found_out_both_ways;
+    found_out_both_ways, of_calls;
 
     /// Create or access comes first, update second.
     stamps_the_other_way_round: |lent| lent.call_and_spoil_dates(|done, rows| {
@@ -1209,4 +1254,398 @@ mutants! {
         }
         _ => lent.call(),
     };
+}
+
+impl Lent<'_> {
+    fn is_protected(&self) -> bool {
+        self.session.lifted == 0
+    }
+
+    /// Why a lifted session would refuse the call.
+    fn refusal_lifted(&self) -> Option<Cause> {
+        let session = lift(self.session);
+        refusal(
+            self.asked,
+            self.image,
+            self.map,
+            self.fcb,
+            self.buffer,
+            session,
+        )
+    }
+
+    /// Makes the call as on a session with another byte for its protection, and
+    /// hands the session's own back.
+    fn call_lifted(&mut self, byte: u8) -> Answer {
+        let kept = std::mem::replace(&mut self.session.lifted, byte);
+        let mut answer = self.call();
+        (answer.session.lifted, self.session.lifted) = (kept, kept);
+        answer
+    }
+
+    /// Makes one of the calls as if the session were lifted.
+    fn call_unprotected(&mut self, number: u8) -> Answer {
+        match self.number() == number && self.is_protected() {
+            true => self.call_lifted(1),
+            false => self.call(),
+        }
+    }
+
+    /// Refuses a call that is accepted on a protected session, where something
+    /// else is so too.
+    fn refuse_protected(&mut self, which: fn(&Lent) -> bool) -> Answer {
+        match self.is_protected() && self.refusal().is_none() && which(self) {
+            true => self.refuse(255, 2),
+            false => self.call(),
+        }
+    }
+
+    /// Whether a read goes to another extent than the FCB's.
+    fn read_moves(&self) -> bool {
+        let fcb = &self.fcb;
+        let record = || u32::from_le_bytes([fcb[33], fcb[34], fcb[35], 0]);
+        match self.number() {
+            20 => fcb[32] == 128,
+            33 => record() / 128 != 32 * u32::from(fcb[14]) + u32::from(fcb[12]),
+            _ => false,
+        }
+    }
+
+    /// Makes a read that is refused for its move as if a part of what the move
+    /// would change were not asked for, which is done as it would be lifted.
+    fn call_if_same(&mut self, same: fn(&[u8; 32], &[u8]) -> bool) -> Answer {
+        let refused = matches!(
+            self.refusal(),
+            Some(Cause::Protected20 | Cause::Protected33)
+        );
+        let row = Rows::of(self.image).and_then(|rows| {
+            let entry = rows.entry_of(self.session.user, self.fcb)?;
+            Some(rows.0[entry])
+        });
+        match row {
+            Some(row) if refused && same(&row, self.fcb) => self.call_lifted(1),
+            _ => self.call(),
+        }
+    }
+}
+
+// Write protection.
+mutants! {
+    found_out_both_ways, of_calls;
+
+    /// "This is tested right after 255, 1."
+    protected_before_bad_disks: |lent| {
+        let bad = matches!(lent.refusal(), Some(Cause::Inconsistent | Cause::MapWrong));
+        let writes = matches!(lent.number(), 16 | 19 | 21 | 22 | 23 | 34);
+        match bad && writes && lent.is_protected() {
+            true => lent.refuse(255, 2),
+            false => lent.call(),
+        }
+    };
+
+    protected_before_bad_parameters: |lent| match lent.refusal() {
+        Some(Cause::FcbDrive) if lent.number() == 22 && lent.is_protected() => lent.refuse(255, 2),
+        _ => lent.call(),
+    };
+
+    protected_after_every_other_row: |lent| {
+        let refused = lent.refusal().map(|cause| cause.code());
+        match (refused, lent.refusal_lifted()) {
+            (Some((255, 2)), Some(_)) => lent.call_lifted(1),
+            _ => lent.call(),
+        }
+    };
+
+    protected_after_bad_names: |lent| {
+        match (lent.refusal(), lent.refusal_lifted()) {
+            (Some(Cause::Protected22), Some(Cause::BadName22)) => lent.refuse(255, 9),
+            _ => lent.call(),
+        }
+    };
+
+    protected_after_stale_fcbs: |lent| {
+        match (lent.refusal(), lent.refusal_lifted()) {
+            (Some(Cause::Protected16), Some(Cause::NotCurrent16)) => lent.refuse(255, 0),
+            (Some(Cause::Protected21), Some(Cause::NotCurrent21)) => lent.refuse(9, 0),
+            _ => lent.call(),
+        }
+    };
+
+    protected_log_in_refused: |lent| lent.refuse_protected(|lent| lent.number() == 13);
+
+    protected_free_blocks_refused: |lent| lent.refuse_protected(|lent| lent.number() == 98);
+
+    protected_open_refused: |lent| lent.refuse_protected(|lent| lent.number() == 15);
+
+    /// Where it would stamp.
+    protected_open_refused_where_it_stamps: |lent| lent.refuse_protected(|lent| {
+        let rows = Rows::of(lent.image);
+        let stamps = rows.is_some_and(|rows| rows.is_dated() && rows.asks(asks::ACCESS));
+        lent.number() == 15 && stamps
+    });
+
+    protected_user_refused: |lent| lent.refuse_protected(|lent| {
+        lent.number() == 32 && lent.asked.argument != 255
+    });
+
+    protected_reads_that_stay_refused: |lent| lent.refuse_protected(|lent| {
+        matches!(lent.number(), 20 | 33) && !lent.read_moves()
+    });
+
+    protected_reads_that_move_and_change_nothing_refused: |lent| {
+        lent.refuse_protected(|lent| matches!(lent.number(), 20 | 33) && lent.read_moves())
+    };
+
+    protected_reads_that_move_allowed: |lent| match lent.refusal() {
+        Some(Cause::Protected20 | Cause::Protected33) => lent.call_lifted(1),
+        _ => lent.call(),
+    };
+
+    /// The move is made, and its close left out.
+    protected_reads_move_without_a_close: |lent| {
+        let Some(Cause::Protected20 | Cause::Protected33) = lent.refusal() else {
+            return lent.call();
+        };
+        let (image, map) = (lent.image.to_vec(), lent.map.to_vec());
+        let answer = lent.call_lifted(1);
+        lent.image.copy_from_slice(&image);
+        lent.map.copy_from_slice(&map);
+        answer
+    };
+
+    /// A later end alone is a change too.
+    protected_reads_by_blocks_alone: |lent| lent.call_if_same(|row, fcb| {
+        row[16..].iter().zip(&fcb[16..32]).all(|(&slot, &block)| slot == block)
+    });
+
+    /// A block alone is a change too.
+    protected_reads_by_counts_alone: |lent| lent.call_if_same(|row, fcb| {
+        fcb[15].min(128) <= row[15].min(128)
+    });
+
+    /// rc over 128 is no later end than 128.
+    protected_reads_by_rc_as_it_is: |lent| lent.refuse_protected(|lent| {
+        let rows = Rows::of(lent.image);
+        let entry = rows.as_ref().and_then(|r| r.entry_of(lent.session.user, lent.fcb));
+        let (Some(rows), Some(entry)) = (rows, entry) else {
+            return false;
+        };
+        lent.read_moves() && lent.fcb[15] > rows.0[entry][15]
+    });
+
+    /// "A read that would else succeed": the record may not be there.
+    protected_reads_before_their_later_rows: |lent| {
+        let cause = lent.refusal();
+        let later = matches!(
+            cause,
+            Some(
+                Cause::NoExtent20
+                    | Cause::LastExtent20
+                    | Cause::PastCount20
+                    | Cause::NoBlock20
+                    | Cause::NoExtent33
+                    | Cause::PastCount33
+                    | Cause::NoBlock33
+            )
+        );
+        let row = Rows::of(lent.image).and_then(|rows| {
+            let entry = rows.entry_of(lent.session.user, lent.fcb)?;
+            Some(rows.0[entry])
+        });
+        let changes = |row: &[u8; 32]| {
+            let mut slots = row[16..].iter().zip(&lent.fcb[16..32]);
+            lent.fcb[15].min(128) > row[15].min(128) || slots.any(|(s, b)| s != b)
+        };
+        match later && lent.is_protected() && lent.read_moves() && row.is_some_and(|r| changes(&r)) {
+            true => lent.refuse(255, 2),
+            false => lent.call(),
+        }
+    };
+
+    /// The same where only the extent is looked for.
+    protected_reads_before_the_record_is_looked_for: |lent| {
+        match lent.refusal() {
+            Some(Cause::NoBlock20 | Cause::NoBlock33 | Cause::PastCount20 | Cause::PastCount33)
+                if lent.is_protected() && lent.read_moves() =>
+            {
+                lent.refuse(255, 2)
+            }
+            _ => lent.call(),
+        }
+    };
+
+    protected_opens_stamp: |lent| lent.call_unprotected(15);
+
+    close_left_out: |lent| lent.call_unprotected(16);
+    delete_left_out: |lent| lent.call_unprotected(19);
+    sequential_write_left_out: |lent| lent.call_unprotected(21);
+    make_left_out: |lent| lent.call_unprotected(22);
+    rename_left_out: |lent| lent.call_unprotected(23);
+    random_write_left_out: |lent| lent.call_unprotected(34);
+
+    /// A close that changes nothing is refused as well.
+    closes_that_change_nothing_allowed: |lent| {
+        let (image, map) = (lent.image.to_vec(), lent.map.to_vec());
+        let protected = lent.refusal() == Some(Cause::Protected16);
+        if !protected || lent.refusal_lifted().is_some() {
+            return lent.call();
+        }
+        let fcb = lent.fcb.to_vec();
+        let answer = lent.call_lifted(1);
+        if image == lent.image && map == lent.map {
+            return answer;
+        }
+        lent.image.copy_from_slice(&image);
+        lent.map.copy_from_slice(&map);
+        lent.fcb.copy_from_slice(&fcb);
+        lent.refuse(255, 2)
+    };
+
+    /// A write into a record that has its block changes no entry.
+    writes_that_take_no_block_allowed: |lent| {
+        let refused = lent.refusal() == Some(Cause::Protected34);
+        if !refused || lent.refusal_lifted().is_some() {
+            return lent.call();
+        }
+        let (image, map, fcb) = (lent.image.to_vec(), lent.map.to_vec(), lent.fcb.to_vec());
+        let answer = lent.call_lifted(1);
+        if map == lent.map {
+            return answer;
+        }
+        lent.image.copy_from_slice(&image);
+        lent.map.copy_from_slice(&map);
+        lent.fcb.copy_from_slice(&fcb);
+        lent.refuse(255, 2)
+    };
+
+    accepted_calls_lift: |lent| {
+        let accepted = lent.refusal().is_none();
+        let mut answer = lent.call();
+        if accepted && lent.number() == 15 {
+            answer.session.lifted = 1;
+        }
+        answer
+    };
+
+    log_in_protects: |lent| {
+        let accepted = lent.refusal().is_none();
+        let mut answer = lent.call();
+        if accepted && lent.number() == 13 {
+            answer.session.lifted = 0;
+        }
+        answer
+    };
+
+    setting_the_user_protects: |lent| {
+        let accepted = lent.refusal().is_none();
+        let mut answer = lent.call();
+        if accepted && lent.number() == 32 && lent.asked.argument != 255 {
+            answer.session.lifted = 0;
+        }
+        answer
+    };
+
+    accepted_calls_make_the_byte_1: |lent| {
+        let accepted = lent.refusal().is_none();
+        let mut answer = lent.call();
+        if accepted {
+            answer.session.lifted = answer.session.lifted.min(1);
+        }
+        answer
+    };
+
+    searches_make_the_byte_1: |lent| {
+        let accepted = lent.refusal().is_none();
+        let mut answer = lent.call();
+        if accepted && matches!(lent.number(), 17 | 18) {
+            answer.session.lifted = answer.session.lifted.min(1);
+        }
+        answer
+    };
+
+    refusals_make_the_byte_1: |lent| {
+        let refused = lent.refusal().is_some();
+        let mut answer = lent.call();
+        if refused {
+            answer.session.lifted = answer.session.lifted.min(1);
+        }
+        answer
+    };
+
+    /// Once refused, the next try gets through.
+    refusals_lift: |lent| {
+        let mut answer = lent.call();
+        if (answer.a, answer.h) == (255, 2) {
+            answer.session.lifted = 1;
+        }
+        answer
+    };
+
+    the_ends_of_searches_protect: |lent| {
+        let ended = matches!(lent.refusal(), Some(Cause::NothingMatches17 | Cause::NoMore18));
+        let mut answer = lent.call();
+        if ended {
+            answer.session.lifted = 0;
+        }
+        answer
+    };
+
+    only_1_counts_as_lifted: |lent| {
+        let byte = u8::from(lent.session.lifted == 1);
+        lent.call_lifted(byte)
+    };
+
+    only_odd_bytes_count_as_lifted: |lent| {
+        let byte = lent.session.lifted & 1;
+        lent.call_lifted(byte)
+    };
+
+    only_255_is_not_lifted: |lent| match lent.session.lifted {
+        255 => lent.call_lifted(0),
+        _ => lent.call(),
+    };
+
+    nothing_is_ever_protected: |lent| lent.call_lifted(1);
+}
+
+mutants! {
+    found_out_both_ways, of_lift;
+
+    lift_ends_the_search: |session| Session { place: 0, on: 0, ..lift(session) };
+    lift_makes_the_search_1: |session| Session { on: session.on.min(1), ..lift(session) };
+    lift_clears_the_place: |session| Session { place: 0, ..lift(session) };
+    lift_clears_the_pattern: |session| Session { pattern: [0; 12], ..lift(session) };
+    lift_sets_user_0: |session| Session { user: 0, ..lift(session) };
+    lift_stores_255: |session| Session { lifted: 255, ..session };
+    lift_keeps_a_byte_that_is_lifted: |session| Session {
+        lifted: session.lifted.max(1),
+        ..session
+    };
+    lift_changes_to_and_fro: |session| Session {
+        lifted: u8::from(session.lifted == 0),
+        ..session
+    };
+    lift_of_a_wrong_session_does_nothing: |session| match session.user > 15 {
+        true => session,
+        false => lift(session),
+    };
+}
+
+mutants! {
+    found_out_both_ways, of_protect;
+
+    protect_ends_the_search: |session| Session { place: 0, on: 0, ..protect(session) };
+    protect_keeps_a_byte: |session| match session.lifted {
+        0 | 1 => protect(session),
+        _ => session,
+    };
+    protect_takes_1_away: |session| Session {
+        lifted: session.lifted.saturating_sub(1),
+        ..session
+    };
+    protect_of_a_wrong_session_does_nothing: |session| match session.place > 64 {
+        true => session,
+        false => protect(session),
+    };
+    protect_sets_user_0: |session| Session { user: 0, ..protect(session) };
 }

@@ -1,12 +1,12 @@
-//! The boundary: the archive's one function, the types it takes and answers,
-//! and the safe way to it. Nothing compares these declarations with the proved
+//! The boundary: the archive's three functions, the types they take and answer,
+//! and the safe way to them. Nothing compares these declarations with the proved
 //! source; `tests/layout.rs` compares them with the C header.
 
 use crate::Time;
 
-/// The version of these types and of the function's parameters, the header's
+/// The version of these types and of the functions, the header's
 /// `BENZO_VERSION`.
-pub const VERSION: u32 = 2;
+pub const VERSION: u32 = 3;
 
 /// Which call is asked for, and when: `benzo_asked`. The time may be anything
 /// here; [`Asked::new`] takes one that is right.
@@ -39,7 +39,7 @@ impl Asked {
 }
 
 /// What a caller keeps from one call to the next: `benzo_session`. It begins
-/// at zero, which is [`Session::default`].
+/// at zero, which is [`Session::default`], and so write-protected.
 #[repr(C)]
 #[derive(Clone, Copy, Debug, Default, PartialEq, Eq)]
 pub struct Session {
@@ -51,6 +51,9 @@ pub struct Session {
     pub place: u16,
     /// Whether a search is on: 0 is off, anything else is on.
     pub on: u8,
+    /// Whether the write protection is lifted: 0 is protected, anything else is
+    /// lifted. No call changes it; [`lift`] and [`protect`] do.
+    pub lifted: u8,
 }
 
 /// What a call answers: `benzo_answer`.
@@ -65,7 +68,8 @@ pub struct Answer {
     pub session: Session,
 }
 
-extern "C" {
+#[allow(unsafe_code)]
+unsafe extern "C" {
     fn benzo_call(
         asked: Asked,
         image: *mut u8,
@@ -78,6 +82,22 @@ extern "C" {
         buffer_len: usize,
         session: Session,
     ) -> Answer;
+
+    // These two take and give numbers alone, which may be anything.
+    safe fn benzo_lift(session: Session) -> Session;
+    safe fn benzo_protect(session: Session) -> Session;
+}
+
+/// Lifts the write protection: the session with `lifted` 1, and all else in it
+/// as it came, a search included.
+pub fn lift(session: Session) -> Session {
+    benzo_lift(session)
+}
+
+/// Sets the write protection: the session with `lifted` 0, and all else in it
+/// as it came.
+pub fn protect(session: Session) -> Session {
+    benzo_protect(session)
 }
 
 /// Makes one call with the four buffers as they are lent, right or wrong. A

@@ -65,6 +65,8 @@ codes! {
         "A buffer has a wrong length, the session's user is over 15, its search place is over 64, the time's hour or minute is not in BCD, or the call uses the FCB and byte 0 of it is over 1.";
     BadDisk = 255, 1, [],
         "The directory of the image is not consistent, or the map does not fit it (13 takes any map, and makes it fit).";
+    Protected = 255, 2, [16, 19, 20, 21, 22, 23, 33, 34],
+        "The session is write-protected (20 and 33 answer so only where they would else succeed, by a move that changes an entry).";
     TooFar = 6, 0, [33, 34],
         "The random record number is over 262,143.";
     NotCurrent = 9, 0, [20, 21, 33, 34],
@@ -113,6 +115,17 @@ refusal: these calls alone answer it, for an entry whose number mod 4 is 3, or
 for user 3.
 ";
 
+    /// What the help card says of write protection, in lines of at most 80
+    /// characters.
+    pub const PROTECTION: &'static str = "\
+A session begins write-protected, and stays so until its caller lifts the
+protection. Until then no call changes the image: 16, 19, 21, 22, 23 and 34 are
+255, 2, and so is a read that would else succeed by a move that changes an
+entry; an open stamps no access. 13 and 98 change the map all the same. No call
+lifts or sets the protection, and lifting or setting it changes nothing else, a
+search included.
+";
+
     /// What the help card says of record counts, in lines of at most 80
     /// characters.
     pub const RECORD_COUNTS: &'static str = "\
@@ -147,8 +160,9 @@ and a refused call stamps nothing.
 ";
 
     /// Everything that the help card says below its table, in its order.
-    pub const REMARKS: [&'static str; 5] = [
+    pub const REMARKS: [&'static str; 6] = [
         Code::ACCEPTED_CALLS,
+        Code::PROTECTION,
         Code::RECORD_COUNTS,
         Code::WRONG_DATES,
         Code::THE_TIME,
@@ -230,8 +244,10 @@ mod tests {
     #[test]
     fn what_is_not_on_the_card_says_so() {
         let unknown = Code::Unknown { a: 255, h: 2 };
-        assert_eq!(read(16, 0, 255, 2), Err(unknown));
+        assert_eq!(read(16, 0, 255, 2), Err(Code::Protected));
+        assert_eq!(read(15, 0, 255, 2), Err(unknown), "15 is never refused so");
         assert_eq!(unknown.numbers(), (255, 2));
+        assert_eq!(read(16, 0, 255, 7), Err(Code::Unknown { a: 255, h: 7 }));
         assert_eq!(read(33, 0, 200, 0), Err(Code::Unknown { a: 200, h: 0 }));
         for number in [20, 21, 33, 34] {
             let three = Code::Unknown { a: 3, h: 0 };

@@ -1,8 +1,8 @@
 //! A disk: an image with what the calls need beside it.
 
 use crate::{
-    lend, Asked, Buffer, Call, Code, Entry, Fcb, Image, Map, Session, Time, BUFFER_LEN, ENTRY_LEN,
-    IMAGE_LEN, MAP_LEN,
+    lend, lift, protect, Asked, Buffer, Call, Code, Entry, Fcb, Image, Map, Session, Time,
+    BUFFER_LEN, ENTRY_LEN, IMAGE_LEN, MAP_LEN,
 };
 use std::fmt;
 
@@ -13,7 +13,11 @@ const ERASED: u8 = 0xE5;
 const DATES: u8 = 0x21;
 
 /// An image, its map, a transfer buffer, a session, and the time that calls are
-/// handed. Nothing but the calls changes image, map and session.
+/// handed. Nothing but the calls changes image and map.
+///
+/// A disk begins write-protected: no call changes its image, and those that
+/// would are refused with [`Code::Protected`], until [`Disk::lift`] is called.
+/// Reading, listing and logging in need no lift.
 ///
 /// A disk begins at [`Time::ZERO`], and its time stands still until
 /// [`Disk::set_time`] is called: what a call does is decided by what it is given
@@ -122,13 +126,14 @@ fn boxed<T: Copy, const N: usize>(bytes: Vec<T>) -> Result<Box<[T; N]>, WrongLen
 }
 
 impl Disk {
-    /// An erased disk, logged in: every byte is E5H, so every entry is empty.
+    /// An erased disk, logged in and write-protected: every byte is E5H, so every
+    /// entry is empty.
     pub fn erased() -> Disk {
         let disk = Disk::new(vec![ERASED; IMAGE_LEN]);
         disk.expect("an erased image is consistent")
     }
 
-    /// A disk with this image, logged in as user 0.
+    /// A disk with this image, logged in as user 0 and write-protected.
     pub fn new(image: Vec<u8>) -> Result<Disk, NoDisk> {
         let image = boxed(image).map_err(NoDisk::WrongLength)?;
         let map = boxed(vec![0; MAP_LEN]).map_err(NoDisk::WrongLength)?;
@@ -138,7 +143,8 @@ impl Disk {
     }
 
     /// A disk with a map and a session kept from earlier. Nothing is asked of
-    /// them; the calls refuse what does not fit.
+    /// them; the calls refuse what does not fit. The session says whether the
+    /// disk is write-protected, as [`Session::default`] is.
     pub fn resumed(image: Box<Image>, map: Box<Map>, session: Session) -> Disk {
         Disk {
             image,
@@ -162,6 +168,24 @@ impl Disk {
     /// The session.
     pub fn session(&self) -> Session {
         self.session
+    }
+
+    /// Whether the disk is write-protected.
+    pub fn is_protected(&self) -> bool {
+        self.session.lifted == 0
+    }
+
+    /// Lifts the write protection: from now on calls may change the image. A
+    /// search that is on stays on.
+    pub fn lift(&mut self) {
+        self.session = lift(self.session);
+    }
+
+    /// Sets the write protection again: from now on no call changes the image.
+    /// What was written and not closed stays pending, and can be closed after
+    /// another [`Disk::lift`].
+    pub fn protect(&mut self) {
+        self.session = protect(self.session);
     }
 
     /// The time that calls are handed.
@@ -216,7 +240,7 @@ impl Disk {
     }
 
     /// Call 15: opens the extent that byte 12 names, and answers its entry's
-    /// number mod 4.
+    /// number mod 4. On a write-protected disk it stamps no access.
     pub fn open(&mut self, fcb: &mut Fcb) -> Result<u8, Code> {
         self.call(Call::Open, fcb)
     }
@@ -344,6 +368,7 @@ mod tests {
     #[test]
     fn records_that_no_file_has_are_refused_as_such() {
         let mut disk = Disk::erased();
+        disk.lift();
         let mut fcb = Fcb::named("A".parse().unwrap());
         disk.make(&mut fcb).unwrap();
         disk.write_next(&mut fcb).unwrap();

@@ -6,6 +6,7 @@
 //!
 //! # fn main() -> Result<(), Box<dyn std::error::Error>> {
 //! let mut disk = Disk::erased();
+//! disk.lift(); // it begins write-protected
 //! let mut fcb = Fcb::named("HELLO.TXT".parse::<Name>()?);
 //! disk.make(&mut fcb)?;
 //! disk.buffer.fill(b'!');
@@ -17,16 +18,18 @@
 //! ```
 //!
 //! * [`Disk`] owns an image, its map, a transfer buffer and a session. Lengths
-//!   can't be wrong there, and only calls change the image.
+//!   can't be wrong there, and only calls change the image. It begins
+//!   write-protected: no call changes the image until [`Disk::lift`].
 //! * [`Fcb`], [`Name`] and [`Pattern`] are what calls are given.
 //! * [`Time`] is what calls are handed and stamps hold. A disk begins at
 //!   [`Time::ZERO`]; `disk.set_time(Time::now()?)` makes it the system's clock.
 //! * [`Code`] says why a call was refused, in the help card's sentence.
-//! * [`lend`] is the archive's function itself, which takes buffers of any
-//!   length and any session: wrong ones are refused, not undefined.
+//! * [`lend`] is the archive's call itself, which takes buffers of any length
+//!   and any session: wrong ones are refused, not undefined. [`lift`] and
+//!   [`protect`] lift and set the write protection of a session.
 //!
-//! This crate alone holds `unsafe`, in one place: the call across the C
-//! boundary.
+//! This crate alone holds `unsafe`, in one file: the archive's three functions
+//! are declared there, and the call is made in one block.
 
 #![deny(unsafe_code)]
 #![warn(missing_docs)]
@@ -40,7 +43,7 @@ mod names;
 mod time;
 mod zone;
 
-pub use boundary::{lend, Answer, Asked, Session, VERSION};
+pub use boundary::{lend, lift, protect, Answer, Asked, Session, VERSION};
 pub use calls::Call;
 pub use codes::Code;
 pub use disk::{Disk, Found, NoDisk, Stamps, WrongLength};

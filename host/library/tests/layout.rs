@@ -19,6 +19,7 @@ fn rust_layout() -> Vec<(&'static str, usize)> {
         ("benzo_session.pattern", offset_of!(Session, pattern)),
         ("benzo_session.place", offset_of!(Session, place)),
         ("benzo_session.on", offset_of!(Session, on)),
+        ("benzo_session.lifted", offset_of!(Session, lifted)),
         ("benzo_answer", size_of::<Answer>()),
         ("benzo_answer.a", offset_of!(Answer, a)),
         ("benzo_answer.h", offset_of!(Answer, h)),
@@ -32,7 +33,7 @@ fn rust_layout() -> Vec<(&'static str, usize)> {
 }
 
 #[test]
-fn rust_has_the_sizes_and_places_of_version_2() {
+fn rust_has_the_sizes_and_places_of_version_3() {
     let expected = [
         ("benzo_asked", 6),
         ("benzo_asked.number", 0),
@@ -45,11 +46,12 @@ fn rust_has_the_sizes_and_places_of_version_2() {
         ("benzo_session.pattern", 1),
         ("benzo_session.place", 14),
         ("benzo_session.on", 16),
+        ("benzo_session.lifted", 17),
         ("benzo_answer", 20),
         ("benzo_answer.a", 0),
         ("benzo_answer.h", 1),
         ("benzo_answer.session", 2),
-        ("BENZO_VERSION", 2),
+        ("BENZO_VERSION", 3),
         ("BENZO_IMAGE_LEN", 256_256),
         ("BENZO_MAP_LEN", 243),
         ("BENZO_FCB_LEN", 36),
@@ -77,6 +79,7 @@ const SESSION: Session = Session {
     pattern: *b"ABCDEFGHIJKL",
     place: 64,
     on: 0xC3,
+    lifted: 0xA7,
 };
 
 /// A time whose bytes are told apart.
@@ -119,6 +122,35 @@ fn every_field_crosses_the_boundary() {
     assert_eq!((bad.a, bad.h, bad.session), (255, 0, SESSION));
 }
 
+/// Of the fields of a session the last alone is changed, and to 1 or 0.
+#[test]
+fn lifting_and_protecting_cross_the_boundary() {
+    for byte in [0, 1, 2, 0xA7, 255] {
+        let session = Session {
+            place: 0xFEDC,
+            lifted: byte,
+            ..SESSION
+        };
+        let with = |lifted| Session { lifted, ..session };
+        assert_eq!(benzokamuri::lift(session), with(1), "{byte}");
+        assert_eq!(benzokamuri::protect(session), with(0), "{byte}");
+    }
+}
+
+/// Any byte but 0 is lifted, and each comes back as it went in.
+#[test]
+fn the_byte_of_the_protection_comes_back_as_it_is() {
+    for lifted in 0..=255 {
+        let session = Session { lifted, ..SESSION };
+        let accepted = lend(Asked::new(46, 0, some_time()), session);
+        assert_eq!((accepted.h, accepted.session.lifted), (0, lifted));
+        // No name at all, which is told once the protection is out of the way.
+        let refused = lend(Asked::new(22, 0, some_time()), session);
+        let due = if lifted == 0 { 2 } else { 9 };
+        assert_eq!((refused.a, refused.h, refused.session), (255, due, session));
+    }
+}
+
 #[test]
 fn hour_and_minute_are_looked_at_each_by_itself() {
     for (hour, minute, due) in [
@@ -144,7 +176,7 @@ fn the_time_comes_out_as_a_stamp() {
     fcb[1..12].copy_from_slice(b"STAMPED TXT");
     for number in [13, 22] {
         let asked = Asked::new(number, 0, some_time());
-        let session = Session::default();
+        let session = benzokamuri::lift(Session::default());
         let answer = benzokamuri::lend(asked, &mut image, &mut map, &mut fcb, &mut buffer, session);
         assert_eq!(answer.h, 0, "call {number}");
     }

@@ -27,30 +27,30 @@ fn header_block() -> String {
 
 /// Compiles what stands in a function as it would in a program, and runs it:
 /// its log-in has to be accepted.
-fn log_in_is_accepted(shown: &str, name: &str) {
+fn log_in_is_accepted_and_lifted(shown: &str, name: &str) {
     let (includes, rest): (Vec<&str>, Vec<&str>) =
         shown.lines().partition(|line| line.starts_with("#include"));
     let program = format!(
         "{}\n#include <stdio.h>\nint main(void) {{\n{}\n\
-         printf(\"%d, %d; user %d\\n\", answer.a, answer.h, session.user);\nreturn 0;\n}}\n",
+         printf(\"%d, %d; lifted %d\\n\", answer.a, answer.h, session.lifted);\nreturn 0;\n}}\n",
         includes.join("\n"),
         rest.join("\n")
     );
     let path = std::path::Path::new(env!("CARGO_TARGET_TMPDIR")).join(name);
     std::fs::write(&path, program).expect("it can be written");
     let path = path.to_str().expect("a path that is text");
-    assert_eq!(common::compile(path).run(), "0, 0; user 0\n");
+    assert_eq!(common::compile(path).run(), "0, 0; lifted 1\n");
 }
 
 #[test]
 fn the_c_is_compiled_and_accepted() {
-    log_in_is_accepted(&block("c"), "readme.c");
+    log_in_is_accepted_and_lifted(&block("c"), "readme.c");
 }
 
 #[test]
 fn the_c_of_the_header_is_compiled_and_accepted() {
     let includes = "#include <string.h>\n#include \"benzokamuri.h\"\n";
-    log_in_is_accepted(&format!("{includes}{}", header_block()), "header.c");
+    log_in_is_accepted_and_lifted(&format!("{includes}{}", header_block()), "header.c");
 }
 
 /// The library's first page is compiled and run by its own test.

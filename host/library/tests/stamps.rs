@@ -31,6 +31,7 @@ fn stamps(first: &str, update: &str) -> Option<Stamps> {
 #[test]
 fn create_and_update_are_told_by_a_search() {
     let mut disk = Disk::new(common::dated_image(CREATE | UPDATE)).expect("a disk");
+    disk.lift();
     assert_eq!(disk.time(), Time::ZERO);
     for (name, at) in [("A", "2026-11-15 06:00"), ("B", "2026-11-15 06:01")] {
         disk.set_time(time(at));
@@ -53,6 +54,7 @@ fn create_and_update_are_told_by_a_search() {
 #[test]
 fn a_disk_stands_still_until_it_is_told_another_time() {
     let mut disk = Disk::new(common::dated_image(ACCESS)).expect("a disk");
+    disk.lift();
     disk.make(&mut named("A")).expect("made");
     disk.open(&mut named("A")).expect("opened");
     assert_eq!(found(&mut disk, "A").stamps, stamps("never", "never"));
@@ -78,12 +80,14 @@ fn a_disk_stands_still_until_it_is_told_another_time() {
 #[test]
 fn an_undated_disk_tells_no_stamps() {
     let mut disk = Disk::erased();
+    disk.lift();
     disk.set_time(time("2026-11-15 06:00"));
     for name in ["A", "B", "C", "D"] {
         disk.make(&mut named(name)).expect("made");
         assert_eq!(found(&mut disk, name).stamps, None, "{name}");
     }
     let mut other = Disk::erased();
+    other.lift();
     for name in ["A", "B", "C", "D"] {
         other.make(&mut named(name)).expect("made");
     }

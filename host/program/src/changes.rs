@@ -108,6 +108,7 @@ fn session(was: Session, is: Session) -> Vec<String> {
     );
     differs("search place", was.place.to_string(), is.place.to_string());
     differs("search on", was.on.to_string(), is.on.to_string());
+    differs("lifted", was.lifted.to_string(), is.lifted.to_string());
     lines
 }
 
@@ -116,11 +117,24 @@ mod tests {
     use super::*;
 
     #[test]
+    fn a_lift_told() {
+        let before = Moment {
+            disk: Disk::erased(),
+            fcb: Fcb::ZERO,
+        };
+        let mut after = before.clone();
+        after.disk.lift();
+        let told = between(&before, &after);
+        assert_eq!(told, ["session, lifted: was 0, is 1"]);
+    }
+
+    #[test]
     fn a_make_a_write_and_a_search_told() {
         let mut moment = Moment {
             disk: Disk::erased(),
             fcb: Fcb::named("A.B".parse().unwrap()),
         };
+        moment.disk.lift();
         let mut then = |change: &dyn Fn(&mut Moment)| {
             let before = moment.clone();
             change(&mut moment);

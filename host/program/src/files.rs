@@ -119,7 +119,8 @@ pub struct Contents {
     pub missing: u32,
 }
 
-/// Reads a file of the present user, by calls 15 and 33.
+/// Reads a file of the present user, by calls 15 and 33. The disk may be
+/// write-protected: no move has anything to close, since nothing is written.
 pub fn read(disk: &mut Disk, file: &File) -> Result<Contents, Code> {
     let mut fcb = opened(disk, file)?;
     let mut contents = Contents {
@@ -156,7 +157,8 @@ fn opened(disk: &mut Disk, file: &File) -> Result<Fcb, Code> {
     Ok(fcb)
 }
 
-/// Makes a file of the present user and writes it, by calls 22, 21 and 16.
+/// Makes a file of the present user and writes it, by calls 22, 21 and 16. The
+/// disk's write protection has to be lifted.
 pub fn write(disk: &mut Disk, name: Name, bytes: &[u8]) -> Result<(), Code> {
     let mut fcb = Fcb::named(name);
     disk.make(&mut fcb)?;
@@ -184,6 +186,7 @@ mod tests {
     #[test]
     fn what_is_written_is_read_back_filled_up() {
         let mut disk = Disk::erased();
+        disk.lift();
         for (user, length) in [
             (0, 0),
             (0, 1),
@@ -196,6 +199,7 @@ mod tests {
             let text = format!("F{length}");
             disk.set_user(user).unwrap();
             write(&mut disk, name(&text), &bytes).unwrap();
+            disk.protect();
             let file = one(&mut disk, user, &text);
             assert_eq!(file.records as usize, bytes.len().div_ceil(128));
             assert_eq!(file.bytes() % 128, 0);
@@ -203,6 +207,7 @@ mod tests {
             assert_eq!(contents.missing, 0);
             assert_eq!(contents.bytes[..length], bytes);
             assert!(contents.bytes[length..].iter().all(|&byte| byte == FILLING));
+            disk.lift();
         }
         assert_eq!(all(&mut disk).unwrap().len(), 6);
         assert_eq!(disk.user(), Ok(0));
@@ -211,6 +216,7 @@ mod tests {
     #[test]
     fn records_that_are_not_there_are_counted() {
         let mut disk = Disk::erased();
+        disk.lift();
         let mut fcb = Fcb::named(name("HOLES"));
         disk.make(&mut fcb).unwrap();
         disk.buffer.fill(7);
@@ -219,6 +225,7 @@ mod tests {
             disk.write_random(&mut fcb).unwrap();
         }
         disk.close(&mut fcb).unwrap();
+        disk.protect();
         let file = one(&mut disk, 0, "HOLES");
         let contents = read(&mut disk, &file).unwrap();
         assert_eq!(contents.bytes.len(), 301 * 128);
@@ -231,6 +238,7 @@ mod tests {
     #[test]
     fn a_file_that_open_can_not_reach() {
         let mut disk = Disk::erased();
+        disk.lift();
         let mut fcb = Fcb::named(name("FAR"));
         disk.make(&mut fcb).unwrap();
         fcb.set_random(128 * 40);

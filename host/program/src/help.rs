@@ -92,7 +92,7 @@ pub fn about(words: &[OsString], desk: &mut Desk) -> Result<(), Trouble> {
 
 /// The help card.
 fn codes(desk: &mut Desk) -> Result<(), Trouble> {
-    writeln!(desk.out, "A, H        calls                meaning")?;
+    writeln!(desk.out, "A, H        calls                    meaning")?;
     for code in Code::ALL {
         let (a, h) = code.numbers();
         let numbers: Vec<String> = code.calls().iter().map(u8::to_string).collect();
@@ -100,7 +100,7 @@ fn codes(desk: &mut Desk) -> Result<(), Trouble> {
             [] => "every call".into(),
             _ => numbers.join(" "),
         };
-        writeln!(desk.out, "{:<10}  {calls:<19}  {code}", format!("{a}, {h}"))?;
+        writeln!(desk.out, "{:<10}  {calls:<23}  {code}", format!("{a}, {h}"))?;
     }
     for remark in Code::REMARKS {
         write!(desk.out, "\n{remark}")?;

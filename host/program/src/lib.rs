@@ -3,7 +3,8 @@
 //!
 //! A verb reads the image file, makes calls of [`benzokamuri`] on the copy in
 //! memory, and saves that copy at the end if all went well. Files are found,
-//! read and changed by calls alone. What is done beside them: `new` makes an
+//! read and changed by calls alone, on a disk that is write-protected until a
+//! verb that changes it is about to ([`Desk::lifts`]). What is done beside them: `new` makes an
 //! image, short images are filled up and blank stamps made zeros as they are
 //! read ([`store`]), and `check`, `free`, `map` and `call` show what no call tells
 //! of ([`layout`]).
@@ -26,7 +27,7 @@ pub mod trouble;
 mod verbs;
 mod words;
 
-use benzokamuri::{BadTime, Time};
+use benzokamuri::{BadTime, Disk, Time};
 use std::ffi::OsString;
 use std::fmt;
 use std::io::{self, ErrorKind, Write};
@@ -43,6 +44,9 @@ pub struct Desk<'a> {
     pub colours: bool,
     /// Says what time it is, where the command line does not.
     pub clock: fn() -> Result<Time, BadTime>,
+    /// How often the write protection of a disk was lifted. A verb that only
+    /// looks never does.
+    pub lifts: usize,
 }
 
 impl<'a> Desk<'a> {
@@ -57,7 +61,15 @@ impl<'a> Desk<'a> {
             err,
             colours: false,
             clock: Time::now,
+            lifts: 0,
         }
+    }
+
+    /// Lifts the write protection of a disk that is about to be changed. There
+    /// is no other way to that in the program, so that it can be counted.
+    fn lift(&mut self, disk: &mut Disk) {
+        self.lifts += 1;
+        disk.lift();
     }
 
     /// Says what is worth a remark. That nobody reads it is no reason to stop.

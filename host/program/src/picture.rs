@@ -282,6 +282,7 @@ mod tests {
     /// Two files, one of them with a pending block.
     fn disk() -> Disk {
         let mut disk = Disk::erased();
+        disk.lift();
         files::write(&mut disk, "A&B.TXT".parse().unwrap(), &[1; 3_000]).unwrap();
         disk.set_user(4).unwrap();
         let mut fcb = Fcb::named("WAITS".parse().unwrap());

@@ -87,7 +87,7 @@ impl ImageFile {
         IMAGE_LEN - self.length
     }
 
-    /// Logs in, as a user and at a time.
+    /// Logs in, as a user and at a time. The disk is write-protected.
     pub fn log_in(&self, user: u8, time: Time) -> Result<Disk, Trouble> {
         let refused = |code| Trouble::Refused {
             doing: self.name(),
@@ -244,6 +244,7 @@ mod tests {
 
     fn disk_with(records: usize) -> Disk {
         let mut disk = Disk::erased();
+        disk.lift();
         let name: Name = "FILE".parse().unwrap();
         files::write(&mut disk, name, &vec![1; 128 * records]).unwrap();
         disk

@@ -220,7 +220,7 @@ fn each_extent_has_its_own_stamps() {
     folder.write("long", &bytes(50_000, 3));
     folder.done_at(NOW, "put disk.img long -u 2");
     let call = |time: &str, line: &str| {
-        let line = format!("call --state state -u 2 disk.img {line}");
+        let line = format!("call --lift --state state -u 2 disk.img {line}");
         folder.done_at(time, &line)
     };
     // Record 391 stands in the last extent's block; it makes it longer.
@@ -663,14 +663,17 @@ fn a_clock_that_has_no_day_of_ours_is_told() {
 fn a_call_that_stamps_is_saved() {
     let folder = with_access();
     let before = folder.read("disk.img");
-    let opened = folder.done_at(LATER, "call -n disk.img 15 --name b.txt");
+    let opened = folder.done_at(LATER, "call --lift -n disk.img 15 --name b.txt");
     assert!(folder.read("disk.img") == before, "-n saves nothing");
     let expected = format!(
         "call 15 (open): A = 2, H = 0\nentry 3, byte {} of the image:\n  was 21",
         entry_place(3)
     );
     assert!(opened.starts_with(&expected), "{opened}");
-    folder.done_at(LATER, "call disk.img 15 --name b.txt");
+    let opened = folder.done_at(LATER, "call disk.img 15 --name b.txt");
+    assert!(!opened.contains("of the image"), "protected: {opened}");
+    assert!(folder.read("disk.img") == before);
+    folder.done_at(LATER, "call --lift disk.img 15 --name b.txt");
     assert_eq!(stamps(&folder, "B.TXT"), [LATER, NOW]);
     let before = folder.read("disk.img");
     folder.done_at(NOW, "call disk.img 17 --name b.txt");

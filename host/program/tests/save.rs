@@ -165,7 +165,7 @@ fn what_is_write_protected_stays_as_it_was() {
         "put -f disk.img file there",
         "rm disk.img there",
         "mv disk.img there here",
-        "call disk.img 22 --name new",
+        "call --lift disk.img 22 --name new",
         "new -f disk.img",
         "get -f disk.img there there",
         "map -f --svg there disk.img",
@@ -279,7 +279,7 @@ fn a_state_that_can_not_be_saved_leaves_the_image_as_it_was() {
     let folder = Folder::new();
     folder.done("new disk.img");
     let old = folder.read("disk.img");
-    let said = folder.refused("call --state no/state disk.img 22 --name new");
+    let said = folder.refused("call --lift --state no/state disk.img 22 --name new");
     assert!(said.contains("no/state can't be saved: "), "{said}");
     assert_eq!(folder.read("disk.img"), old);
     assert_eq!(folder.names(), ["disk.img"]);
@@ -288,7 +288,7 @@ fn a_state_that_can_not_be_saved_leaves_the_image_as_it_was() {
 #[test]
 fn an_image_and_its_state_ended_at_every_step() {
     let folder = Folder::new();
-    let line = "call --state state disk.img 22 --name new";
+    let line = "call --lift --state state disk.img 22 --name new";
     let both = || (folder.read("disk.img"), folder.read("state"));
     folder.done("new disk.img");
     folder.done("call --state state disk.img 13");

@@ -219,7 +219,7 @@ fn record_counts_over_128_are_left_as_they_are() {
         opened.contains("FCB byte 15 (rc): was 00H, is C8H"),
         "{opened}"
     );
-    folder.done("call --state now disk.img 16");
+    folder.done("call --lift --state now disk.img 16");
     let after = folder.read("disk.img");
     assert_eq!([1, 2].map(|e| after[entry_place(e) + 15]), [200, 255]);
 
@@ -503,6 +503,7 @@ fn wrong_usage_has_status_2_and_says_what_is_right() {
         "call disk.img 15 zz",
         "call disk.img 15 -a 256",
         "call disk.img 15 00 --name a",
+        "call disk.img 15 --lift --protect",
         "demo more",
         "demo --time now",
         "help nosuch",
@@ -551,10 +552,10 @@ fn help_for_everything() {
     assert!(names.lines().all(|line| line.len() <= 80), "{names}");
     let codes = folder.done("help codes");
     let (cases, below) = codes.split_once("\n\n").unwrap();
-    assert_eq!(cases.lines().count(), 1 + 21, "a heading and the cases");
+    assert_eq!(cases.lines().count(), 1 + 22, "a heading and the cases");
     assert_eq!(below, Code::REMARKS.join("\n"));
     assert!(below.lines().all(|line| line.len() <= 80), "{below}");
-    assert!(folder.done("--version").contains("interface 2"));
+    assert!(folder.done("--version").contains("interface 3"));
 }
 
 #[test]
@@ -623,7 +624,7 @@ fn calls_one_by_one() {
         let line = out.lines().last().unwrap_or("").to_string();
         line.strip_prefix("FCB ").expect("the FCB").to_string()
     };
-    let first = fcb(&call("22 --name job.dat"));
+    let first = fcb(&call("--lift 22 --name job.dat"));
     let second = fcb(&call("15 --name job.dat"));
     let first = fcb(&call(&format!("21 {first} --buffer 31")));
     let wrote = call(&format!("21 {second}"));
@@ -669,17 +670,19 @@ fn a_state_that_is_none_and_one_with_a_wrong_map() {
     folder.done("call --state state disk.img 13");
     let state = String::from_utf8(folder.read("state")).unwrap();
     let long = state.replace("\nfcb", &format!("\n{}fcb", " ".repeat(5_000)));
-    let texts: [&[u8]; 5] = [
+    let without_the_protection = state.replace(" 0\nfcb", "\nfcb");
+    let texts: [&[u8]; 6] = [
         b"",
         b"notes of mine\n",
         b"\xFF\xFE",
         &state.as_bytes()[..state.len() - 9],
         long.as_bytes(),
+        without_the_protection.as_bytes(),
     ];
     for text in texts {
         folder.write("none", text);
         for line in [
-            "call --state none disk.img 22 --name new",
+            "call --lift --state none disk.img 22 --name new",
             "call -n --state none disk.img 13",
             "check --state none disk.img",
             "map --state none disk.img",
@@ -724,10 +727,10 @@ fn a_state_that_is_none_and_one_with_a_wrong_map() {
 fn calls_without_a_state() {
     let folder = with_files();
     let image = folder.read("disk.img");
-    let made = folder.done("call -n disk.img 22 --name x");
+    let made = folder.done("call --lift -n disk.img 22 --name x");
     assert!(made.contains("entry 4, byte 7424 of the image"), "{made}");
     assert_eq!(folder.read("disk.img"), image, "-n saves nothing");
-    folder.done("call disk.img 22 --name x");
+    folder.done("call --lift disk.img 22 --name x");
     assert_ne!(folder.read("disk.img"), image);
     assert!(folder
         .refused("call disk.img 99")
@@ -805,7 +808,7 @@ fn nobody_listening_changes_no_verdict() {
         assert!(same, "{line}");
     }
     // The image is saved first, and what was done is done.
-    let unheard = folder.run_unheard("call disk.img 22 --name new");
+    let unheard = folder.run_unheard("call --lift disk.img 22 --name new");
     assert_eq!(unheard.status, Some(0));
     assert!(folder.done("ls disk.img").contains("  NEW "));
 }

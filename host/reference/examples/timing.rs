@@ -3,7 +3,7 @@
 //! Every call checks the whole directory and map first; call 46 does little
 //! else, so its column is about what that check costs.
 
-use reference::{call, diskette, Answer, Asked, Session};
+use reference::{call, diskette, lift, Answer, Asked, Session};
 use std::hint::black_box;
 use std::time::{Duration, Instant};
 
@@ -29,7 +29,7 @@ impl Disk {
             map: vec![0; diskette::BLOCKS],
             fcb: vec![0; 36],
             buffer: vec![0; 128],
-            session: Session::default(),
+            session: lift(Session::default()),
         };
         let mut next = 2..2 + blocks as u8;
         for entry in 0..entries {

@@ -133,6 +133,13 @@ pub struct Stamper {
 }
 
 impl Stamper {
+    /// Stamps nothing.
+    pub const NONE: Self = Self {
+        dated: false,
+        asks: 0,
+        now: NEVER,
+    };
+
     /// For the call that is asked for: the time is "stored as given".
     pub fn new(aside: &Aside, asked: Asked) -> Self {
         let [low, high] = asked.day.to_le_bytes();

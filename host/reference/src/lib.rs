@@ -1,10 +1,11 @@
 //! The file calls of CP/M Plus over one lent image of the 8-inch
 //! single-density diskette.
 //!
-//! [`call`] is the whole library: it takes the call's number and argument, the
-//! four lent buffers and the session, and answers with A, H and the session.
-//! Buffers of any length with any bytes are legal; what can't be served is
-//! refused with the table's code and changes nothing.
+//! [`call`] takes the call's number and argument, the four lent buffers and the
+//! session, and answers with A, H and the session. Buffers of any length with
+//! any bytes are legal; what can't be served is refused with the table's code
+//! and changes nothing. [`lift`] and [`protect`] lift and set the session's
+//! write protection, and that is the whole library.
 //!
 //! The modules follow the headings of the rules they implement:
 //!
@@ -69,6 +70,9 @@ pub struct Session {
     pub place: u16,
     /// Whether a search is on: 0 is off, anything else is on.
     pub on: u8,
+    /// Whether the write protection is lifted: 0 is protected, anything else is
+    /// lifted.
+    pub lifted: u8,
 }
 
 /// What a call answers with.
@@ -91,6 +95,27 @@ impl Session {
             on: 0,
             ..self
         }
+    }
+
+    /// "Until the caller lifts it".
+    const fn is_protected(&self) -> bool {
+        self.lifted == 0
+    }
+}
+
+/// Lifts the write protection. It "changes nothing else", a search included.
+pub const fn lift(session: Session) -> Session {
+    Session {
+        lifted: 1,
+        ..session
+    }
+}
+
+/// Sets the write protection, and changes nothing else either.
+pub const fn protect(session: Session) -> Session {
+    Session {
+        lifted: 0,
+        ..session
     }
 }
 
@@ -136,7 +161,12 @@ fn attempt(
     let lent = LentMut::new(image, map, fcb, buffer)?;
     let mut directory = Directory::unread();
     let plan = decide(call, asked, lent.view(), &session, &mut directory)?;
-    let stamper = Stamper::new(directory.aside(), asked);
+    let stamper = match session.is_protected() {
+        // "An open on a protected session stamps no date", and what else is
+        // accepted there changes no entry.
+        true => Stamper::NONE,
+        false => Stamper::new(directory.aside(), asked),
+    };
     Ok(carry_out(plan, lent, &directory, stamper, session))
 }
 

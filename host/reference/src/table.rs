@@ -69,6 +69,25 @@ causes! {
     /// The map is not right.
     MapWrong => 255, 1;
 
+    /// The session is protected.
+    Protected16 => 255, 2;
+    /// The session is protected.
+    Protected19 => 255, 2;
+    /// The session is protected, and the move of a read that nothing else
+    /// refuses would change an entry.
+    Protected20 => 255, 2;
+    /// The session is protected.
+    Protected21 => 255, 2;
+    /// The session is protected.
+    Protected22 => 255, 2;
+    /// The session is protected.
+    Protected23 => 255, 2;
+    /// The session is protected, and the move of a read that nothing else
+    /// refuses would change an entry.
+    Protected33 => 255, 2;
+    /// The session is protected.
+    Protected34 => 255, 2;
+
     /// The random record is over 262,143.
     TooFar33 => 6, 0;
     /// The random record is over 262,143.
@@ -209,6 +228,7 @@ pub fn decide(
     check_session_and_drive(call, lent, session)?;
     check_time(asked)?;
     check_disk(call, lent, directory)?;
+    check_protection(call, session)?;
     let state = State {
         lent,
         session,
@@ -268,6 +288,25 @@ fn check_disk(call: Call, lent: Lent, directory: &mut Directory) -> Result<(), C
         Err(Cause::MapWrong)
     } else {
         Ok(())
+    }
+}
+
+/// Row 255, 2, "tested right after 255, 1", but for what reads ask: theirs is
+/// the row of a call "that would else succeed", so it is told once all the
+/// others have passed.
+fn check_protection(call: Call, session: &Session) -> Result<(), Cause> {
+    let cause = match call {
+        Call::Close => Cause::Protected16,
+        Call::Delete => Cause::Protected19,
+        Call::WriteNext => Cause::Protected21,
+        Call::Make => Cause::Protected22,
+        Call::Rename => Cause::Protected23,
+        Call::WriteRandom => Cause::Protected34,
+        _ => return Ok(()),
+    };
+    match session.is_protected() {
+        true => Err(cause),
+        false => Ok(()),
     }
 }
 
@@ -395,6 +434,7 @@ impl State<'_> {
         let going = self.go(target).ok_or(Cause::NoExtent20)?;
         let causes = (Cause::PastCount20, Cause::NoBlock20);
         self.check_there(present, going, target, causes)?;
+        self.check_move(present, going, Cause::Protected20)?;
         Ok(Plan::Read(Transfer {
             present,
             going,
@@ -427,6 +467,7 @@ impl State<'_> {
         let going = self.go(target).ok_or(Cause::NoExtent33)?;
         let causes = (Cause::PastCount33, Cause::NoBlock33);
         self.check_there(present, going, target, causes)?;
+        self.check_move(present, going, Cause::Protected33)?;
         Ok(Plan::Read(Transfer {
             present,
             going,
@@ -606,6 +647,26 @@ impl State<'_> {
         }
     }
 
+    /// "A read that would else succeed by a move that changes an entry" is
+    /// refused on a protected session.
+    fn check_move(self, present: usize, going: Going, cause: Cause) -> Result<(), Cause> {
+        let stays = matches!(going, Going::Stay);
+        match self.session.is_protected() && !stays && self.close_changes(present) {
+            true => Err(cause),
+            false => Ok(()),
+        }
+    }
+
+    /// Whether a close would change the FCB's entry: a slot where the entry has
+    /// 0 and the FCB doesn't, or a larger count.
+    fn close_changes(self, present: usize) -> bool {
+        let recorded = row(self.lent.image, present);
+        let slots = recorded[entry_at::SLOTS..].iter();
+        let mut slots = slots.zip(fcb::slots(self.lent.fcb));
+        count(self.lent.fcb[entry_at::RC]) > count(recorded[entry_at::RC])
+            || slots.any(|(&slot, block)| slot == 0 && block != 0)
+    }
+
     /// "A slot of 0 takes the first free block": that block where one is
     /// wanted, and nothing where the slot has its block.
     fn block_wanted(self, going: Going, target: Target, cause: Cause) -> Result<Option<u8>, Cause> {
@@ -639,6 +700,7 @@ mod tests {
             (9, 0),
             (255, 0),
             (255, 1),
+            (255, 2),
             (255, 3),
             (255, 4),
             (255, 8),

@@ -93,6 +93,7 @@ fn call_18_uses_the_pattern_whatever_it_holds() {
         pattern: [0x3F; 12],
         place: 5,
         on: 0x80,
+        lifted: 0,
     };
     assert_eq!(desk.ask(18, &mut [0; 36]), (1, 0));
     assert_eq!((desk.session.place, desk.session.on), (6, 1));
@@ -104,6 +105,7 @@ fn call_18_uses_the_pattern_whatever_it_holds() {
         pattern: [0x3F; 12],
         place: 0,
         on: 1,
+        lifted: 0,
     };
     desk.session.pattern[11] = 0xBF;
     desk.refuses(18, &[0; 36], Cause::NoMore18);

@@ -269,6 +269,7 @@ fn noise_is_answered() {
         desk.session.user = dice.below(17) as u8;
         desk.session.place = dice.below(70) as u16;
         desk.session.on = dice.below(2) as u8;
+        desk.session.lifted = [0, 1, 2, 255][dice.below(4) as usize];
         for byte in &mut desk.session.pattern {
             *byte = dice.byte();
         }

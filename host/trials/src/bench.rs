@@ -20,7 +20,10 @@ pub trait Side {
     where
         Self: Sized;
 
-    /// A session with a search on.
+    /// A session whose write protection is lifted.
+    fn lift(session: Self::Session) -> Self::Session;
+
+    /// The same with a search on.
     fn searching(pattern: [u8; 12]) -> Self::Session;
 }
 
@@ -54,12 +57,16 @@ macro_rules! side {
                 (answer.a, answer.h)
             }
 
+            fn lift(session: $of::Session) -> $of::Session {
+                $of::lift(session)
+            }
+
             fn searching(pattern: [u8; 12]) -> $of::Session {
-                $of::Session {
+                $of::lift($of::Session {
                     pattern,
                     on: 1,
                     ..Default::default()
-                }
+                })
             }
         }
     };
@@ -140,15 +147,15 @@ fn measured<S: Side>(desk: &mut Desk<S>, number: u8, argument: u8) -> (u8, u8) {
 }
 
 impl<S: Side> Desk<S> {
-    /// A disk of some fullness. The job's file is the last of the files in the
-    /// directory, and open.
+    /// A disk of some fullness, its write protection lifted. The job's file is
+    /// the last of the files in the directory, and open.
     pub fn new(fullness: Fullness) -> Self {
         let mut desk = Desk {
             image: vec![0xE5; 256_256],
             map: vec![0; 243],
             fcb: [0; 36],
             buffer: [0; 128],
-            session: S::Session::default(),
+            session: S::lift(S::Session::default()),
             side: PhantomData,
         };
         if fullness == Fullness::Dated {

@@ -19,7 +19,7 @@ fn beside_reference(seed: u64, right: &mut dyn Implementation, counts: &mut Coun
 fn library_beside_reference() {
     let mut counts = Counts::default();
     for seed in SEEDS {
-        beside_reference(seed, &mut { trials::library }, &mut counts);
+        beside_reference(seed, &mut trials::Proved, &mut counts);
     }
     println!("{counts}");
     assert!(counts.calls >= SEEDS.len() * CALLS);
@@ -32,7 +32,7 @@ fn library_beside_reference() {
 #[test]
 fn library_at_another_time_on_undated_disks() {
     let mut counts = Counts::default();
-    let mut library = trials::library;
+    let mut library = trials::Proved;
     beside_reference(4, &mut at_another_time(&mut library), &mut counts);
     assert!(counts.calls >= CALLS);
 }

@@ -7,11 +7,31 @@ use std::fmt::Write;
 
 type Call = fn(Asked, &mut [u8], &mut [u16], &mut [u8], &mut [u8], Session) -> Answer;
 
+/// One of the two: its call, and what lifts and sets the write protection.
+#[derive(Clone, Copy)]
+struct Side {
+    call: Call,
+    lift: fn(Session) -> Session,
+    protect: fn(Session) -> Session,
+}
+
+const LIBRARY: Side = Side {
+    call: trials::call,
+    lift: trials::lift,
+    protect: trials::protect,
+};
+
+const REFERENCE: Side = Side {
+    call: reference::call,
+    lift: reference::lift,
+    protect: reference::protect,
+};
+
 type Fcb = [u8; 36];
 
 /// A disk with all that goes with it, and what is told of it.
 struct Stage {
-    call: Call,
+    side: Side,
     image: Vec<u8>,
     map: Vec<u16>,
     buffer: Vec<u8>,
@@ -22,10 +42,10 @@ struct Stage {
 }
 
 impl Stage {
-    /// An erased disk, logged in.
-    fn erased(call: Call) -> Stage {
+    /// An erased disk, logged in, its write protection lifted.
+    fn erased(side: Side) -> Stage {
         let mut stage = Stage {
-            call,
+            side,
             image: vec![0xE5; 256_256],
             map: vec![0; 243],
             buffer: vec![0; 128],
@@ -34,7 +54,28 @@ impl Stage {
             told: String::new(),
         };
         stage.ask(13, "log in", &mut [0; 36]);
+        stage.session = (side.lift)(stage.session);
         stage
+    }
+
+    /// Lifts the write protection, and tells it.
+    fn lift(&mut self) {
+        self.session = (self.side.lift)(self.session);
+        self.tell_protection("lift");
+    }
+
+    /// Sets the write protection, and tells it.
+    fn protect(&mut self) {
+        self.session = (self.side.protect)(self.session);
+        self.tell_protection("protect");
+    }
+
+    fn tell_protection(&mut self, what: &str) {
+        let Session {
+            place, on, lifted, ..
+        } = self.session;
+        let line = format!("   {what}: lifted {lifted}; search {on}, place {place}");
+        self.say(&line);
     }
 
     /// Makes a call that is not told.
@@ -49,7 +90,7 @@ impl Stage {
         };
         let before = (self.image.clone(), self.map.clone(), self.buffer.clone());
         let (fcb_before, session) = (*fcb, self.session);
-        let Answer { a, h, session } = (self.call)(
+        let Answer { a, h, session } = (self.side.call)(
             asked,
             &mut self.image,
             &mut self.map,
@@ -191,8 +232,8 @@ fn fcb(name: &str) -> Fcb {
 
 /// Runs a scenario on both and compares it with what is kept.
 fn compare(scenario: fn(Stage) -> String, kept: &str) {
-    let library = scenario(Stage::erased(trials::library));
-    let reference = scenario(Stage::erased(reference::call));
+    let library = scenario(Stage::erased(LIBRARY));
+    let reference = scenario(Stage::erased(REFERENCE));
     assert_eq!(library, reference, "the two do not tell the same");
     assert!(library == kept, "not what is kept:\n{library}");
 }
@@ -599,4 +640,115 @@ fn bad_disks(stage: &mut Stage) {
         assert_eq!(stage.ask(15, "open F1", &mut fcb("F1")), (255, 1));
         stage.image[at] = kept;
     }
+}
+
+/// The write protection: what it refuses, what it lets through, and that it is
+/// a field by itself.
+#[test]
+fn write_protection() {
+    compare(
+        |mut stage| {
+            stage.make_dated(0x60);
+            stage.at(17_851, 0x06, 0x00);
+            stage.ask(13, "log in", &mut [0; 36]);
+            let mut file = fcb("WORDS.DAT");
+            stage.ask(22, "make WORDS.DAT", &mut file);
+            stage.buffer.fill(1);
+            stage.repeat(129, 21, "write", &mut file);
+            stage.ask(16, "close", &mut file);
+            stage.protect();
+            refused_while_protected(&mut stage);
+            read_while_protected(&mut stage);
+            pending_while_protected(&mut stage);
+            searched_across(&mut stage);
+            stage.end()
+        },
+        include_str!("expected/write-protection.txt"),
+    );
+}
+
+/// Six calls are 255, 2 whatever they would do, but not before 255, 4 and
+/// 255, 1.
+fn refused_while_protected(stage: &mut Stage) {
+    for (number, what) in [
+        (16, "close"),
+        (19, "delete"),
+        (21, "write"),
+        (22, "make"),
+        (23, "rename"),
+        (34, "random write"),
+    ] {
+        let mut file = fcb("WORDS.DAT");
+        assert_eq!(stage.ask(number, what, &mut file), (255, 2));
+        file[0] = 2;
+        let refused = stage.ask(number, "with byte 0 of the FCB 2", &mut file);
+        assert_eq!(refused, (255, 4));
+        let note = std::mem::replace(&mut stage.map[2], 0);
+        let refused = stage.ask(number, "with a wrong map", &mut fcb("NONE"));
+        assert_eq!(refused, (255, 1));
+        stage.map[2] = note;
+    }
+}
+
+/// An open stamps nothing, and reads move where nothing is to be closed.
+fn read_while_protected(stage: &mut Stage) {
+    let stamps = [ZERO, [0xBB, 0x45, 0x06, 0x00]];
+    let mut file = fcb("WORDS.DAT");
+    stage.at(17_852, 0x12, 0x00);
+    assert_eq!(stage.ask(15, "open, protected", &mut file), (1, 0));
+    stage.stamps_are(1, stamps);
+    file[32] = 127;
+    stage.ask(20, "read record 127", &mut file);
+    assert_eq!(
+        stage.ask(20, "read record 128, by a move", &mut file),
+        (0, 0)
+    );
+    file[33..].copy_from_slice(&[5, 0, 0]);
+    let moved = stage.ask(33, "random read of record 5, by a move", &mut file);
+    assert_eq!(moved, (0, 0));
+    stage.lift();
+    stage.ask(15, "open, lifted", &mut file);
+    stage.stamps_are(1, [[0xBC, 0x45, 0x12, 0x00], stamps[1]]);
+}
+
+/// A block that is pending: a read that stays is no matter, one that moves would
+/// record it, and one that fails anyway says why. 98 frees it.
+fn pending_while_protected(stage: &mut Stage) {
+    let mut file = fcb("WORDS.DAT");
+    file[12] = 1;
+    stage.ask(15, "open extent 1", &mut file);
+    file[33..].copy_from_slice(&[136, 0, 0]);
+    stage.ask(34, "random write of record 136", &mut file);
+    stage.protect();
+    stage.ask(33, "random read of record 136, which stays", &mut file);
+    for (record, due) in [(5, (255, 2)), (255, (1, 0))] {
+        file[33..].copy_from_slice(&[record, 0, 0]);
+        let what = format!("random read of record {record}");
+        assert_eq!(stage.ask(33, &what, &mut file), due);
+    }
+    file[34] = 1;
+    let refused = stage.ask(33, "random read of record 511", &mut file);
+    assert_eq!(refused, (4, 0));
+    stage.space();
+    stage.ask(98, "free blocks", &mut [0; 36]);
+    stage.space();
+}
+
+/// A search goes on over both, and every byte but 0 is lifted and stays.
+fn searched_across(stage: &mut Stage) {
+    let mut pattern = [0x3F; 36];
+    pattern[0] = 0;
+    stage.ask(17, "search for anything", &mut pattern);
+    stage.lift();
+    stage.protect();
+    stage.ask(18, "search for anything", &mut pattern);
+    for byte in [2, 255] {
+        stage.session.lifted = byte;
+        stage.say(&format!("   the byte becomes {byte}"));
+        stage.ask(22, "make WORDS.DAT", &mut fcb("WORDS.DAT"));
+        stage.ask(15, "open", &mut fcb("WORDS.DAT"));
+        assert_eq!(stage.session.lifted, byte);
+    }
+    stage.lift();
+    assert_eq!(stage.session.lifted, 1);
 }

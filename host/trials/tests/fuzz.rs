@@ -3,7 +3,7 @@
 use generator::{Failure, Sequence};
 use reference::{Answer, Asked, Session};
 use trials::fuzz::{again, keep, search};
-use trials::library;
+use trials::Proved;
 
 /// The library, with a fault of its own: its 46 forgets the last block.
 fn faulty(
@@ -15,7 +15,7 @@ fn faulty(
     session: Session,
 ) -> Answer {
     let last = map.last().copied();
-    let answer = library(asked, image, map, fcb, buffer, session);
+    let answer = trials::call(asked, image, map, fcb, buffer, session);
     if asked.number == 46 && answer.a == 0 && last == Some(0) {
         buffer[0] = buffer[0].wrapping_sub(8);
     }
@@ -46,7 +46,7 @@ fn a_failing_sequence_fails_again_from_its_file() {
         assert!(said.trim_end().ends_with(failure.difference.trim_end()));
         // Mended, it shows no difference any more.
         let mut out = Vec::new();
-        let same = again(&sequence, &mut reference::call, &mut { library }, &mut out).unwrap();
+        let same = again(&sequence, &mut reference::call, &mut Proved, &mut out).unwrap();
         assert_eq!(same, Ok(()));
         assert!(String::from_utf8(out).unwrap().ends_with("no difference\n"));
     }

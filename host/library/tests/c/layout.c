@@ -19,6 +19,7 @@ int main(void) {
     PLACE(benzo_session, pattern);
     PLACE(benzo_session, place);
     PLACE(benzo_session, on);
+    PLACE(benzo_session, lifted);
     SIZE(benzo_answer);
     PLACE(benzo_answer, a);
     PLACE(benzo_answer, h);

@@ -19,12 +19,16 @@ use std::path::Path;
 pub const VERB: Verb = Verb {
     name: "call",
     purpose: "Make one call by its number; show its code, and what changed.",
-    usage: "[-u USER] [--time TIME] [-a ARGUMENT] [--name NAME] [--buffer HEX] [--state FILE] [-n] IMAGE NUMBER [FCB]",
+    usage: "[-u USER] [--time TIME] [-a ARGUMENT] [--name NAME] [--buffer HEX] [--state FILE] [--lift | --protect] [-n] IMAGE NUMBER [FCB]",
     help: "\
 FCB is up to 36 bytes in hexadecimal, the rest being 0. Without --state the call
 is made on a disk that has just been logged in, with a session that begins at
 zero, and what it leaves in the map, the FCB, the buffer and the session is gone
 afterwards: a file that was written can't be closed by another `call`.
+
+A session that begins at zero is write-protected: 16, 19, 21, 22, 23 and 34, and
+a read that would change the disk, are refused with 255, 2. --lift lifts the
+protection before the call. With --state it stays lifted, until --protect.
 
 The library is lent the image as it stands in its file; sectors that the file
 lacks at its end are E5H. Stamps of E5H throughout, as cpmtools leaves them, are
@@ -39,11 +43,13 @@ read them as zeros, and those that save the image save them so.
   --buffer HEX     up to 128 bytes for the buffer, the rest being 0
   --state FILE     take map, session, FCB and buffer from FILE, where it is
                    there, and keep them in it
+  --lift           lift the session's write protection, then make the call
+  --protect        set the session's write protection, then make the call
   -n               do not save the image or the state
 
 The image is saved if the call changed it.",
     shape: Shape {
-        flags: &["-n"],
+        flags: &["-n", "--lift", "--protect"],
         valued: &["-a", "--argument", "--name", "--buffer", "--state"],
     },
     run,
@@ -62,6 +68,7 @@ fn run(mut words: Words, desk: &mut Desk) -> Result<(), Trouble> {
         _ => None,
     };
     let mut moment = begin(&image, &words, kept)?;
+    set_protection(&mut moment.disk, &words, desk)?;
     match (given, words.value("--name")) {
         (Some(_), Some(_)) => return Err(Trouble::usage("an FCB and --name do not go together")),
         (Some(given), None) => moment.fcb = fcb(&given)?,
@@ -80,6 +87,17 @@ fn run(mut words: Words, desk: &mut Desk) -> Result<(), Trouble> {
         image.save(&held, &moment.disk, beside, desk)?;
     }
     show(number, answered, [&before, &moment], desk)
+}
+
+/// Lifts or sets the write protection, where an option says so.
+fn set_protection(disk: &mut Disk, words: &Words, desk: &mut Desk) -> Result<(), Trouble> {
+    match (words.has("--lift"), words.has("--protect")) {
+        (true, true) => return Err(Trouble::usage("--lift and --protect do not go together")),
+        (true, false) => desk.lift(disk),
+        (false, true) => disk.protect(),
+        (false, false) => {}
+    }
+    Ok(())
 }
 
 /// Prints what a call answered, and what it changed.
@@ -101,7 +119,14 @@ fn show(
         false => writeln!(desk.out, "{}", changes.join("\n"))?,
     }
     writeln!(desk.out, "FCB {}", hex::written(after.fcb.bytes()))?;
-    answered.doing(format!("call {what}")).map(|_| ())
+    match answered {
+        Err(Code::Protected) => {
+            let code = Code::Protected;
+            let hint = format!("call {what}: {a}, {h}: {code} --lift lifts the protection.");
+            Err(Trouble::failed(hint))
+        }
+        answered => answered.doing(format!("call {what}")).map(|_| ()),
+    }
 }
 
 /// What the call is made on.

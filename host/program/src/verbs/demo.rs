@@ -16,7 +16,8 @@ pub const VERB: Verb = Verb {
     purpose: "Show a stamped file, and the double job: one file through two FCBs.",
     usage: "[-u USER] [--colour WHEN]",
     help: "\
-Both are shown on empty disks, in memory alone. The stamped file's disk has date
+Both are shown on empty disks, in memory alone, whose write protection is lifted
+where it says so. The stamped file's disk has date
 entries, and a label that asks for create and update stamps; each step shows its
 call, the time that it is handed, the code, and the file's stamps afterwards, as
 call 17 gives them. These times are always the same, whatever --time says.
@@ -200,6 +201,16 @@ fn handed_in(time: &str) -> Result<Time, Trouble> {
         .map_err(|bad: BadTime| Trouble::failed(bad.to_string()))
 }
 
+/// Lifts the write protection that every disk begins with, and says so.
+fn lift(disk: &mut Disk, desk: &mut Desk) -> Result<(), Trouble> {
+    desk.lift(disk);
+    writeln!(
+        desk.out,
+        "    The write protection is lifted: from here on calls may change the disk.\n"
+    )?;
+    Ok(())
+}
+
 fn stamped_file(user: u8, desk: &mut Desk) -> Result<(), Trouble> {
     let name: Name = super::named("DATED.DAT".as_ref())?;
     let mut disk = dated_disk(user)?;
@@ -208,6 +219,7 @@ fn stamped_file(user: u8, desk: &mut Desk) -> Result<(), Trouble> {
         desk.out,
         "A stamped file: a disk with date entries, whose label asks for create and update.\n"
     )?;
+    lift(&mut disk, desk)?;
     for (step, letter) in STAMPINGS.iter().zip('a'..) {
         disk.set_time(handed_in(step.at)?);
         let a = disk.call(step.call, &mut fcb).doing(step.call)?;
@@ -237,6 +249,9 @@ fn double_job(user: u8, colours: bool, desk: &mut Desk) -> Result<(), Trouble> {
         "The double job: one file, written through two FCBs.\n"
     )?;
     for (number, step) in STEPS.iter().enumerate() {
+        if disk.is_protected() && step.call == Call::Make {
+            lift(&mut disk, desk)?;
+        }
         let (fcb, with) = match step.fcb {
             Which::None => (&mut Fcb::ZERO.clone(), ""),
             Which::First => (&mut first, ", first FCB"),
@@ -247,10 +262,9 @@ fn double_job(user: u8, colours: bool, desk: &mut Desk) -> Result<(), Trouble> {
         let answered = disk.call(step.call, fcb);
         let (a, h) = answered.map_or_else(Code::numbers, |a| (a, 0));
         let number = number + 1;
-        write!(desk.out, "{number:>2}. call {}{with}: {a}, {h}", step.call)?;
-        if let Err(code) = answered {
-            write!(desk.out, ": {code}")?;
-        }
+        let why = answered.map_or_else(|code| format!(": {code}"), |_| String::new());
+        let call = step.call;
+        write!(desk.out, "{number:>2}. call {call}{with}: {a}, {h}{why}")?;
         let told = [disk.buffer[0], disk.buffer[1], disk.buffer[2], 0];
         let told = step.free.map(|due| (u32::from_le_bytes(told), due));
         if let Some((free, _)) = told {

@@ -64,6 +64,10 @@ fn run(mut words: Words, desk: &mut Desk) -> Result<(), Trouble> {
     for path in found.iter().filter_map(|file| target.path_of(file)) {
         may_be_written(&path, replace, held.as_ref())?;
     }
+    // Without --stamp the disk stays write-protected: reading leaves no stamp.
+    if stamps {
+        desk.lift(&mut disk);
+    }
     // All is read and written before anything takes its place.
     let mut copies = Vec::new();
     for file in &found {

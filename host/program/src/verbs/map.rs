@@ -40,6 +40,8 @@ fn run(mut words: Words, desk: &mut Desk) -> Result<(), Trouble> {
         Some(path) => {
             let state = read_state(path)?;
             let mut disk = Disk::resumed(image.copy(), state.map, state.session);
+            // Whatever the state says: nothing is to change here.
+            disk.protect();
             disk.set_time(time(&words, desk));
             disk
         }

@@ -59,13 +59,15 @@ fn run(mut words: Words, desk: &mut Desk) -> Result<(), Trouble> {
         Err(Code::NothingMatches) => false,
         Err(code) => return Err(code).doing(doing),
     };
-    if there && words.has("-f") {
-        disk.delete(&mut Fcb::named(name)).doing(&doing)?;
-    } else if there {
+    if there && !words.has("-f") {
         let code = Code::EntryExists;
         let (a, h) = code.numbers();
         let hint = format!("{doing}: {a}, {h}: {code} -f replaces it.");
         return Err(Trouble::failed(hint));
+    }
+    desk.lift(&mut disk);
+    if there {
+        disk.delete(&mut Fcb::named(name)).doing(&doing)?;
     }
     files::write(&mut disk, name, &bytes).doing(&doing)?;
     image.save(&held, &disk, None, desk)

@@ -30,6 +30,7 @@ fn run(mut words: Words, desk: &mut Desk) -> Result<(), Trouble> {
         .map(|word| named(word))
         .collect::<Result<_, _>>()?;
     let mut disk = logged_in(&image, &words, desk)?;
+    desk.lift(&mut disk);
     for pattern in patterns {
         let deleted = disk.delete(&mut Fcb::matching(pattern));
         deleted.doing(format!("{}: {pattern}", image.name()))?;

@@ -2,7 +2,7 @@
 
 #![allow(dead_code)]
 
-use reference::{call, diskette, refusal, Answer, Asked, Cause, Session};
+use reference::{call, diskette, lift, protect, refusal, Answer, Asked, Cause, Session};
 
 /// An FCB as a program holds it.
 pub type Fcb = [u8; 36];
@@ -24,13 +24,14 @@ pub struct Desk {
 }
 
 impl Desk {
-    /// An empty disk, logged in. The data area is not all the same byte.
+    /// An empty disk, logged in, its write protection lifted. The data area is
+    /// not all the same byte.
     pub fn empty() -> Self {
         let mut desk = Desk {
             image: (0..diskette::IMAGE_BYTES).map(|i| i as u8 ^ 0x5A).collect(),
             map: vec![0; diskette::BLOCKS],
             buffer: vec![0; 128],
-            session: Session::default(),
+            session: lift(Session::default()),
             time: (17_849, 0x23, 0x59),
         };
         for entry in 0..64 {
@@ -48,6 +49,16 @@ impl Desk {
         }
         desk.log_in();
         desk
+    }
+
+    /// Sets the write protection.
+    pub fn protect(&mut self) {
+        self.session = protect(self.session);
+    }
+
+    /// Lifts it.
+    pub fn lift(&mut self) {
+        self.session = lift(self.session);
     }
 
     pub fn log_in(&mut self) {
@@ -88,8 +99,9 @@ impl Desk {
     }
 
     /// Makes a call and gives A and H. What holds for every call is checked:
-    /// `refusal` foretells it, a refusal changes nothing, and an accepted call
-    /// leaves a sound disk.
+    /// `refusal` foretells it, a refusal changes nothing, an accepted call
+    /// leaves a sound disk, and none touches the write protection or gets past
+    /// it.
     pub fn ask_with(&mut self, number: u8, argument: u8, fcb: &mut Fcb) -> (u8, u8) {
         let asked = self.asked(number, argument);
         let cause = self.cause(asked, fcb);
@@ -103,6 +115,7 @@ impl Desk {
             self.session,
         );
         self.session = session;
+        self.check_protection(number, &before);
         match cause {
             Some(cause) => {
                 assert_eq!((a, h), cause.code());
@@ -126,6 +139,17 @@ impl Desk {
             }
         }
         (a, h)
+    }
+
+    /// No call touches the write protection, and on a protected session none
+    /// changes the image, or the map but 13 and 98.
+    fn check_protection(&self, number: u8, before: &Desk) {
+        assert_eq!(self.session.lifted, before.session.lifted, "call {number}");
+        if before.session.lifted == 0 {
+            let makes_a_map = matches!(number, 13 | 98);
+            assert!(self.image == before.image, "call {number}");
+            assert!(makes_a_map || self.map == before.map, "call {number}");
+        }
     }
 
     /// Why this call would be refused.

@@ -9,7 +9,7 @@ use std::io::{self, Write};
 use std::path::PathBuf;
 use std::process::ExitCode;
 use trials::fuzz::{again, keep, new_seed, search};
-use trials::library;
+use trials::Proved;
 
 /// What the words ask for.
 struct Wanted {
@@ -68,7 +68,7 @@ fn wanted(mut words: impl Iterator<Item = String>) -> Result<Wanted, String> {
 
 /// Whether no difference was found.
 fn searched(wanted: &Wanted, out: &mut dyn Write) -> io::Result<bool> {
-    let (mut left, mut right) = (reference::call, library);
+    let (mut left, mut right) = (reference::call, Proved);
     match search(wanted.seed, wanted.calls, &mut left, &mut right, out)? {
         Ok(counts) => {
             // The table says how often things come up in 300,000 calls.
@@ -94,6 +94,6 @@ fn searched(wanted: &Wanted, out: &mut dyn Write) -> io::Result<bool> {
 fn replayed(file: &PathBuf, out: &mut dyn Write) -> io::Result<bool> {
     let text = std::fs::read_to_string(file)?;
     let sequence = text.parse().map_err(io::Error::other)?;
-    let (mut left, mut right) = (reference::call, library);
+    let (mut left, mut right) = (reference::call, Proved);
     Ok(again(&sequence, &mut left, &mut right, out)?.is_ok())
 }
