@@ -10,7 +10,7 @@ ghost use Rattle.model.specs.Step.{step};
 ghost use Rattle.dates.specs.Label.{Labelled};
 ghost use Rattle.chains.specs.Chain.{Indexed};
 ghost use Rattle.table.specs.Facts.{Ready};
-ghost use Rattle.table.specs.Protection.{writers};
+ghost use Rattle.model.specs.Table.{writers};
 use model::Answer;
 use model::Asked;
 use model::Code;

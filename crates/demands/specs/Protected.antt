@@ -23,11 +23,11 @@ use Rattle.model.specs.Target.{plan, moved, haveRead}
 use Rattle.model.specs.Calls.{loggedIn, freed, userSet, foundAt, searched, readAt, reading, read}
 use Rattle.model.specs.Stamps.{Stamp, accessStamps, closeStamps, moveStamps, stampsBy, stampedOutcome, whereDated}
 use Rattle.model.specs.Step.{settled, does, step}
-use Rattle.model.specs.Table.{parametersRight, diskRight, when, firstRow, ownRows, protectionHolds, table, verdict}
+use Rattle.model.specs.Table.{writers, readers, parametersRight, diskRight, when, firstRow, ownRows, protectionHolds, table, verdict}
 use Rattle.fields.specs.Closing.{map-kept}
 use Rattle.table.specs.First.{_&_}
 use Rattle.table.specs.Own.{at-kind, not-unlisted}
-use Rattle.table.specs.Protection.{writers, readers, planChanges, lifted-open, writer-closed, open-unchanged, plan-changes}
+use Rattle.table.specs.Protection.{planChanges, lifted-open, writer-closed, open-unchanged, plan-changes}
 use Rattle.table.specs.Facts.{Reads}
 use Rattle.table.specs.Accept.{reads-of}
 use Rattle.table.specs.Plans.{There, Planned, stay, move, make, planned-read}

@@ -8,7 +8,7 @@ ghost use Rattle.model.specs.Kinds.{kindOf, isCall, oneOf};
 ghost use Rattle.model.specs.declared.Kind.the-variants.{Quiet, Search};
 ghost use Rattle.model.specs.Lent.{lend, outcome, protected};
 ghost use Rattle.table.specs.Facts.{Fits, Ready};
-ghost use Rattle.table.specs.Protection.{writers};
+ghost use Rattle.model.specs.Table.{writers};
 ghost use Rattle.table.specs.OwnStep.{ownStep, readyStep};
 ghost use Rattle.chains.specs.Chain.{Indexed};
 use model::Answer;

@@ -1,7 +1,7 @@
 -- The protection of a record call by its ruling. On a protected session only reads are asked of here: one that is refused is refused as ever, and of
 -- one that has a plan the plan tells whether the protection holds.
-use mathlib.Core.Path.{_≡_, refl, sym, ap, _∙_}
-use mathlib.Core.Bool.{Bool, true, false}
+use mathlib.Core.Path.{_≡_, refl, ap, _∙_}
+use mathlib.Core.Bool.{true, false}
 use Prim.Native.Nat.{ℕ}
 use native.Mathlib.Omega.{arith}
 use Rattle.lists.specs.Cases.{split, bool-cases}
@@ -17,11 +17,10 @@ use Rattle.model.specs.declared.Kind.the-variants.{Read}
 use Rattle.model.specs.Kinds.{kindOf, oneOf}
 use Rattle.model.specs.Lent.{Lent, protected}
 use Rattle.model.specs.Target.{plan}
-use Rattle.model.specs.Table.{firstRow, ownRows, moveChanges, protectionHolds}
+use Rattle.model.specs.Table.{readers, firstRow, ownRows, moveChanges, protectionHolds}
 use Rattle.table.specs.First.{_&_, passed-none, refused-decides}
 use Rattle.table.specs.Own.{calling, at-kind}
-use Rattle.table.specs.Protection.{readers, planChanges, lifted-open, read-closed, none-succeeds, unchanged-open, refused-open, plan-changes}
-use Rattle.rulings.specs.declared.Ruling.{Ruling}
+use Rattle.table.specs.Protection.{planChanges, lifted-open, read-closed, none-succeeds, unchanged-open, refused-open, plan-changes}
 use Rattle.rulings.specs.declared.Ruling.the-variants.{Refuse, Follow}
 use Rattle.rulings.specs.Ruling.{rulingOf, rulingRows, ruling}
 use Rattle.rulings.specs.Own.{rows-20, rows-33}

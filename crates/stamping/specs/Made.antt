@@ -20,10 +20,10 @@ use Rattle.model.specs.Stamps.{Stamp, stampsBy, stampedWith, stampedOutcome}
 use Rattle.model.specs.Step.{stampsMade, step}
 use Rattle.table.specs.First.{NoneHolds, none-passed}
 use Rattle.table.specs.Stamping.{where-dated, where-undated}
-use Rattle.table.specs.Own.{calling}
+use Rattle.table.specs.Own.{calling, readyRows}
 use Rattle.table.specs.Facts.{Ready, AcceptedCall}
 use Rattle.table.specs.Total.{total-accepted}
-use Rattle.table.specs.OwnStep.{readyRows, readyStep, verdict-ready, step-ready}
+use Rattle.table.specs.OwnStep.{readyStep, verdict-ready, step-ready}
 use Rattle.table.specs.Accepted.{acceptedAnswer, carried-says, accepted-carried}
 use Rattle.stamps.specs.declared.Due.{Due}
 use Rattle.stamps.specs.Due.{dueStamps, acceptedStamps}

@@ -108,11 +108,13 @@ unfolding isCall
 not-unlisted n t q = let z : false ≡ true = rw q at t in clash (sym z)
 
 module _ (G : Geometry) (asked : Asked) (l : Lent) (s : Session) where
+  -- the rows behind the first three: the protection's, and the call's own
+  abbrev pub readyRows : List Row
+  readyRows = when (protectionHolds G asked l s) Protected ∷ ownRows G asked l s
+
   -- all rows that apply to a listed call
   abbrev pub rowsFor : List Row
-  rowsFor =
-      when (not (parametersRight G l asked s)) BadParameter ∷ when (not (diskRight G l asked)) BadDisk
-      ∷ when (protectionHolds G asked l s) Protected ∷ ownRows G asked l s
+  rowsFor = when (not (parametersRight G l asked s)) BadParameter ∷ when (not (diskRight G l asked)) BadDisk ∷ readyRows
 
   -- the table decides a listed call as these rows do
   pub verdict-rows : isCall (asked .number) ≡ true → verdict G asked l s ≡ firstRow rowsFor

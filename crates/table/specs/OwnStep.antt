@@ -2,7 +2,6 @@
 -- does; but for the record calls, which ask for the protection themselves, the protection has been asked for before.
 use mathlib.Core.Path.{_≡_, refl, sym, ap, _∙_}
 use mathlib.Core.Bool.{true, false, not}
-use mathlib.Core.List.{List, _∷_}
 use Prim.Native.Nat.{ℕ}
 use Rattle.format.specs.Diskette.{Geometry}
 use Rattle.model.specs.declared.Asked.{Asked}
@@ -15,12 +14,12 @@ use Rattle.model.specs.declared.Code.the-variants.{BadParameter, BadDisk, Prote
 use Rattle.model.specs.declared.Verdict.the-variants.{Refused}
 use Rattle.model.specs.Kinds.{kindOf, isCall}
 use Rattle.model.specs.Lent.{Lent, Outcome, outcome, answerOf}
-use Rattle.model.specs.Table.{parametersRight, diskRight, Row, when, firstRow, ownRows, protectionHolds, verdict}
+use Rattle.model.specs.Table.{parametersRight, diskRight, when, firstRow, ownRows, protectionHolds, verdict}
 use Rattle.model.specs.Calls.{quietly}
 use Rattle.model.specs.Step.{refusedSession, refused, told, pattern, place, settled, does, effect, carriedOut, stampsMade, step}
 use Rattle.model.specs.Stamps.{stampedOutcome}
 use Rattle.table.specs.First.{NoneHolds, Decides, first-passes, none-passed, decides-refused, first-holds}
-use Rattle.table.specs.Own.{calling, verdict-rows}
+use Rattle.table.specs.Own.{calling, readyRows, verdict-rows}
 use Rattle.table.specs.Facts.{Ready}
 use Rattle.table.specs.Reflect.{parameters-right, disk-right}
 
@@ -53,13 +52,9 @@ module _ (G : Geometry) (asked : Asked) (l : Lent) (s : Session) where
   unfolding effect
   quiet-own o k none q = carries-own o none (q ∙ rw k)
 
-  -- ---- the rows behind the first three: the protection's, and the call's own
-  abbrev pub readyRows : List Row
-  readyRows = when (protectionHolds G asked l s) Protected ∷ ownRows G asked l s
-
-  -- refused by one of them, or carried out
+  -- ---- refused by the protection or by one of the call's own rows, or carried out
   unfoldable pub readyStep : Outcome
-  readyStep = carriedOut G asked l s (firstRow readyRows)
+  readyStep = carriedOut G asked l s (firstRow (readyRows G asked l s))
 
   pub ready-held : protectionHolds G asked l s ≡ true → readyStep ≡ refused Protected s l
   unfolding readyStep
@@ -70,7 +65,7 @@ module _ (G : Geometry) (asked : Asked) (l : Lent) (s : Session) where
   ready-own f = ap (carriedOut G asked l s) (first-passes _ _ f)
 
   -- ---- the table decides a call that the first three rows have passed as these do
-  pub verdict-ready : isCall (asked .number) ≡ true → Ready G asked l s → verdict G asked l s ≡ firstRow readyRows
+  pub verdict-ready : isCall (asked .number) ≡ true → Ready G asked l s → verdict G asked l s ≡ firstRow (readyRows G asked l s)
   verdict-ready t r =
       verdict-rows G asked l s t
       ∙ first-passes (when (not (parametersRight G l asked s)) BadParameter) _ (ap not (parameters-right G asked l s (r .fits) (r .time) (r .drive)))
@@ -80,7 +75,7 @@ module _ (G : Geometry) (asked : Asked) (l : Lent) (s : Session) where
   verdict-held t r h = verdict-ready t r ∙ first-holds _ _ h
 
   -- the step of a call is what they leave, stamped
-  pub step-ready : isCall (asked .number) ≡ true → Ready G asked l s → step G asked l s ≡ stampedOutcome G (stampsMade G asked l s (firstRow readyRows)) readyStep
+  pub step-ready : isCall (asked .number) ≡ true → Ready G asked l s → step G asked l s ≡ stampedOutcome G (stampsMade G asked l s (firstRow (readyRows G asked l s))) readyStep
   unfolding step readyStep
   step-ready t r = rw (verdict-ready t r)
 

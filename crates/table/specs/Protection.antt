@@ -22,18 +22,11 @@ use Rattle.model.specs.Kinds.{kindOf, same, ofRecord, oneOf}
 use Rattle.model.specs.Lent.{Lent, rowsOf, protected}
 use Rattle.model.specs.Closing.{closeChanges}
 use Rattle.model.specs.Target.{presentEntry, stays, targetEntry, planTo, planFrom, plan}
-use Rattle.model.specs.Table.{ownRows, isPassed, wouldSucceed, moveChanges, protectionHolds}
+use Rattle.model.specs.Table.{writers, readers, ownRows, isPassed, wouldSucceed, moveChanges, protectionHolds}
 use Rattle.table.specs.First.{_&_, NoneHolds, Decides, passed-none, none-passed, decides-refused}
 use Rattle.table.specs.Own.{at-one, at-kind, same-is, kinds-apart}
 
--- the calls that are refused whatever else they are handed, and the reads
-abbrev pub writers : List ℕ
-writers = 16 ∷ 19 ∷ 21 ∷ 22 ∷ 23 ∷ 34 ∷ []
-
-abbrev pub readers : List ℕ
-readers = 20 ∷ 33 ∷ []
-
--- all of them
+-- all of which it can hold
 abbrev pub heldCalls : List ℕ
 heldCalls = 16 ∷ 19 ∷ 20 ∷ 21 ∷ 22 ∷ 23 ∷ 33 ∷ 34 ∷ []
 

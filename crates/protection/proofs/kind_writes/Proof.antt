@@ -1,5 +1,4 @@
 -- Each arm has the kinds of which its answer is so.
-use mathlib.Core.Path.{_≡_, sym}
 use Rattle.protection.specs.Writing.{writes-by, leaves-by}
 use Rattle.protection.proofs.kind_writes.Statement.{statement}
 use Rattle.protection.proofs.kind_writes.Tie as tie
