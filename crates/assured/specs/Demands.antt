@@ -26,7 +26,7 @@ use Rattle.table.specs.Own.{calling, same-is}
 use Rattle.table.specs.Total.{RefusedBy, CarriedOut, eight-total}
 use Rattle.effects.specs.Where.{Frame}
 use Rattle.effects.specs.Book.{Book, nothingHeld}
-use Rattle.demands.specs.Runs.{Request, Disk, lentTo, outcomeOf, left, accepts, after, Act, shut, run, bookRun}
+use Rattle.demands.specs.Runs.{Request, Disk, lentTo, outcomeOf, left, accepts, after, Act, protectedDisk, run, bookRun}
 use Rattle.demands.specs.NothingLost.{NothingLost}
 use Rattle.demands.specs.StepOk.{MayWrite}
 use Rattle.demands.specs.Stamped.{step-ok}
@@ -123,19 +123,19 @@ logged-in d q n acts e a m o same =
     calls-made refl a m (ap (λ (x : Outcome). x .lent .fcb) same) (ap (λ (x : Outcome). x .lent .buffer) same)
     (subst (λ (x : Disk). NothingLost eightInch x (bookFrom d q acts)) (sym m) (eight-nothing-lost d q n a acts))
 
--- ---- request [12]: a run on a session whose protection is set first. Where the run never lifts it the image is as it was, and where it has neither
--- 13 nor 98 so is the map
+-- ---- request [12]: a run on a session whose protection is set first. Where the run never lifts it the image is as it was, and where it has no
+-- accepted 13 or 98 so is the map
 pub record Untouched (d : Disk) (acts : List Act) (e : Disk) : Type 0 where
-  pub is : e ≡ run eightInch (shut d) acts
+  pub is : e ≡ run eightInch (protectedDisk d) acts
   pub image : NeverLifted acts → e .drive .image ≡ d .drive .image
-  pub map : NeverLifted acts → NeverSettled acts → e .drive .map ≡ d .drive .map
+  pub map : NeverLifted acts → NeverSettled eightInch (protectedDisk d) acts → e .drive .map ≡ d .drive .map
 
-pub untouched : (d : Disk) (acts : List Act) (e : Disk) → e ≡ run eightInch (shut d) acts → Untouched d acts e
+pub untouched : (d : Disk) (acts : List Act) (e : Disk) → e ≡ run eightInch (protectedDisk d) acts → Untouched d acts e
 unfolding protected
 untouched d acts e m = record {
   is = m;
-  image = λ n. ap (λ (x : Disk). x .drive .image) m ∙ eight-protected-image (shut d) refl acts n;
-  map = λ n s. ap (λ (x : Disk). x .drive .map) m ∙ eight-protected-map (shut d) refl acts n s;
+  image = λ n. ap (λ (x : Disk). x .drive .image) m ∙ eight-protected-image (protectedDisk d) refl acts n;
+  map = λ n s. ap (λ (x : Disk). x .drive .map) m ∙ eight-protected-map (protectedDisk d) refl acts n s;
 }
 
 -- ---- demand 2: a call that is no write, or was refused, leaves what it does; after a write that was accepted the run is made, and then

@@ -8,7 +8,7 @@ ghost use Rattle.model.specs.Lent.{lend, outcome};
 ghost use Rattle.model.specs.Step.{step};
 ghost use Rattle.table.specs.Own.{calling};
 ghost use Rattle.targets.specs.Target.{TargetOf};
-ghost use Rattle.script.specs.Script.{request, acts, diskOf};
+ghost use Rattle.script.specs.Script.{request, actsOf, diskOf};
 ghost use Rattle.assured.specs.Demands.{logIn, writesAnswer, targetSet, Told, Framed, LoggedIn, Untouched, ReadsBack};
 use model::Answer;
 use model::Asked;
@@ -69,7 +69,7 @@ pub fn log_in_and_run(
     session: Session,
 ) -> Ran
     ensures { λ r. ⌜ LoggedIn (diskOf (now (image .entry)) (now (map .entry)) session) (logIn asked (now (fcb .entry)) (now (buffer .entry)))
-        (acts (now (script .entry)) (now (fcbs .entry)) (now (buffers .entry)))
+        (actsOf (now (script .entry)) (now (fcbs .entry)) (now (buffers .entry)))
         (r .accepted) (diskOf (now (image .exit)) (now (map .exit)) (r .session)) (now (fcb .exit)) (now (buffer .exit)) ⌝ }
 {
     let mut login = asked;
@@ -84,12 +84,12 @@ pub fn log_in_and_run(
     }
     Ran {
         accepted: true,
-        session: script::run_calls(script, fcbs, buffers, image, map, s),
+        session: script::run_script(script, fcbs, buffers, image, map, s),
     }
 }
 
-// Request [12], of the exports themselves: the protection is set, and then any script is made. Where that never lifts it, no byte of the image
-// changes, and where it has neither 13 nor 98 none of the map.
+// Request [12], of `call` itself: the protection is set, and then any script is made. Where that never lifts it, no byte of the image changes, and
+// where it has no accepted 13 or 98 none of the map.
 pub fn run_protected(
     script: &[usize],
     fcbs: &mut [u8],
@@ -99,10 +99,10 @@ pub fn run_protected(
     session: Session,
 ) -> Session
     ensures { λ r. ⌜ Untouched (diskOf (now (image .entry)) (now (map .entry)) session)
-        (acts (now (script .entry)) (now (fcbs .entry)) (now (buffers .entry))) (diskOf (now (image .exit)) (now (map .exit)) r) ⌝ }
+        (actsOf (now (script .entry)) (now (fcbs .entry)) (now (buffers .entry))) (diskOf (now (image .exit)) (now (map .exit)) r) ⌝ }
 {
-    let shut = benzokamuri::benzo_protect(session);
-    script::run_calls(script, fcbs, buffers, image, map, shut)
+    let protected = benzokamuri::benzo_protect(session);
+    script::run_script(script, fcbs, buffers, image, map, protected)
 }
 
 // The target of a record call; any, where the FCB has another length than 36, with which every call is refused.
@@ -159,7 +159,7 @@ pub fn write_and_read(
     session: Session,
 ) -> ReadBack
     ensures { λ r. ⌜ ReadsBack (diskOf (now (image .entry)) (now (map .entry)) session)
-        (request asked (now (fcb .entry)) (now (written .entry))) (acts (now (script .entry)) (now (fcbs .entry)) (now (buffers .entry)))
+        (request asked (now (fcb .entry)) (now (written .entry))) (actsOf (now (script .entry)) (now (fcbs .entry)) (now (buffers .entry)))
         again (now (back .entry)) r (now (image .exit)) (now (map .exit)) (now (fcb .exit)) (now (written .exit)) (now (back .exit)) ⌝ }
 {
     let target = target_of(asked.number, fcb);
@@ -170,7 +170,7 @@ pub fn write_and_read(
             answer: write,
         };
     }
-    let s = script::run_calls(script, fcbs, buffers, image, map, write.session);
+    let s = script::run_script(script, fcbs, buffers, image, map, write.session);
     ReadBack {
         accepted: true,
         answer: read_again(again, target, image, map, fcb, back, s),

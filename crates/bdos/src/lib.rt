@@ -1,24 +1,24 @@
-// The entry point: one call, from its number to its answer. The rows that come before the calls' own are decided here, in their order, but for the
-// protection of a read, which its own function asks for; then the call goes to that function, and its stamps are put.
+// The entry point: one call, from its number to its answer. The first three rows of the table are decided here, in their order, and then the
+// protection, but for a read's, which its own function asks for; then the call goes to that function, and its stamps are put.
 ghost use mathlib.Core.Path.{_≡_};
-ghost use mathlib.Core.Bool.{true, false};
+ghost use mathlib.Core.Bool.{true};
 ghost use Rattle.format.specs.Diskette.{eightInch};
 ghost use Rattle.format.specs.Entries.{entryAt};
-ghost use Rattle.model.specs.Kinds.{kindOf, isCall, oneOf};
-ghost use Rattle.model.specs.Lent.{lend, outcome, protected};
+ghost use Rattle.model.specs.Kinds.{kindOf, isCall};
+ghost use Rattle.model.specs.Lent.{lend, outcome};
 ghost use Rattle.model.specs.Step.{step};
 ghost use Rattle.dates.specs.Label.{Labelled};
 ghost use Rattle.chains.specs.Chain.{Indexed};
 ghost use Rattle.table.specs.Facts.{Ready};
-ghost use Rattle.model.specs.Table.{writers};
+ghost use Rattle.table.specs.Protection.{Unchanging};
 use model::Answer;
 use model::Asked;
 use model::Code;
 use model::Kind;
 use model::Session;
 
-// A call other than 13 that the first three rows have passed, and the protection one that writes: its own function and, on a disk with date
-// entries, its stamps, which are told from the state as it came and put once the call is done.
+// A call other than 13 that the first three rows have passed; of a protected session, one that does not change the disk. Its own function and, on a
+// disk with date entries, its stamps, which are told from the state as it came and put once the call is done.
 fn passed_call(
     kind: Kind,
     asked: Asked,
@@ -32,7 +32,7 @@ fn passed_call(
 ) -> Answer
     requires { ⌜ (kind ≡ kindOf (asked .number)) × (isCall (asked .number) ≡ true) × (asked .number ≡ 13 → ⊥)
         × Ready eightInch asked (lend (now image) (now map) (now fcb) (now buffer)) session
-        × (protected session ≡ true → oneOf (asked .number) writers ≡ false)
+        × Unchanging session (asked .number)
         × Indexed eightInch (entryAt eightInch (now image)) (now chain)
         × Labelled (entryAt eightInch (now image)) (eightInch .entries) label ⌝ }
     ensures { λ r. ⌜ outcome r (now (image .exit)) (now (map .exit)) (now (fcb .exit)) (now (buffer .exit))
@@ -48,8 +48,8 @@ fn passed_call(
     answer
 }
 
-// A call other than 13 that the first three rows have passed: a protected session refuses those that write, and the others go on. Whether it refuses
-// a read is told where the read is planned.
+// A call other than 13 that the first three rows have passed: a protected session refuses those that change the disk, and the others go on. Whether
+// it refuses a read is told where the read is planned.
 fn ready_call(
     kind: Kind,
     asked: Asked,

@@ -37,11 +37,11 @@ use Rattle.consistency.specs.Reflect.{low-used}
 use Rattle.fields.specs.Target.{extent-within}
 use Rattle.fields.specs.Erased.{ErasedDisk, erased-empty, erased-unused, erased-unlisted}
 use Rattle.table.specs.Own.{calling}
-use Rattle.table.specs.Protection.{lifted-open}
+use Rattle.table.specs.Protection.{lifted-spared}
 use Rattle.table.specs.Facts.{Fits, Writes, Makes}
 use Rattle.table.specs.Accept.{passes, makes-of, makes-right, writes-right}
 use Rattle.table.specs.Present.{stays-within, target-present, numbers-extent}
-use Rattle.table.specs.Total.{InRange, CarriedOut, total-accepted}
+use Rattle.table.specs.Total.{InRange, range-lifted, CarriedOut, total-accepted}
 use Rattle.invariant.specs.Good.{Good, good-consistent, good-right}
 use Rattle.effects.specs.View.{viewOf}
 use Rattle.effects.specs.Cur.{Cur, cur-current}
@@ -51,7 +51,7 @@ use Rattle.demands.specs.Stamped.{stampedAs, stamped-as, cur-on, row-on,
 use Rattle.demands.specs.StillCurrent.{created-cur}
 use Rattle.demands.specs.NothingLost.{booked-login, logged-in}
 use Rattle.demands.specs.Erased.{erased-accepted}
-use Rattle.demands.specs.Runs.{Request, Disk, lentTo, outcomeOf, left, accepts, after, lifted}
+use Rattle.demands.specs.Runs.{Request, Disk, lentTo, outcomeOf, left, accepts, after, liftedDisk}
 
 -- ---- a write that nothing stands against
 module _ {G : Geometry} (S : Sound G) (asked : Asked) (number : asked .number ≡ 21) (l : Lent) (s : Session) (g : Good G (l .drive .image) (l .drive .map)) (fits : Fits G l s)
@@ -92,7 +92,7 @@ module _ {G : Geometry} (S : Sound G) (asked : Asked) (number : asked .number �
       total-accepted G asked l s
       (ap (λ (n : ℕ). verdict G (calling n asked) l s) number ∙ passes G (calling 21 asked) l s refl
       record { fits = fits; time = time; drive = λ u. drive; image-right = good-consistent G (l .drive .image) (l .drive .map) g; map-right = λ q. good-right G (l .drive .image) (l .drive .map) g }
-      (lifted-open G (calling 21 asked) l s unprotected) (writes-right G asked l s writes))
+      (lifted-spared G (calling 21 asked) l s unprotected) (writes-right G asked l s writes))
 
 -- ---- a make, and a write through the FCB that it handed back
 module _ {G : Geometry} (S : Sound G) (d : Disk) (q : Request) (number : q .asked .number ≡ 22) (accepted : accepts G d q ≡ true) (cr : crOf (q .fcb) < 128)
@@ -229,7 +229,7 @@ module _ {G : Geometry} (S : Sound G) (some : 0 < G .entries) where
         image-right = good-consistent G (d .drive .image) (d .drive .map) good;
         map-right = λ z. good-right G (d .drive .image) (d .drive .map) good;
       }
-      (lifted-open G (calling 22 (q .asked)) (lentTo d q) (d .session) unprotected)
+      (lifted-spared G (calling 22 (q .asked)) (lentTo d q) (d .session) unprotected)
       (makes-right G (q .asked) (lentTo d q) (d .session) record {
         name = name;
         ex = ex;
@@ -248,18 +248,17 @@ module _ {G : Geometry} (S : Sound G) (some : 0 < G .entries) where
   -- log in, lift the protection, make a file, write its first record
   pub erased-begins : (d : Disk) → ErasedDisk G (d .drive .image) → length (d .drive .map) ≡ G .blocks → InRange G (d .session)
       → (login make write : Request) → Asks login 13 → Asks make 22 → getD (make .fcb) 0 0 ≤ 1 → nameRight false (make .fcb) 1 ≡ true → exOf (make .fcb) ≤ 31 → crOf (make .fcb) < 128
-      → Asks write 21 → write .fcb ≡ outcomeOf G (lifted (after G d login)) make .lent .fcb
-      → (accepts G d login ≡ true) × (accepts G (lifted (after G d login)) make ≡ true) × (accepts G (after G (lifted (after G d login)) make) write ≡ true)
+      → Asks write 21 → write .fcb ≡ outcomeOf G (liftedDisk (after G d login)) make .lent .fcb
+      → (accepts G d login ≡ true) × (accepts G (liftedDisk (after G d login)) make ≡ true) × (accepts G (after G (liftedDisk (after G d login)) make) write ≡ true)
   unfolding after loggedIn protected
   erased-begins d erased map range login make write a b drive name ex cr c same =
       let first = erased-accepted S d login erased map range (a .number) (a .time) (a .fcb) (a .buffer) in
       let t = booked-login S d login (a .number) first in
       let o = logged-in G d login (a .number) first in
-      let in-range : InRange G (lifted (after G d login) .session) = record { user = t .range .user; place = t .range .place } in
-      let second = made-on (lifted (after G d login)) (subst (λ (x : Outcome). ErasedDisk G (x .lent .drive .image)) (sym o) erased) (t .good) in-range refl make b drive name ex in (
+      let second = made-on (liftedDisk (after G d login)) (subst (λ (x : Outcome). ErasedDisk G (x .lent .drive .image)) (sym o) erased) (t .good) (range-lifted 1 (t .range)) refl make b drive name ex in (
         first,
         second,
-        make-then-write S (lifted (after G d login)) make (b .number) second cr refl (G .area) (S .area-below)
+        make-then-write S (liftedDisk (after G d login)) make (b .number) second cr refl (G .area) (S .area-below)
             (ap (λ (x : Outcome). noteAt (x .lent .drive .map) (G .area)) o ∙ first-free (d .drive .image) erased)
             write (c .number) same (c .time) (c .buffer),
       )

@@ -80,12 +80,13 @@ refused-stamp G asked l s c r e which = ap (λ (x : Lent). stampAt G (x .drive .
 
 -- ---- every stamp after an accepted call
 -- 13 and 98 leave the image as it is
+pub settles-image : (G : Geometry) (asked : Asked) (l : Lent) (s : Session) → does G asked l s Settle .lent .drive .image ≡ l .drive .image
+unfolding settled loggedIn freed
+settles-image G asked l s = cond-either (λ (o : Outcome). o .lent .drive .image ≡ l .drive .image) (eqb (asked .number) 13) (λ t. refl) (λ f. refl)
+
 settled-image : (G : Geometry) (asked : Asked) (l : Lent) (s : Session) → CarriedOut G asked l s → kindOf (asked .number) ≡ Settle
     → step G asked l s .lent .drive .image ≡ l .drive .image
-unfolding settled loggedIn freed
-settled-image G asked l s c q =
-    ap (λ (o : Outcome). o .lent .drive .image) (c .is ∙ stamped-as G asked l s Settle q)
-    ∙ cond-either (λ (o : Outcome). o .lent .drive .image ≡ l .drive .image) (eqb (asked .number) 13) (λ t. refl) (λ f. refl)
+settled-image G asked l s c q = ap (λ (o : Outcome). o .lent .drive .image) (c .is ∙ stamped-as G asked l s Settle q) ∙ settles-image G asked l s
 
 module _ {G : Geometry} (S : Sound G) (asked : Asked) (l : Lent) (s : Session) (c : CarriedOut G asked l s) (dates : dated (rowsOf G l) ≡ true) where
   -- the stamp beside e before it and after it

@@ -27,7 +27,7 @@ use Rattle.fields.specs.Erased.{ErasedDisk}
 use Rattle.table.specs.Total.{CarriedOut, InRange}
 use Rattle.invariant.specs.Stamps.{newest}
 use Rattle.effects.specs.Book.{nothingHeld}
-use Rattle.demands.specs.Runs.{Request, Disk, outcomeOf, accepts, after, Act, lifted, run, bookRun}
+use Rattle.demands.specs.Runs.{Request, Disk, outcomeOf, accepts, after, Act, liftedDisk, run, bookRun}
 use Rattle.demands.specs.NothingLost.{NothingLost, Stays, nothing-lost, bytes-stay, system-stays}
 use Rattle.demands.specs.Reading.{Gives}
 use Rattle.demands.specs.ReadBack.{AllLeaveAlone, readFcb, read-back}
@@ -63,8 +63,8 @@ pub eight-still-current : (d : Disk) (q : Request) → accepts eightInch d q ≡
 eight-still-current = still-current eight-sound
 
 -- the close that a move begins with is never refused
-pub eight-closes-first : (d : Disk) (q : Request) → ofRecord (kindOf (q .asked .number)) ≡ true → PastCurrent (outcomeOf eightInch d q .answer)
-    → ClosesFirst eightInch d q
+pub eight-closes-first : (d : Disk) (q : Request) → ofRecord (kindOf (q .asked .number)) ≡ true → PastCurrent (q .asked .number) (outcomeOf eightInch d q .answer)
+    → (b : ℕ) → (b ≡ 0 → ⊥) → ClosesFirst eightInch d q b
 eight-closes-first = closes-first eightInch
 
 -- request [8]: each stamp after an accepted call is the newest that the call makes there, or what it was
@@ -77,18 +77,18 @@ eight-stamp-after = stamp-after eight-sound
 pub eight-plain-consistent : (d : Rows) → Plain eightInch d → consistentRows eightInch d ≡ threeTests eightInch d
 eight-plain-consistent = plain-consistent eight-sound
 
--- request [12]: on a protected session, over any run in which the protection is never lifted, the image stays; and the map, 13 and 98 aside
+-- request [12]: on a protected session, over any run in which the protection is never lifted, the image stays; and the map, accepted 13 and 98 aside
 pub eight-protected-image : (d : Disk) → protected (d .session) ≡ true → (acts : List Act) → NeverLifted acts → run eightInch d acts .drive .image ≡ d .drive .image
 eight-protected-image = protected-image eightInch
 
-pub eight-protected-map : (d : Disk) → protected (d .session) ≡ true → (acts : List Act) → NeverLifted acts → NeverSettled acts
+pub eight-protected-map : (d : Disk) → protected (d .session) ≡ true → (acts : List Act) → NeverLifted acts → NeverSettled eightInch d acts
     → run eightInch d acts .drive .map ≡ d .drive .map
 eight-protected-map = protected-map eightInch
 
 -- and they speak of something: a log-in and, once the protection is lifted, a make and a write on an erased disk are accepted
 pub eight-begins : (d : Disk) → ErasedDisk eightInch (d .drive .image) → length (d .drive .map) ≡ 243 → InRange eightInch (d .session)
     → (login make write : Request) → Asks login 13 → Asks make 22 → getD (make .fcb) 0 0 ≤ 1 → nameRight false (make .fcb) 1 ≡ true → exOf (make .fcb) ≤ 31 → crOf (make .fcb) < 128
-    → Asks write 21 → write .fcb ≡ outcomeOf eightInch (lifted (after eightInch d login)) make .lent .fcb
-    → (accepts eightInch d login ≡ true) × (accepts eightInch (lifted (after eightInch d login)) make ≡ true)
-    × (accepts eightInch (after eightInch (lifted (after eightInch d login)) make) write ≡ true)
+    → Asks write 21 → write .fcb ≡ outcomeOf eightInch (liftedDisk (after eightInch d login)) make .lent .fcb
+    → (accepts eightInch d login ≡ true) × (accepts eightInch (liftedDisk (after eightInch d login)) make ≡ true)
+    × (accepts eightInch (after eightInch (liftedDisk (after eightInch d login)) make) write ≡ true)
 eight-begins = erased-begins eight-sound (omega arith)

@@ -9,7 +9,7 @@ use Rattle.model.specs.Table.{timeRight, verdict}
 use Rattle.fields.specs.Erased.{ErasedDisk, erased-consistent}
 use Rattle.table.specs.Own.{calling}
 use Rattle.model.specs.Kinds.{kindOf, isCall}
-use Rattle.table.specs.Protection.{other-open}
+use Rattle.table.specs.Protection.{other-spared}
 use Rattle.table.specs.Facts.{Fits}
 use Rattle.table.specs.Reflect.{login-ready}
 use Rattle.table.specs.Accept.{passes}
@@ -26,7 +26,7 @@ erased-accepted {G} S d q erased map range n time fcb buffer =
     (ap (λ (k : ℕ). verdict G (calling k (q .asked)) (lentTo d q) (d .session)) n
     ∙ passes G (calling 13 (q .asked)) (lentTo d q) (d .session) refl
     (login-ready G (q .asked) (lentTo d q) (d .session) fits time (erased-consistent G (d .drive .image) erased S))
-    (other-open G (calling 13 (q .asked)) (lentTo d q) (d .session) refl) tt))
+    (other-spared G (calling 13 (q .asked)) (lentTo d q) (d .session) refl) tt))
   where
     fits : Fits G (lentTo d q) (d .session)
     fits = record {

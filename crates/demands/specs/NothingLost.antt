@@ -21,7 +21,7 @@ use Rattle.model.specs.Naming.{names}
 use Rattle.model.specs.Step.{settled, effect, stamped}
 use Rattle.table.specs.Own.{calling}
 use Rattle.model.specs.Kinds.{kindOf}
-use Rattle.table.specs.Total.{InRange, step-range}
+use Rattle.table.specs.Total.{InRange, range-lifted, step-range}
 use Rattle.invariant.specs.Good.{Good, good-consistent, good-right}
 use Rattle.effects.specs.Where.{InEntry, InRecord, Where, in-entry, in-new, in-record, by-rule, in-stamp, stamp-entry, Frame}
 use Rattle.effects.specs.Book.{Book, nothingHeld}
@@ -29,7 +29,7 @@ use Rattle.effects.specs.Tracks.{Tracks, overlaid, InBook, book-map, book-has, 
 use Rattle.table.specs.Accepted.{accepted-carried}
 use Rattle.demands.specs.StepOk.{MayWrite, logged-in-tracks}
 use Rattle.demands.specs.Stamped.{step-ok, step-accepted, step-good, good-never-one}
-use Rattle.demands.specs.Runs.{Request, Disk, lentTo, outcomeOf, accepts, after, Act, calls, lifts, protects, afterAct, run, bookAfter, bookAct, bookRun}
+use Rattle.demands.specs.Runs.{Request, Disk, lentTo, outcomeOf, accepts, after, Act, one-call, lifts, protects, afterAct, run, bookAfter, bookAct, bookRun}
 
 -- ---- a disk whose map tells the same as a book
 pub record Booked (G : Geometry) (d : Disk) (u : Book) : Type 0 where
@@ -54,9 +54,9 @@ module _ {G : Geometry} (S : Sound G) where
   }
 
   booked-act : (d : Disk) (a : Act) (u : Book) → Booked G d u → Booked G (afterAct G d a) (bookAct G d a u)
-  booked-act d (calls q) u t = booked-after d q u t
-  booked-act d lifts u t = record { good = t .good; range = record { user = t .range .user; place = t .range .place }; tracks = t .tracks }
-  booked-act d protects u t = record { good = t .good; range = record { user = t .range .user; place = t .range .place }; tracks = t .tracks }
+  booked-act d (one-call q) u t = booked-after d q u t
+  booked-act d lifts u t = record { good = t .good; range = range-lifted 1 (t .range); tracks = t .tracks }
+  booked-act d protects u t = record { good = t .good; range = range-lifted 0 (t .range); tracks = t .tracks }
 
   pub booked-run : (d : Disk) (acts : List Act) (u : Book) → Booked G d u → Booked G (run G d acts) (bookRun G d acts u)
   unfolding run bookRun

@@ -28,7 +28,7 @@ use Rattle.table.specs.Accept.{writes-by}
 use Rattle.table.specs.First.{_&_}
 use Rattle.table.specs.Plans.{entryOf}
 use Rattle.table.specs.Carried.{Leaves, over, on, sets}
-use Rattle.table.specs.Total.{InRange, total, step-range}
+use Rattle.table.specs.Total.{InRange, range-lifted, total, step-range}
 use Rattle.invariant.specs.Good.{Good}
 use Rattle.effects.specs.View.{viewOf, Names}
 use Rattle.effects.specs.Effect.{Effect, Keeps}
@@ -37,7 +37,7 @@ use Rattle.effects.specs.Write.{HandedBack, written-ok}
 use Rattle.table.specs.Accepted.{accepted-carried}
 use Rattle.demands.specs.StepOk.{ready-good}
 use Rattle.demands.specs.Stamped.{stampedAs, stamped-as, holds-on, step-ok, step-accepted, step-good}
-use Rattle.demands.specs.Runs.{Request, Disk, lentTo, outcomeOf, accepts, after, Act, calls, lifts, protects, afterAct, run}
+use Rattle.demands.specs.Runs.{Request, Disk, lentTo, outcomeOf, accepts, after, Act, one-call, lifts, protects, afterAct, run}
 use Rattle.demands.specs.Reading.{atRecord, recordNumber, Gives, reads-back, length-atRecord, rest-atRecord}
 
 -- ---- runs that leave a file alone
@@ -53,7 +53,7 @@ pub record LeavesAlone (G : Geometry) (f : Bytes) (d : Disk) (q : Request) : Typ
 
 -- the protection names no file
 abbrev pub ActLeavesAlone : Geometry → Bytes → Disk → Act → Type 0
-ActLeavesAlone G f d (calls q) = LeavesAlone G f d q
+ActLeavesAlone G f d (one-call q) = LeavesAlone G f d q
 ActLeavesAlone G f d lifts = Unit {0}
 ActLeavesAlone G f d protects = Unit {0}
 
@@ -118,9 +118,9 @@ module _ {G : Geometry} (S : Sound G) (user : ℕ) (f : Bytes) (hf : length f �
       }
 
   kept-act : (d : Disk) (a : Act) → ActLeavesAlone G f d a → Kept G d user f e rec v → Kept G (afterAct G d a) user f e rec v
-  kept-act d (calls q) o k = kept-after d q o k
-  kept-act d lifts o k = record { good = k .good; range = record { user = k .range .user; place = k .range .place }; same = k .same; holds = k .holds }
-  kept-act d protects o k = record { good = k .good; range = record { user = k .range .user; place = k .range .place }; same = k .same; holds = k .holds }
+  kept-act d (one-call q) o k = kept-after d q o k
+  kept-act d lifts o k = record { good = k .good; range = range-lifted 1 (k .range); same = k .same; holds = k .holds }
+  kept-act d protects o k = record { good = k .good; range = range-lifted 0 (k .range); same = k .same; holds = k .holds }
 
   pub kept-run : (d : Disk) (acts : List Act) → AllLeaveAlone G f d acts → Kept G d user f e rec v → Kept G (run G d acts) user f e rec v
   unfolding run

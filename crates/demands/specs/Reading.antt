@@ -30,7 +30,7 @@ use Rattle.fields.specs.Numbers.{below-three, length-three, random-three}
 use Rattle.fields.specs.Target.{extent-random, record-random, stays-extent}
 use Rattle.table.specs.Own.{calling}
 use Rattle.model.specs.Kinds.{kindOf, isCall, isRandom}
-use Rattle.table.specs.Protection.{unchanged-open, stay-unchanged}
+use Rattle.table.specs.Protection.{unchanged-spared, stay-unchanged}
 use Rattle.table.specs.Facts.{Fits, Reads, Ready}
 use Rattle.table.specs.Accept.{reads-right}
 use Rattle.table.specs.Present.{stays-within, target-present, stay-block}
@@ -170,7 +170,7 @@ module _ {G : Geometry} (S : Sound G) (asked : Asked) (number : asked .number �
   step-is =
       ap (λ (n : ℕ). step G (calling n asked) l s) number
       ∙ step-carried G (calling 33 asked) l s refl ready
-      (unchanged-open G (calling 33 asked) l s refl (stay-unchanged G (calling 33 asked) l s stays-there)) (reads-right G asked l s reads) ∙ stamped-as G (calling 33 asked) l s Read refl
+      (unchanged-spared G (calling 33 asked) l s refl (stay-unchanged G (calling 33 asked) l s stays-there)) (reads-right G asked l s reads) ∙ stamped-as G (calling 33 asked) l s Read refl
 
   pub reads-back : Gives (step G asked l s) v
   unfolding read

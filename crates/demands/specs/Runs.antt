@@ -39,21 +39,21 @@ accepts G d q = acceptedAnswer (q .asked .number) (outcomeOf G d q .answer)
 
 -- ---- document 02, [12]: what a run is made of, a call, or the protection lifted or set, which counts as a call that names no file
 pub data Act : Type 0 where
-  calls : Request → Act
+  one-call : Request → Act
   lifts : Act
   protects : Act
 
 -- the disk with its session's protection lifted, or set; all else stays
-abbrev pub lifted : Disk → Disk
-lifted d = record { drive = d .drive; session = lift (d .session) }
+abbrev pub liftedDisk : Disk → Disk
+liftedDisk d = record { drive = d .drive; session = lift (d .session) }
 
-abbrev pub shut : Disk → Disk
-shut d = record { drive = d .drive; session = protect (d .session) }
+abbrev pub protectedDisk : Disk → Disk
+protectedDisk d = record { drive = d .drive; session = protect (d .session) }
 
 abbrev pub afterAct : Geometry → Disk → Act → Disk
-afterAct G d (calls q) = after G d q
-afterAct G d lifts = lifted d
-afterAct G d protects = shut d
+afterAct G d (one-call q) = after G d q
+afterAct G d lifts = liftedDisk d
+afterAct G d protects = protectedDisk d
 
 -- the disk after a run, one act after the other
 unfoldable pub run : Geometry → Disk → List Act → Disk
@@ -65,7 +65,7 @@ unfoldable pub bookAfter : Geometry → Disk → Request → Book → Book
 bookAfter G d q u = bookStep G (q .asked .number) (lentTo d q) (d .session) (outcomeOf G d q) u
 
 abbrev pub bookAct : Geometry → Disk → Act → Book → Book
-bookAct G d (calls q) u = bookAfter G d q u
+bookAct G d (one-call q) u = bookAfter G d q u
 bookAct G d lifts u = u
 bookAct G d protects u = u
 

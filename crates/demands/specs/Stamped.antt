@@ -72,7 +72,7 @@ stamped-as G asked l s k q = ap (stampedAs G asked l s) q
 accepted-does : (G : Geometry) (asked : Asked) (l : Lent) (s : Session) → AcceptedCall G asked l s
     → (k : Kind) → kindOf (asked .number) ≡ k → acceptedAnswer (asked .number) (does G asked l s k .answer) ≡ true
 accepted-does G asked l s c k q =
-    let o = total-accepted G asked l s (passes G asked l s (c .listed) (c .ready) (c .free) (c .none)) in
+    let o = total-accepted G asked l s (passes G asked l s (c .listed) (c .ready) (c .spared) (c .none)) in
     ap (λ (x : Outcome). acceptedAnswer (asked .number) (x .answer)) (sym (o .is ∙ stamped-as G asked l s k q)) ∙ carried-says G asked l s o
 
 -- a call names used entries alone

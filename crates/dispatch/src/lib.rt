@@ -1,14 +1,14 @@
-// The way from a call's kind to the call's own function, once the first three rows of the table have passed it, and the protection a call that
-// writes.
+// The way from a call's kind to the call's own function, once the first three rows of the table have passed it, and a protected session is asked for
+// no change of the disk.
 ghost use mathlib.Core.Path.{_≡_};
-ghost use mathlib.Core.Bool.{true, false};
+ghost use mathlib.Core.Bool.{true};
 ghost use Rattle.format.specs.Diskette.{eightInch};
 ghost use Rattle.format.specs.Entries.{entryAt};
-ghost use Rattle.model.specs.Kinds.{kindOf, isCall, oneOf};
+ghost use Rattle.model.specs.Kinds.{kindOf, isCall};
 ghost use Rattle.model.specs.declared.Kind.the-variants.{Quiet, Search};
-ghost use Rattle.model.specs.Lent.{lend, outcome, protected};
+ghost use Rattle.model.specs.Lent.{lend, outcome};
 ghost use Rattle.table.specs.Facts.{Fits, Ready};
-ghost use Rattle.model.specs.Table.{writers};
+ghost use Rattle.table.specs.Protection.{Unchanging};
 ghost use Rattle.table.specs.OwnStep.{ownStep, readyStep};
 ghost use Rattle.chains.specs.Chain.{Indexed};
 use model::Answer;
@@ -61,7 +61,7 @@ fn search_call(
     searching::search_next(image, buffer, session)
 }
 
-// Every call but 13, once the first three rows have passed it, and the protection one that writes; its kind is handed in.
+// Every call but 13, once the first three rows have passed it; of a protected session, one that does not change the disk. Its kind is handed in.
 pub fn own_call(
     kind: Kind,
     asked: Asked,
@@ -74,7 +74,7 @@ pub fn own_call(
 ) -> Answer
     requires { ⌜ (kind ≡ kindOf (asked .number)) × (isCall (asked .number) ≡ true) × (asked .number ≡ 13 → ⊥)
         × Ready eightInch asked (lend (now image) (now map) (now fcb) (now buffer)) session
-        × Indexed eightInch (entryAt eightInch (now image)) (now chain) × (protected session ≡ true → oneOf (asked .number) writers ≡ false) ⌝ }
+        × Indexed eightInch (entryAt eightInch (now image)) (now chain) × Unchanging session (asked .number) ⌝ }
     ensures { λ r. ⌜ outcome r (now (image .exit)) (now (map .exit)) (now (fcb .exit)) (now (buffer .exit))
         ≡ readyStep eightInch asked (lend (now (image .entry)) (now (map .entry)) (now (fcb .entry)) (now (buffer .entry))) session ⌝ }
 {

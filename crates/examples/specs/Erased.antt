@@ -28,7 +28,7 @@ use Rattle.model.specs.Entering.{threeBytes}
 use Rattle.model.specs.Kinds.{usesFcb, isCall, kindOf}
 use Rattle.model.specs.Calls.{done, loggedIn, space}
 use Rattle.model.specs.Step.{step, effect, stamped, settled, told}
-use Rattle.table.specs.Protection.{other-open}
+use Rattle.table.specs.Protection.{other-spared}
 use Rattle.table.specs.Facts.{Fits, Ready}
 use Rattle.table.specs.Reflect.{login-ready}
 use Rattle.table.specs.Total.{step-carried}
@@ -117,7 +117,7 @@ module _ (G : Geometry) (img : Bytes) (long : Long G img) (right : consistent G 
   pub login-step : (asked : Asked) → timeRight asked ≡ true → step G (calling 13 asked) (lend img map fcb buffer) s ≡ done 0 s (lend img (freshMap G (entryAt G img)) fcb buffer)
   unfolding loggedIn effect stamped settled isCall kindOf
   login-step asked time = step-carried G (calling 13 asked) (lend img map fcb buffer) s refl (login-ready G asked (lend img map fcb buffer) s fits time right)
-      (other-open G (calling 13 asked) (lend img map fcb buffer) s refl) tt
+      (other-spared G (calling 13 asked) (lend img map fcb buffer) s refl) tt
 
   -- after it every call finds image and map right
   pub logged-ready : (asked : Asked) → timeRight asked ≡ true → (usesFcb (asked .number) ≡ true → getD fcb 0 0 ≤ 1)
@@ -143,7 +143,7 @@ module _ (G : Geometry) (img : Bytes) (long : Long G img) (right : consistent G 
   unfolding space usesFcb effect stamped told isCall kindOf timeRight
   space-step asked time =
       step-carried G (calling 46 asked) (lend img (freshMap G (entryAt G img)) fcb buffer) (ended s) refl (logged-ready (calling 46 asked) time (λ u. clash (sym u)))
-      (other-open G (calling 46 asked) (lend img (freshMap G (entryAt G img)) fcb buffer) (ended s) refl) tt
+      (other-spared G (calling 46 asked) (lend img (freshMap G (entryAt G img)) fcb buffer) (ended s) refl) tt
 
 -- a call after another: on what that left, with the session that it left
 abbrev pub next : Geometry → Asked → Outcome → Outcome

@@ -28,7 +28,7 @@ use Rattle.table.specs.Accept.{positions-none, sizes-right}
 use Rattle.model.specs.Step.{step, effect, stamped, told}
 use Rattle.fields.specs.Size.{size-covers, size-high, end-high}
 use Rattle.table.specs.Present.{user-numbers}
-use Rattle.table.specs.Protection.{other-open}
+use Rattle.table.specs.Protection.{other-spared}
 use Rattle.table.specs.Facts.{Ready, Sizes, Positions}
 use Rattle.table.specs.Total.{step-carried}
 
@@ -50,7 +50,7 @@ position-gives : (G : Geometry) (asked : Asked) (l : Lent) (s : Session) → Rea
 unfolding positioned effect stamped told isCall kindOf
 position-gives G asked l s ready p =
     gives-three G (calling 36 asked) l s (extentRecords * extentOf (l .fcb) + crOf (l .fcb)) (ready .fits .fcb-long)
-    (step-carried G (calling 36 asked) l s refl ready (other-open G (calling 36 asked) l s refl) (positions-none G asked l s p))
+    (step-carried G (calling 36 asked) l s refl ready (other-spared G (calling 36 asked) l s refl) (positions-none G asked l s p))
 
 -- extent 1, cr 128
 pub position-256 : (G : Geometry) (asked : Asked) (l : Lent) (s : Session) → Ready G (calling 36 asked) l s → extentOf (l .fcb) ≡ 1 → crOf (l .fcb) ≡ 128
@@ -66,7 +66,7 @@ pub size-step : (G : Geometry) (asked : Asked) (l : Lent) (s : Session) → Read
     → step G (calling 35 asked) l s
     ≡ done 0 s (lend (l .drive .image) (l .drive .map) (splice (l .fcb) 33 (threeBytes (fileSize G (rowsOf G l) (named false (s .user) (l .fcb) 1)))) (l .buffer))
 unfolding sized effect stamped told isCall kindOf
-size-step G asked l s ready p = step-carried G (calling 35 asked) l s refl ready (other-open G (calling 35 asked) l s refl) (sizes-right G asked l s p)
+size-step G asked l s ready p = step-carried G (calling 35 asked) l s refl ready (other-spared G (calling 35 asked) l s refl) (sizes-right G asked l s p)
 
 -- an entry of the name, with this extent and count
 pub record HasEntry (G : Geometry) (l : Lent) (s : Session) (ext count : ℕ) : Type 0 where

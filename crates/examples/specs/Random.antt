@@ -19,7 +19,7 @@ use Rattle.model.specs.Table.{verdict}
 use Rattle.model.specs.Step.{refused, step}
 use Rattle.table.specs.First.{_&_, here}
 use Rattle.table.specs.Own.{calling, at-one}
-use Rattle.table.specs.Protection.{lifted-open, refused-open}
+use Rattle.table.specs.Protection.{lifted-spared, failing-spared}
 use Rattle.table.specs.Facts.{Ready}
 use Rattle.fields.specs.Target.{extent-random, record-random}
 use Rattle.table.specs.Refuse.{random-over}
@@ -53,8 +53,8 @@ random-six G asked l s which ready writable r =
     let over = lt-ltb lastRecord (randomOf (l .fcb)) (omega (arith, random-is (l .fcb) 0 0 4 r)) in
     six G asked l s (random-is (l .fcb) 0 0 4 r)
     (at-one (λ (m : ℕ). Ready G (calling m asked) l s → (m ≡ 34 → protected s ≡ false) → step G (calling m asked) l s ≡ refused BadRecord s l) (asked .number) (33 ∷ 34 ∷ []) which
-    ((λ p w. step-refused G (calling 33 asked) l s BadRecord refl p (refused-open G (calling 33 asked) l s refl BadRecord (here over refl)) (here over refl))
-    & (λ p w. step-refused G (calling 34 asked) l s BadRecord refl p (lifted-open G (calling 34 asked) l s (w refl)) (here over refl)) & tt) ready writable)
+    ((λ p w. step-refused G (calling 33 asked) l s BadRecord refl p (failing-spared G (calling 33 asked) l s refl BadRecord (here over refl)) (here over refl))
+    & (λ p w. step-refused G (calling 34 asked) l s BadRecord refl p (lifted-spared G (calling 34 asked) l s (w refl)) (here over refl)) & tt) ready writable)
 
 -- 262,143 is the last that is taken: record 127 of extent 2,047
 pub record Last (G : Geometry) (asked : Asked) (l : Lent) (s : Session) : Type 0 where

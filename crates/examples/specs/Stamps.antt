@@ -28,6 +28,7 @@ use Rattle.model.specs.Step.{told, settled, effect, step}
 use Rattle.model.specs.Table.{timeRight, lengthsRight, parametersRight, diskRight, askedEntry, firstRow, wouldSucceed, moveChanges, protectionHolds, table, verdict}
 use Rattle.model.specs.Target.{targetExtent, targetRecord, crAfter, presentEntry, stays, within, targetSlot, targetEntry, blockThere, targetBlock, readOnlyThere, countThere, recordThere, planFrom, plan, moved, made, placeIn, haveRead, writtenCount, writtenFcb, writtenMap, haveWritten}
 use Rattle.model.specs.declared.Asked.{Asked}
+use Rattle.model.specs.declared.Session.{Session}
 use Rattle.model.specs.Lent.{lend, Outcome, lift, protect, protected}
 use Rattle.examples.specs.Erased.{start, blank, next}
 use Rattle.examples.specs.OneFile.{fileFcb}
@@ -76,8 +77,11 @@ noon k = k ∷ 1 ∷ 18 ∷ 48 ∷ []
 abbrev at : ℕ → ℕ → Asked
 at n k = record { number = n; argument = 0; day = 256 + k; hour = 18; minute = 48 }
 
+abbrev loggedAs : Session → ℕ → Bytes → Outcome
+loggedAs s asking dates = step tiny (at 13 0) (lend (diskWith asking dates) (replicate 3 0) fileFcb blank) s
+
 abbrev loggedOn : ℕ → Bytes → Outcome
-loggedOn asking dates = step tiny (at 13 0) (lend (diskWith asking dates) (replicate 3 0) fileFcb blank) (lift start)
+loggedOn asking dates = loggedAs (lift start) asking dates
 
 -- file A is made
 abbrev madeOn : ℕ → Outcome
@@ -105,8 +109,8 @@ abbrev openedAgain : Outcome
 openedAgain = next tiny (at 15 2) (madeOn 96)
 
 -- ---- the protection is set on what a call left
-abbrev shut : Outcome → Outcome
-shut o = record { answer = record { a = o .answer .a; h = o .answer .h; session = protect (o .answer .session) }; lent = o .lent }
+abbrev protectAgain : Outcome → Outcome
+protectAgain o = record { answer = record { a = o .answer .a; h = o .answer .h; session = protect (o .answer .session) }; lent = o .lent }
 
 -- record r of the file is read
 abbrev readAgain : ℕ → Outcome → Outcome
@@ -133,22 +137,23 @@ pub record Stamps : Type 0 where
   pub make-no-create : Leaves (madeOn 96) 1 (beside zeros zeros nines nines)
   pub access : Leaves openedAgain 1 (beside (noon 2) zeros nines nines)
   -- an open on a protected session is accepted and stamps nothing
-  pub access-shut : Leaves (next tiny (at 15 2) (shut (madeOn 96))) 1 (beside zeros zeros nines nines)
+  pub access-protected : Leaves (next tiny (at 15 2) (protectAgain (madeOn 96))) 1 (beside zeros zeros nines nines)
   -- without date entries nothing is stamped, whatever the label asks
   pub undated : Leaves (next tiny (at 22 1) (loggedOn 48 (replicate 32 229))) 1 (replicate 32 229)
   -- a label that asks for create and access, an hour that is no BCD
   pub create-access : Answers (loggedOn 80 (beside nines nines nines nines)) 255 1
   pub bad-hour : Answers (loggedOn 48 (beside nines (9 ∷ 9 ∷ 10 ∷ 9 ∷ []) nines nines)) 255 1
-  -- on a protected session: a make and a write are refused; a read that stays is not, before the close and after it
-  pub make-shut : Answers (next tiny (at 22 1) (shut (loggedOn 48 (beside nines nines nines nines)))) 255 2
-  pub write-shut : Answers (next tiny (at 21 2) (shut (madeOn 48))) 255 2
-  pub read-shut : Answers (readAgain 0 (shut wrote)) 0 0
+  -- a make on a session of zeros, and a write where the protection was set again, are refused; a read that stays is not, before the close and after it
+  pub make-protected : Answers (next tiny (at 22 1) (loggedAs start 48 (beside nines nines nines nines))) 255 2
+  pub write-protected : Answers (next tiny (at 21 2) (protectAgain (madeOn 48))) 255 2
+  pub read-protected : Answers (readAgain 0 (protectAgain wrote)) 0 0
+  pub read-closed : Answers (readAgain 0 (protectAgain closedOnce)) 0 0
   -- a read whose move would change an entry is refused, and accepted once the protection is lifted; after a close it is not refused, since its
   -- move changes nothing; and one of a record that is not there answers 1
-  pub move-shut : Answers (readAgain 0 (shut movedOn)) 255 2
+  pub move-protected : Answers (readAgain 0 (protectAgain movedOn)) 255 2
   pub move-lifted : Answers (readAgain 0 movedOn) 0 0
-  pub move-closed : Answers (readAgain 0 (shut (next tiny (at 16 4) movedOn))) 0 0
-  pub no-record-shut : Answers (readAgain 9 (shut movedOn)) 1 0
+  pub move-closed : Answers (readAgain 0 (protectAgain (next tiny (at 16 4) movedOn))) 0 0
+  pub no-record-protected : Answers (readAgain 9 (protectAgain movedOn)) 1 0
 
 pub stamps : Stamps
 unfolding diskWith fileFcb allBelow anyBelow firstOf firstIn foldBelow taken part splice tab _and_ _or_ agree slotRight slotsRight fileRight
@@ -170,15 +175,16 @@ stamps = record {
   move = (refl, refl, refl);
   make-no-create = (refl, refl, refl);
   access = (refl, refl, refl);
-  access-shut = (refl, refl, refl);
+  access-protected = (refl, refl, refl);
   undated = (refl, refl, refl);
   create-access = (refl, refl);
   bad-hour = (refl, refl);
-  make-shut = (refl, refl);
-  write-shut = (refl, refl);
-  read-shut = (refl, refl);
-  move-shut = (refl, refl);
+  make-protected = (refl, refl);
+  write-protected = (refl, refl);
+  read-protected = (refl, refl);
+  read-closed = (refl, refl);
+  move-protected = (refl, refl);
   move-lifted = (refl, refl);
   move-closed = (refl, refl);
-  no-record-shut = (refl, refl);
+  no-record-protected = (refl, refl);
 }

@@ -32,7 +32,7 @@ use Rattle.fields.specs.Making.{length-madeRow}
 use Rattle.fields.specs.Erased.{ErasedDisk, all-erased, erased-consistent}
 use Rattle.table.specs.Total.{total, total-refused}
 use Rattle.table.specs.Accepted.{acceptedAnswer}
-use Rattle.demands.specs.Runs.{Request, Disk, lentTo, outcomeOf, left, accepts, after, lifted, run}
+use Rattle.demands.specs.Runs.{Request, Disk, lentTo, outcomeOf, left, accepts, after, liftedDisk, run}
 use Rattle.demands.specs.Reading.{Gives, atRecord, recordNumber}
 use Rattle.demands.specs.ReadBack.{readFcb}
 use Rattle.demands.specs.Begins.{Asks}
@@ -145,7 +145,7 @@ abbrev atHand : Bytes → Disk
 atHand img = record { drive = record { image = img; map = notes }; session = start }
 
 abbrev logged : Bytes → Disk
-logged img = lifted (after eightInch (atHand img) (asking 13 fileFcb blank))
+logged img = liftedDisk (after eightInch (atHand img) (asking 13 fileFcb blank))
 
 abbrev making : Request
 making = asking 22 fileFcb blank

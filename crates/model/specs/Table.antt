@@ -98,9 +98,9 @@ isPassed (Refused code) = false
 abbrev pub row : List ℕ → Bool → Code → RowFor
 row calls test code = record { calls = calls; row = when test code }
 
--- the calls that write, and those that read a record; 30 is to come among the first (request [5])
-abbrev pub writers : List ℕ
-writers = 16 ∷ 19 ∷ 21 ∷ 22 ∷ 23 ∷ 34 ∷ []
+-- the calls that change the disk, and those that read a record; 30 is to come among the first (request [5])
+abbrev pub changers : List ℕ
+changers = 16 ∷ 19 ∷ 21 ∷ 22 ∷ 23 ∷ 34 ∷ []
 
 abbrev pub readers : List ℕ
 readers = 20 ∷ 33 ∷ []
@@ -165,9 +165,9 @@ module _ (G : Geometry) (asked : Asked) (l : Lent) (s : Session) where
   moveChanges =
       not (stays (asked .number) (l .fcb)) and closeChanges G (rowsOf G l (numberOf (G .entries) (presentEntry G (s .user) l))) (l .fcb)
 
-  -- "until the caller lifts it", the protection refuses those that write, "and .. a read that would else succeed by a move that changes an entry"
+  -- "until the caller lifts it", the protection refuses those that change the disk, "and .. a read that would else succeed by a move that changes an entry"
   unfoldable pub protectionHolds : Bool
-  protectionHolds = protected s and (oneOf (asked .number) writers or (oneOf (asked .number) readers and wouldSucceed and moveChanges))
+  protectionHolds = protected s and (oneOf (asked .number) changers or (oneOf (asked .number) readers and wouldSucceed and moveChanges))
 
   unfoldable pub table : List Row
   table =

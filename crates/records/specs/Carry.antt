@@ -30,7 +30,7 @@ use Rattle.model.specs.declared.Kind.the-variants.{Read, Write}
 use Rattle.model.specs.Calls.{done, readAt, reading, writtenAt, writing}
 use Rattle.model.specs.Step.{refusedSession}
 use Rattle.table.specs.Protection.{planChanges}
-use Rattle.table.specs.OwnStep.{readyStep, ready-held, ready-own}
+use Rattle.table.specs.OwnStep.{readyStep, ready-stopped, ready-own}
 use Rattle.table.specs.Plans.{entryOf}
 use Rattle.targets.specs.declared.Target.{Target}
 use Rattle.targets.specs.Target.{TargetOf}
@@ -38,7 +38,7 @@ use Rattle.rulings.specs.declared.Ruling.the-variants.{Refuse, Follow}
 use Rattle.rulings.specs.Ruling.{ruling}
 use Rattle.rulings.specs.Bounds.{OnDisk, OwnExtent}
 use Rattle.rulings.specs.Own.{own-record}
-use Rattle.rulings.specs.Held.{refused-free, followed-held, followed-free}
+use Rattle.rulings.specs.Stopped.{refuse-spared, follow-stopped, follow-spared}
 
 -- the buffers once the FCB has come to the target's extent, ext
 abbrev pub arrived : Geometry → ℕ → Lent → Plan → Lent
@@ -110,15 +110,15 @@ module _ (G : Geometry) (asked : Asked) (l : Lent) (s : Session) (r : Answer)
     (which : ofRecord (kindOf (asked .number)) ≡ true) (only : protected s ≡ true → kindOf (asked .number) ≡ Read) where
   pub record-refused : (code : Code) → ruling G (asked .number) (s .user) l ≡ Refuse code → r ≡ answerOf code (refusedSession code s)
       → record { answer = r; lent = l } ≡ readyStep G asked l s
-  record-refused code q h = rw (ready-own G asked l s (refused-free G asked l s only code q), own-record G asked l s which, q, h)
+  record-refused code q h = rw (ready-own G asked l s (refuse-spared G asked l s only code q), own-record G asked l s which, q, h)
 
-  pub record-held : (p : Plan) → ruling G (asked .number) (s .user) l ≡ Follow p → (protected s and planChanges G l p) ≡ true
+  pub record-stopped : (p : Plan) → ruling G (asked .number) (s .user) l ≡ Follow p → (protected s and planChanges G l p) ≡ true
       → r ≡ answerOf Protected (refusedSession Protected s) → record { answer = r; lent = l } ≡ readyStep G asked l s
-  record-held p q held h = rw (ready-held G asked l s (followed-held G asked l s only p q held), h)
+  record-stopped p q held h = rw (ready-stopped G asked l s (follow-stopped G asked l s only p q held), h)
 
   pub record-carried : (p : Plan) (t : Target) (left : Lent) → ruling G (asked .number) (s .user) l ≡ Follow p → (protected s and planChanges G l p) ≡ false
       → TargetOf (asked .number) (l .fcb) t
       → r ≡ answerOf (Accepted 0) (ended s) → left ≡ transferred G (same (kindOf (asked .number)) Write) p t (arrived G (t .extent) l p)
       → record { answer = r; lent = left } ≡ readyStep G asked l s
   record-carried p t left q free is h k =
-      rw (ready-own G asked l s (followed-free G asked l s only p q free), own-record G asked l s which, q, following-by G s l (asked .number) p t is (same (kindOf (asked .number)) Write), h, k)
+      rw (ready-own G asked l s (follow-spared G asked l s only p q free), own-record G asked l s which, q, following-by G s l (asked .number) p t is (same (kindOf (asked .number)) Write), h, k)

@@ -7,12 +7,13 @@ ghost use Rattle.format.specs.Diskette.{Bytes, eightInch, Long, recordBytes, ex
 ghost use Rattle.format.specs.Entries.{entryAt, extentOf};
 ghost use Rattle.format.specs.Consistent.{consistent};
 ghost use Rattle.format.specs.Fcb.{fcbBytes};
-ghost use Rattle.model.specs.Lent.{lend, AllLong, outcome, protected};
+ghost use Rattle.model.specs.Lent.{lend, AllLong, outcome};
 ghost use Rattle.model.specs.Closing.{closedImage};
 ghost use Rattle.model.specs.Target.{moved, made};
 ghost use Rattle.model.specs.Kinds.{kindOf, same, ofRecord};
-ghost use Rattle.model.specs.declared.Kind.the-variants.{Read, Write};
+ghost use Rattle.model.specs.declared.Kind.the-variants.{Write};
 ghost use Rattle.chains.specs.Chain.{Findable};
+ghost use Rattle.table.specs.Protection.{Unchanging};
 ghost use Rattle.table.specs.OwnStep.{readyStep};
 ghost use Rattle.table.specs.Plans.{entryOf};
 ghost use Rattle.rulings.specs.Bounds.{OnDisk, OwnExtent};
@@ -139,8 +140,8 @@ fn follow(
     transfer(number, image, map, fcb, buffer, plan, target);
 }
 
-// The record calls, once the disk and the parameters are known to be right; on a protected session only those that read. These the protection
-// refuses where they would succeed by a move that changes an entry.
+// The record calls, once the disk and the parameters are known to be right; of a protected session, those that read. These the protection refuses
+// where they would succeed by a move that changes an entry.
 pub fn record_call(
     asked: Asked,
     image: &mut [u8],
@@ -151,7 +152,7 @@ pub fn record_call(
     chain: &[u8],
 ) -> Answer
     requires { ⌜ (length (now map) ≡ eightInch .blocks) × (length (now buffer) ≡ recordBytes) × (consistent eightInch (now image) ≡ true)
-        × (ofRecord (kindOf (asked .number)) ≡ true) × (protected session ≡ true → kindOf (asked .number) ≡ Read)
+        × (ofRecord (kindOf (asked .number)) ≡ true) × Unchanging session (asked .number)
         × Findable eightInch (now image) (now chain) (session .user) (now fcb) ⌝ }
     ensures { λ r. ⌜ outcome r (now (image .exit)) (now (map .exit)) (now (fcb .exit)) (now (buffer .exit))
         ≡ readyStep eightInch asked (lend (now (image .entry)) (now (map .entry)) (now (fcb .entry)) (now (buffer .entry))) session ⌝ }
@@ -161,7 +162,7 @@ pub fn record_call(
     match rulings::rule(number, target, image, map, chain, fcb, session.user) {
         Ruling::Refuse(code) => answers::refuse(code, session),
         Ruling::Follow(plan) => {
-            if protection::stops(session, plan, image, fcb) {
+            if stopping::stops(session, plan, image, fcb) {
                 return answers::refuse(Code::Protected, session);
             }
             follow(number, image, map, fcb, buffer, plan, target);

@@ -1,5 +1,5 @@
 pub mod Ruling
 pub mod Laws
 pub mod Own
-pub mod Held
+pub mod Stopped
 pub mod Bounds

@@ -15,7 +15,7 @@ use Rattle.model.specs.declared.Asked.{Asked}
 use Rattle.model.specs.declared.Session.{Session}
 use Rattle.model.specs.Lent.{lend, Outcome, lift, protect}
 use Rattle.model.specs.Step.{step}
-use Rattle.demands.specs.Runs.{Request, Disk, outcomeOf, left, after, Act, calls, lifts, protects, afterAct, run}
+use Rattle.demands.specs.Runs.{Request, Disk, outcomeOf, left, after, Act, one-call, lifts, protects, afterAct, run}
 use Rattle.script.specs.declared.Point.{Point}
 
 abbrev pub request : Asked → Bytes → Bytes → Request
@@ -33,19 +33,19 @@ abbrev pub protecting : ℕ
 protecting = 257
 
 abbrev pub actBy : ℕ → Request → Act
-actBy n q = cond (eqb n lifting) lifts (cond (eqb n protecting) protects (calls q))
+actBy n q = cond (eqb n lifting) lifts (cond (eqb n protecting) protects (one-call q))
 
 -- the run that a script stands for. One that ends within a call ends before it; where FCBs or buffers run out, what is left is lent
-unfoldable pub acts : List ℕ → Bytes → Bytes → List Act
-acts (n ∷ a ∷ d ∷ h ∷ m ∷ f ∷ b ∷ script) fcbs buffers =
-    actBy n (request (askedBy n a d h m) (take f fcbs) (take b buffers)) ∷ acts script (drop f fcbs) (drop b buffers)
-acts [] fcbs buffers = []
-acts (n ∷ []) fcbs buffers = []
-acts (n ∷ a ∷ []) fcbs buffers = []
-acts (n ∷ a ∷ d ∷ []) fcbs buffers = []
-acts (n ∷ a ∷ d ∷ h ∷ []) fcbs buffers = []
-acts (n ∷ a ∷ d ∷ h ∷ m ∷ []) fcbs buffers = []
-acts (n ∷ a ∷ d ∷ h ∷ m ∷ f ∷ []) fcbs buffers = []
+unfoldable pub actsOf : List ℕ → Bytes → Bytes → List Act
+actsOf (n ∷ a ∷ d ∷ h ∷ m ∷ f ∷ b ∷ script) fcbs buffers =
+    actBy n (request (askedBy n a d h m) (take f fcbs) (take b buffers)) ∷ actsOf script (drop f fcbs) (drop b buffers)
+actsOf [] fcbs buffers = []
+actsOf (n ∷ []) fcbs buffers = []
+actsOf (n ∷ a ∷ []) fcbs buffers = []
+actsOf (n ∷ a ∷ d ∷ []) fcbs buffers = []
+actsOf (n ∷ a ∷ d ∷ h ∷ []) fcbs buffers = []
+actsOf (n ∷ a ∷ d ∷ h ∷ m ∷ []) fcbs buffers = []
+actsOf (n ∷ a ∷ d ∷ h ∷ m ∷ f ∷ []) fcbs buffers = []
 
 abbrev pub diskOf : Bytes → Bytes → Session → Disk
 diskOf image map s = record { drive = record { image = image; map = map }; session = s }
@@ -53,14 +53,14 @@ diskOf image map s = record { drive = record { image = image; map = map }; sessi
 -- every run whose numbers are in range is that of a script
 abbrev numbersOf : List Act → List ℕ
 numbersOf [] = []
-numbersOf (calls q ∷ rest) =
+numbersOf (one-call q ∷ rest) =
     q .asked .number ∷ q .asked .argument ∷ q .asked .day ∷ q .asked .hour ∷ q .asked .minute ∷ length (q .fcb) ∷ length (q .buffer) ∷ numbersOf rest
 numbersOf (lifts ∷ rest) = lifting ∷ 0 ∷ 0 ∷ 0 ∷ 0 ∷ 0 ∷ 0 ∷ numbersOf rest
 numbersOf (protects ∷ rest) = protecting ∷ 0 ∷ 0 ∷ 0 ∷ 0 ∷ 0 ∷ 0 ∷ numbersOf rest
 
 abbrev joined : (Request → Bytes) → List Act → Bytes
 joined bytes [] = []
-joined bytes (calls q ∷ rest) = bytes q ++ joined bytes rest
+joined bytes (one-call q ∷ rest) = bytes q ++ joined bytes rest
 joined bytes (lifts ∷ rest) = joined bytes rest
 joined bytes (protects ∷ rest) = joined bytes rest
 
@@ -73,7 +73,7 @@ pub record InRange (asked : Asked) : Type 0 where
 
 abbrev AllInRange : List Act → Type 0
 AllInRange [] = Unit {0}
-AllInRange (calls q ∷ rest) = InRange (q .asked) × AllInRange rest
+AllInRange (one-call q ∷ rest) = InRange (q .asked) × AllInRange rest
 AllInRange (lifts ∷ rest) = AllInRange rest
 AllInRange (protects ∷ rest) = AllInRange rest
 
@@ -87,15 +87,15 @@ asked-again asked r =
     rw (n, a, d, h, m)
 
 -- a call's number is neither of the two
-call-act : (q : Request) → q .asked .number < 256 → actBy (q .asked .number) q ≡ calls q
+call-act : (q : Request) → q .asked .number < 256 → actBy (q .asked .number) q ≡ one-call q
 call-act q h =
     let a : eqb (q .asked .number) lifting ≡ false = ne-eqb (q .asked .number) 256 (λ z. omega arith) in
     let b : eqb (q .asked .number) protecting ≡ false = ne-eqb (q .asked .number) 257 (λ z. omega arith) in rw (a, b)
 
-pub scripted : (run : List Act) → AllInRange run → acts (numbersOf run) (joined (λ (q : Request). q .fcb) run) (joined (λ (q : Request). q .buffer) run) ≡ run
-unfolding acts
+pub scripted : (acts : List Act) → AllInRange acts → actsOf (numbersOf acts) (joined (λ (q : Request). q .fcb) acts) (joined (λ (q : Request). q .buffer) acts) ≡ acts
+unfolding actsOf
 scripted [] all = refl
-scripted (calls q ∷ rest) all =
+scripted (one-call q ∷ rest) all =
     rw (
       asked-again (q .asked) (all .0),
       take-append-seam (q .fcb) (joined (λ (r : Request). r .fcb) rest),
@@ -110,9 +110,9 @@ scripted (protects ∷ rest) all = rw (scripted rest all)
 
 -- ---- the loop that makes them
 -- the disk that is come to by the calls from `at` on, from a point of a run
-unfoldable pub callsLeft : List ℕ → ℕ → Bytes → Bytes → Bytes → Bytes → Point → Disk
-callsLeft script at fcbs buffers image map p =
-    run eightInch (diskOf image map (p .session)) (acts (drop at script) (drop (p .fcbs) fcbs) (drop (p .buffers) buffers))
+unfoldable pub actsLeft : List ℕ → ℕ → Bytes → Bytes → Bytes → Bytes → Point → Disk
+actsLeft script at fcbs buffers image map p =
+    run eightInch (diskOf image map (p .session)) (actsOf (drop at script) (drop (p .fcbs) fcbs) (drop (p .buffers) buffers))
 
 -- `to` is where the next n bytes end, or all that is left
 pub record Ends (bytes : Bytes) (from n to : ℕ) : Type 0 where
@@ -170,8 +170,8 @@ seven xs at h =
       next xs (at + 6) (at + 7) (omega arith) (omega arith),
     )
 
-none-left : (xs : List ℕ) (fcbs buffers : Bytes) → length xs < 7 → acts xs fcbs buffers ≡ []
-unfolding acts
+none-left : (xs : List ℕ) (fcbs buffers : Bytes) → length xs < 7 → actsOf xs fcbs buffers ≡ []
+unfolding actsOf
 none-left [] fcbs buffers l = refl
 none-left (n ∷ []) fcbs buffers l = refl
 none-left (n ∷ a ∷ []) fcbs buffers l = refl
@@ -218,25 +218,25 @@ length-mended part bytes from n to e h =
     ∙ sym (length-append (take from bytes) (drop from bytes)) ∙ ap length (take-append-drop from bytes)
 
 module _ (script : List ℕ) (at : ℕ) (fcbs buffers image map : Bytes) (p : Point) where
-  pub calls-none : length script - at < 7 → callsLeft script at fcbs buffers image map p ≡ diskOf image map (p .session)
-  unfolding callsLeft run
-  calls-none h =
+  pub acts-none : length script - at < 7 → actsLeft script at fcbs buffers image map p ≡ diskOf image map (p .session)
+  unfolding actsLeft run
+  acts-none h =
       let q = length-drop at script in
       let none = none-left (drop at script) (drop (p .fcbs) fcbs) (drop (p .buffers) buffers) (omega arith) in
       ap (run eightInch (diskOf image map (p .session))) none
 
   -- one act is made, with the next parts of the two slices
-  pub calls-next : at + 7 ≤ length script → (f b : ℕ) → Ends fcbs (p .fcbs) (getD script (at + 5) 0) f → Ends buffers (p .buffers) (getD script (at + 6) 0) b
+  pub acts-next : at + 7 ≤ length script → (f b : ℕ) → Ends fcbs (p .fcbs) (getD script (at + 5) 0) f → Ends buffers (p .buffers) (getD script (at + 6) 0) b
       → (asked : Asked) → asked ≡ askedAt script at → (img notes fcb buffer : Bytes) (s : Session)
       → diskOf img notes s ≡ afterAct eightInch (diskOf image map (p .session))
       (actBy (getD script at 0) (request asked (take (f - p .fcbs) (drop (p .fcbs) fcbs)) (take (b - p .buffers) (drop (p .buffers) buffers))))
       → length fcb ≡ length (take (f - p .fcbs) (drop (p .fcbs) fcbs))
       → length buffer ≡ length (take (b - p .buffers) (drop (p .buffers) buffers))
-      → callsLeft script (at + 7) (mended fcbs (p .fcbs) f fcb) (mended buffers (p .buffers) b buffer) img notes
+      → actsLeft script (at + 7) (mended fcbs (p .fcbs) f fcb) (mended buffers (p .buffers) b buffer) img notes
       record { fcbs = f; buffers = b; session = s }
-      ≡ callsLeft script at fcbs buffers image map p
-  unfolding callsLeft run acts
-  calls-next h f b ef eb asked q img notes fcb buffer s meets lf lb =
+      ≡ actsLeft script at fcbs buffers image map p
+  unfolding actsLeft run actsOf
+  acts-next h f b ef eb asked q img notes fcb buffer s meets lf lb =
       let x : ℕ = getD script (at + 5) 0 in
       let y : ℕ = getD script (at + 6) 0 in
       rw (

@@ -5,7 +5,7 @@ ghost use Prim.Native.Nat.{_+_, _≤_};
 ghost use lib.ListN.{length};
 ghost use Rattle.format.specs.Diskette.{eightInch};
 ghost use Rattle.demands.specs.Runs.{afterAct, run};
-ghost use Rattle.script.specs.Script.{askedAt, request, actBy, acts, callsLeft, Ends, diskOf};
+ghost use Rattle.script.specs.Script.{askedAt, request, actBy, actsOf, actsLeft, Ends, diskOf};
 use model::Asked;
 use model::Session;
 
@@ -75,7 +75,7 @@ fn make_act(
 
 // The next act of a script: those that are left, made on what it leaves, come to what they and it came to before. What it requires is the
 // loop's test and invariant.
-fn make_call(
+fn next_act(
     script: &[usize],
     at: usize,
     fcbs: &mut [u8],
@@ -85,8 +85,8 @@ fn make_call(
     p: Point,
 ) -> Point
     requires { ⌜ (at + 7 ≤ length (now script)) × (p .fcbs ≤ length (now fcbs)) × (p .buffers ≤ length (now buffers)) ⌝ }
-    ensures { λ r. ⌜ (callsLeft (now (script .entry)) (at + 7) (now (fcbs .exit)) (now (buffers .exit)) (now (image .exit)) (now (map .exit)) r
-        ≡ callsLeft (now (script .entry)) at (now (fcbs .entry)) (now (buffers .entry)) (now (image .entry)) (now (map .entry)) p)
+    ensures { λ r. ⌜ (actsLeft (now (script .entry)) (at + 7) (now (fcbs .exit)) (now (buffers .exit)) (now (image .exit)) (now (map .exit)) r
+        ≡ actsLeft (now (script .entry)) at (now (fcbs .entry)) (now (buffers .entry)) (now (image .entry)) (now (map .entry)) p)
         × (r .fcbs ≤ length (now (fcbs .entry))) × (r .buffers ≤ length (now (buffers .entry))) ⌝ }
 {
     let s = p.session;
@@ -113,7 +113,7 @@ fn make_call(
 }
 
 // The acts of a script, one after the other, with FCBs and buffers of any length.
-pub fn run_calls(
+pub fn run_script(
     script: &[usize],
     fcbs: &mut [u8],
     buffers: &mut [u8],
@@ -123,7 +123,7 @@ pub fn run_calls(
 ) -> Session
     ensures { λ r. ⌜ diskOf (now (image .exit)) (now (map .exit)) r
         ≡ run eightInch (diskOf (now (image .entry)) (now (map .entry)) session)
-        (acts (now (script .entry)) (now (fcbs .entry)) (now (buffers .entry))) ⌝ }
+        (actsOf (now (script .entry)) (now (fcbs .entry)) (now (buffers .entry))) ⌝ }
 {
     let mut p = Point {
         fcbs: 0,
@@ -132,7 +132,7 @@ pub fn run_calls(
     };
     let mut at = 0;
     while CALL_NUMBERS <= script.len() - at {
-        p = make_call(script, at, fcbs, buffers, image, map, p);
+        p = next_act(script, at, fcbs, buffers, image, map, p);
         at += CALL_NUMBERS;
     }
     p.session

@@ -80,7 +80,7 @@ module _ (G : Geometry) (asked : Asked) (l : Lent) (s : Session) where
         split (bool-cases (acceptedAnswer (asked .number) (readyStep G asked l s .answer)))
         (λ y. let c = accepted-facts y in
         rw y (makes (c .none)
-        ∙ sym (rw (none-passed (readyRows G asked l s) (c .free, c .none)) (where-dated (dated (rowsOf G l)) (stampsBy G asked l s (kindOf (asked .number))) dates))))
+        ∙ sym (rw (none-passed (readyRows G asked l s) (c .spared, c .none)) (where-dated (dated (rowsOf G l)) (stampsBy G asked l s (kindOf (asked .number))) dates))))
         (λ n. rw n (sym (refused-none n)))
 
     -- ---- the whole call, from what its own function leaves: as it is where no stamp is made, or with the stamps put

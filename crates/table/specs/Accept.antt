@@ -191,7 +191,7 @@ module _ (G : Geometry) (asked : Asked) (l : Lent) (s : Session) where
       let none = passed-none (rowsFor G asked l s) (sym (verdict-rows G asked l s t) ∙ q) in
       let ready = ready-of G asked l s (not-false (parametersRight G l asked s) (none .0)) (not-false (diskRight G l asked) (none .1 .0)) in
       let own = none .1 .1 .1 in
-      record { listed = t; ready = ready; free = none .1 .1 .0; none = own; own = own-of G asked l s own t ready (kindOf (asked .number)) refl }
+      record { listed = t; ready = ready; spared = none .1 .1 .0; none = own; own = own-of G asked l s own t ready (kindOf (asked .number)) refl }
 
   -- its own facts, where its kind is known
   pub own-at : {k : Kind} → AcceptedCall G asked l s → kindOf (asked .number) ≡ k → Own G asked l s k

@@ -15,7 +15,7 @@ use Rattle.model.specs.Step.{refusedSession, step}
 use Rattle.table.specs.First.{first-holds, first-passes}
 use Rattle.table.specs.Own.{verdict-rows, verdict-unlisted}
 use Rattle.table.specs.Facts.{Ready}
-use Rattle.table.specs.OwnStep.{verdict-held}
+use Rattle.table.specs.OwnStep.{verdict-stopped}
 
 module _ (G : Geometry) (asked : Asked) (l : Lent) (s : Session) where
   -- an answer that changed nothing
@@ -39,6 +39,6 @@ module _ (G : Geometry) (asked : Asked) (l : Lent) (s : Session) where
   disk-step r t p h =
       refuses-step BadDisk r (verdict-rows G asked l s t ∙ first-passes _ _ (ap not p) ∙ first-holds _ _ (ap not h))
 
-  pub held-step : (r : Answer) → isCall (asked .number) ≡ true → Ready G asked l s → protectionHolds G asked l s ≡ true
+  pub stopped-step : (r : Answer) → isCall (asked .number) ≡ true → Ready G asked l s → protectionHolds G asked l s ≡ true
       → r ≡ answerOf Protected (refusedSession Protected s) → outcome r (l .drive .image) (l .drive .map) (l .fcb) (l .buffer) ≡ step G asked l s
-  held-step r t d h = refuses-step Protected r (verdict-held G asked l s t d h)
+  stopped-step r t d h = refuses-step Protected r (verdict-stopped G asked l s t d h)

@@ -13,7 +13,7 @@ use Rattle.format.specs.Fcb.{fcbBytes, crOf}
 use Rattle.facts.specs.Found.{FoundAt}
 use Rattle.format.specs.declared.Found.the-variants.{Nothing}
 use Rattle.model.specs.declared.Session.{Session}
-use Rattle.model.specs.Lent.{Lent, rowsOf, searchOn}
+use Rattle.model.specs.Lent.{Lent, rowsOf, searchOn, withLifted}
 use Rattle.model.specs.Target.{targetExtent, presentEntry, targetEntry, blockThere, recordThere, readOnlyThere}
 use Rattle.model.specs.Search.{patternOf, findHit}
 use Rattle.model.specs.declared.Asked.{Asked}
@@ -31,6 +31,17 @@ pub record Fits (G : Geometry) (l : Lent) (s : Session) : Type 0 where
   pub buffer-long : length (l .buffer) ≡ recordBytes
   pub user-low : s .user ≤ 15
   pub place-low : s .place ≤ G .entries
+
+-- whatever the protection
+pub fits-lifted : {G : Geometry} {l : Lent} {s : Session} (b : ℕ) → Fits G l s → Fits G l (withLifted s b)
+fits-lifted b f = record {
+  image-long = f .image-long;
+  map-long = f .map-long;
+  fcb-long = f .fcb-long;
+  buffer-long = f .buffer-long;
+  user-low = f .user-low;
+  place-low = f .place-low;
+}
 
 module _ (G : Geometry) (l : Lent) (s : Session) where
   -- the files that a call names, by a pattern or not: there are some, and none of them is read-only
@@ -103,6 +114,9 @@ pub record Ready (G : Geometry) (asked : Asked) (l : Lent) (s : Session) : Type 
   pub image-right : consistent G (l .drive .image) ≡ true
   pub map-right : (asked .number ≡ 13 → ⊥) → mapRight G (rowsOf G l) (l .drive .map) ≡ true
 
+pub ready-lifted : {G : Geometry} {asked : Asked} {l : Lent} {s : Session} (b : ℕ) → Ready G asked l s → Ready G asked l (withLifted s b)
+ready-lifted b r = record { fits = fits-lifted b (r .fits); time = r .time; drive = r .drive; image-right = r .image-right; map-right = r .map-right }
+
 -- a call's own facts, by its kind, and by its number where the calls of a kind differ
 abbrev pub Own : Geometry → Asked → Lent → Session → Kind → Type 0
 Own G asked l s Unlisted = ⊥
@@ -122,6 +136,6 @@ pub record AcceptedCall (G : Geometry) (asked : Asked) (l : Lent) (s : Session) 
   pub listed : isCall (asked .number) ≡ true
   pub ready : Ready G asked l s
   -- the protection does not refuse it
-  pub free : protectionHolds G asked l s ≡ false
+  pub spared : protectionHolds G asked l s ≡ false
   pub none : NoneHolds (ownRows G asked l s)
   pub own : Own G asked l s (kindOf (asked .number))

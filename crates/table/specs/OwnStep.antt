@@ -56,9 +56,9 @@ module _ (G : Geometry) (asked : Asked) (l : Lent) (s : Session) where
   unfoldable pub readyStep : Outcome
   readyStep = carriedOut G asked l s (firstRow (readyRows G asked l s))
 
-  pub ready-held : protectionHolds G asked l s ≡ true → readyStep ≡ refused Protected s l
+  pub ready-stopped : protectionHolds G asked l s ≡ true → readyStep ≡ refused Protected s l
   unfolding readyStep
-  ready-held h = ap (carriedOut G asked l s) (first-holds _ _ h)
+  ready-stopped h = ap (carriedOut G asked l s) (first-holds _ _ h)
 
   pub ready-own : protectionHolds G asked l s ≡ false → readyStep ≡ ownStep
   unfolding readyStep ownStep
@@ -71,8 +71,8 @@ module _ (G : Geometry) (asked : Asked) (l : Lent) (s : Session) where
       ∙ first-passes (when (not (parametersRight G l asked s)) BadParameter) _ (ap not (parameters-right G asked l s (r .fits) (r .time) (r .drive)))
       ∙ first-passes (when (not (diskRight G l asked)) BadDisk) _ (ap not (disk-right G asked l s (r .image-right) (r .map-right)))
 
-  pub verdict-held : isCall (asked .number) ≡ true → Ready G asked l s → protectionHolds G asked l s ≡ true → verdict G asked l s ≡ Refused Protected
-  verdict-held t r h = verdict-ready t r ∙ first-holds _ _ h
+  pub verdict-stopped : isCall (asked .number) ≡ true → Ready G asked l s → protectionHolds G asked l s ≡ true → verdict G asked l s ≡ Refused Protected
+  verdict-stopped t r h = verdict-ready t r ∙ first-holds _ _ h
 
   -- the step of a call is what they leave, stamped
   pub step-ready : isCall (asked .number) ≡ true → Ready G asked l s → step G asked l s ≡ stampedOutcome G (stampsMade G asked l s (firstRow (readyRows G asked l s))) readyStep

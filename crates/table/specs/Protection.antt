@@ -1,7 +1,7 @@
 -- The row of 255, 2: of which calls and sessions it can hold at all, and of which it does.
 use mathlib.Core.Path.{_≡_, refl, sym, ap, _∙_}
 use mathlib.Core.Bool.{Bool, true, false, not}
-use mathlib.Core.List.{List, [], _∷_}
+use mathlib.Core.List.{List, _++_}
 use Prim.Native.Nat.{ℕ}
 use Rattle.lists.specs.Cases.{split, bool-cases, clash, not-both, refute}
 use Rattle.lists.specs.Tests.{and-left, and-right, and-both, and-fails-left, and-fails-right, and-then, or-left, or-right, or-then, or-cases}
@@ -22,19 +22,19 @@ use Rattle.model.specs.Kinds.{kindOf, same, ofRecord, oneOf}
 use Rattle.model.specs.Lent.{Lent, rowsOf, protected}
 use Rattle.model.specs.Closing.{closeChanges}
 use Rattle.model.specs.Target.{presentEntry, stays, targetEntry, planTo, planFrom, plan}
-use Rattle.model.specs.Table.{writers, readers, ownRows, isPassed, wouldSucceed, moveChanges, protectionHolds}
+use Rattle.model.specs.Table.{changers, readers, ownRows, isPassed, wouldSucceed, moveChanges, protectionHolds}
 use Rattle.table.specs.First.{_&_, NoneHolds, Decides, passed-none, none-passed, decides-refused}
 use Rattle.table.specs.Own.{at-one, at-kind, same-is, kinds-apart}
 
 -- all of which it can hold
-abbrev pub heldCalls : List ℕ
-heldCalls = 16 ∷ 19 ∷ 20 ∷ 21 ∷ 22 ∷ 23 ∷ 33 ∷ 34 ∷ []
+abbrev pub stoppedCalls : List ℕ
+stoppedCalls = changers ++ readers
 
-writer-held : (n : ℕ) → oneOf n writers ≡ true → oneOf n heldCalls ≡ true
-writer-held n h = at-one (λ (m : ℕ). oneOf m heldCalls ≡ true) n writers h (refl & refl & refl & refl & refl & refl & tt)
+changer-listed : (n : ℕ) → oneOf n changers ≡ true → oneOf n stoppedCalls ≡ true
+changer-listed n h = at-one (λ (m : ℕ). oneOf m stoppedCalls ≡ true) n changers h (refl & refl & refl & refl & refl & refl & tt)
 
-reader-held : (n : ℕ) → oneOf n readers ≡ true → oneOf n heldCalls ≡ true
-reader-held n h = at-one (λ (m : ℕ). oneOf m heldCalls ≡ true) n readers h (refl & refl & tt)
+reader-listed : (n : ℕ) → oneOf n readers ≡ true → oneOf n stoppedCalls ≡ true
+reader-listed n h = at-one (λ (m : ℕ). oneOf m stoppedCalls ≡ true) n readers h (refl & refl & tt)
 
 -- 20 and 33 are the reads
 pub not-reader : (n : ℕ) (k : Kind) → kindOf n ≡ k → same k Read ≡ false → oneOf n readers ≡ false
@@ -43,15 +43,19 @@ not-reader n k q f =
     sym (refute _ (λ t. kinds-apart k Read f (sym q ∙ at-one (λ (m : ℕ). kindOf m ≡ Read) n readers t (refl & refl & tt))))
 
 -- and a record call that does not write is one
-pub record-reads : (n : ℕ) → ofRecord (kindOf n) ≡ true → oneOf n writers ≡ false → kindOf n ≡ Read
+pub record-reads : (n : ℕ) → ofRecord (kindOf n) ≡ true → oneOf n changers ≡ false → kindOf n ≡ Read
 record-reads n h f =
     split (bool-cases (same (kindOf n) Read)) (λ t. same-is (kindOf n) Read t)
-    (λ g. not-both (oneOf n writers)
-    (at-kind (λ (m : ℕ). oneOf m writers ≡ true) Write n refl (refl & refl & tt) (same-is (kindOf n) Write (rw g at h))) f)
+    (λ g. not-both (oneOf n changers)
+    (at-kind (λ (m : ℕ). oneOf m changers ≡ true) Write n refl (refl & refl & tt) (same-is (kindOf n) Write (rw g at h))) f)
 
-passed-is : (v : Verdict) → isPassed v ≡ true → v ≡ Passed
-passed-is Passed h = refl
-passed-is (Refused c) h = clash (sym h)
+passed-verdict : (v : Verdict) → isPassed v ≡ true → v ≡ Passed
+passed-verdict Passed h = refl
+passed-verdict (Refused c) h = clash (sym h)
+
+-- on a protected session the call is none of those that change the disk
+abbrev pub Unchanging : Session → ℕ → Type 0
+Unchanging s n = protected s ≡ true → oneOf n changers ≡ false
 
 -- a plan moves, and the close of its move changes the entry
 abbrev pub planChanges : Geometry → Lent → Plan → Bool
@@ -61,38 +65,39 @@ planChanges G l (Make e t b) = closeChanges G (rowsOf G l e) (l .fcb)
 
 module _ (G : Geometry) (asked : Asked) (l : Lent) (s : Session) where
   -- ---- where it holds
-  pub holds-protected : protectionHolds G asked l s ≡ true → protected s ≡ true
+  pub stopped-call : protectionHolds G asked l s ≡ true → oneOf (asked .number) stoppedCalls ≡ true
   unfolding protectionHolds
-  holds-protected h = and-left _ _ h
+  stopped-call h = split (or-cases _ _ (and-right _ _ h)) (λ w. changer-listed (asked .number) w) (λ r. reader-listed (asked .number) (and-left _ _ r))
 
-  pub holds-call : protectionHolds G asked l s ≡ true → oneOf (asked .number) heldCalls ≡ true
+  -- a read of which it holds would else succeed
+  pub stopped-succeeds : protectionHolds G asked l s ≡ true → oneOf (asked .number) changers ≡ false → wouldSucceed G asked l s ≡ true
   unfolding protectionHolds
-  holds-call h = split (or-cases _ _ (and-right _ _ h)) (λ w. writer-held (asked .number) w) (λ r. reader-held (asked .number) (and-left _ _ r))
+  stopped-succeeds h f = and-left _ _ (and-right _ _ (sym (or-then _ _ f) ∙ and-right _ _ h))
 
   -- ---- a session with the protection lifted is not refused so, nor is any other call
-  pub lifted-open : protected s ≡ false → protectionHolds G asked l s ≡ false
+  pub lifted-spared : protected s ≡ false → protectionHolds G asked l s ≡ false
   unfolding protectionHolds
-  lifted-open f = and-fails-left _ _ f
+  lifted-spared f = and-fails-left _ _ f
 
-  pub other-open : oneOf (asked .number) heldCalls ≡ false → protectionHolds G asked l s ≡ false
-  other-open f = sym (refute _ (λ t. not-both (oneOf (asked .number) heldCalls) (holds-call t) f))
+  pub other-spared : oneOf (asked .number) stoppedCalls ≡ false → protectionHolds G asked l s ≡ false
+  other-spared f = sym (refute _ (λ t. not-both (oneOf (asked .number) stoppedCalls) (stopped-call t) f))
 
-  -- nor, where the session of a call that writes is not protected, is any but a read
-  pub unread-open : (protected s ≡ true → oneOf (asked .number) writers ≡ false) → oneOf (asked .number) readers ≡ false → protectionHolds G asked l s ≡ false
+  -- nor, where a protected session is asked none that changes the disk, is any but a read
+  pub unread-spared : Unchanging s (asked .number) → oneOf (asked .number) readers ≡ false → protectionHolds G asked l s ≡ false
   unfolding protectionHolds
-  unread-open w r =
+  unread-spared w r =
       split (bool-cases (protected s)) (λ t. and-fails-right _ _ (or-then _ _ (w t) ∙ and-fails-left _ _ r)) (λ f. and-fails-left _ _ f)
 
   -- ---- the calls that it holds of on every protected session
-  pub writer-closed : protected s ≡ true → oneOf (asked .number) writers ≡ true → protectionHolds G asked l s ≡ true
+  pub changer-stopped : protected s ≡ true → oneOf (asked .number) changers ≡ true → protectionHolds G asked l s ≡ true
   unfolding protectionHolds
-  writer-closed p w = and-both _ _ p (or-left _ _ w)
+  changer-stopped p w = and-both _ _ p (or-left _ _ w)
 
   -- ---- the reads: where it does not hold, one that succeeds makes no move that changes an entry
-  pub read-closed : protected s ≡ true → oneOf (asked .number) readers ≡ true → wouldSucceed G asked l s ≡ true → moveChanges G asked l s ≡ true
+  pub read-stopped : protected s ≡ true → oneOf (asked .number) readers ≡ true → wouldSucceed G asked l s ≡ true → moveChanges G asked l s ≡ true
       → protectionHolds G asked l s ≡ true
   unfolding protectionHolds
-  read-closed p r t m = and-both _ _ p (or-right _ _ (and-both _ _ r (and-both _ _ t m)))
+  read-stopped p r t m = and-both _ _ p (or-right _ _ (and-both _ _ r (and-both _ _ t m)))
 
   pub none-succeeds : NoneHolds (ownRows G asked l s) → wouldSucceed G asked l s ≡ true
   unfolding wouldSucceed
@@ -100,26 +105,26 @@ module _ (G : Geometry) (asked : Asked) (l : Lent) (s : Session) where
 
   pub succeeds-none : wouldSucceed G asked l s ≡ true → NoneHolds (ownRows G asked l s)
   unfolding wouldSucceed
-  succeeds-none t = passed-none (ownRows G asked l s) (passed-is _ t)
+  succeeds-none t = passed-none (ownRows G asked l s) (passed-verdict _ t)
 
-  pub open-unchanged : protected s ≡ true → oneOf (asked .number) readers ≡ true → NoneHolds (ownRows G asked l s) → protectionHolds G asked l s ≡ false
+  pub spared-unchanged : protected s ≡ true → oneOf (asked .number) readers ≡ true → NoneHolds (ownRows G asked l s) → protectionHolds G asked l s ≡ false
       → moveChanges G asked l s ≡ false
-  open-unchanged p r n o = sym (refute _ (λ m. not-both (protectionHolds G asked l s) (read-closed p r (none-succeeds n) m) o))
+  spared-unchanged p r n o = sym (refute _ (λ m. not-both (protectionHolds G asked l s) (read-stopped p r (none-succeeds n) m) o))
 
   -- a read that moves nowhere, or whose close changes nothing, is not refused so
-  pub unchanged-open : oneOf (asked .number) readers ≡ true → moveChanges G asked l s ≡ false → protectionHolds G asked l s ≡ false
+  pub unchanged-spared : oneOf (asked .number) readers ≡ true → moveChanges G asked l s ≡ false → protectionHolds G asked l s ≡ false
   unfolding protectionHolds
-  unchanged-open r m =
+  unchanged-spared r m =
       and-fails-right _ _
-      (or-then _ _ (at-one (λ (n : ℕ). oneOf n writers ≡ false) (asked .number) readers r (refl & refl & tt))
+      (or-then _ _ (at-one (λ (n : ℕ). oneOf n changers ≡ false) (asked .number) readers r (refl & refl & tt))
       ∙ and-fails-right _ _ (and-fails-right _ _ m))
 
   -- nor is one that a row of its own refuses: that row then decides
-  pub refused-open : oneOf (asked .number) readers ≡ true → (code : Code) → Decides code (ownRows G asked l s) → protectionHolds G asked l s ≡ false
+  pub failing-spared : oneOf (asked .number) readers ≡ true → (code : Code) → Decides code (ownRows G asked l s) → protectionHolds G asked l s ≡ false
   unfolding protectionHolds wouldSucceed
-  refused-open r code d =
+  failing-spared r code d =
       and-fails-right _ _
-      (or-then _ _ (at-one (λ (n : ℕ). oneOf n writers ≡ false) (asked .number) readers r (refl & refl & tt))
+      (or-then _ _ (at-one (λ (n : ℕ). oneOf n changers ≡ false) (asked .number) readers r (refl & refl & tt))
       ∙ and-fails-right _ _ (and-fails-left _ _ (ap isPassed (decides-refused code (ownRows G asked l s) d))))
 
   pub stay-unchanged : stays (asked .number) (l .fcb) ≡ true → moveChanges G asked l s ≡ false

@@ -31,7 +31,7 @@ use Rattle.model.specs.Search.{patternOf, findHit}
 use Rattle.model.specs.Table.{parametersRight, diskRight, Row, RowFor, when, keep, rowsAt, callRows, firstRow, ownRows, protectionHolds, verdict}
 use Rattle.table.specs.First.{_&_, NoneHolds, Decides, here, later, passed-refused, refused-same, refused-decides, decides-refused}
 use Rattle.table.specs.Own.{calling, at-one, rowsFor, verdict-rows, verdict-unlisted}
-use Rattle.table.specs.Protection.{heldCalls, holds-call, other-open}
+use Rattle.table.specs.Protection.{stoppedCalls, stopped-call, other-spared}
 use Rattle.table.specs.Facts.{Ready}
 use Rattle.table.specs.Reflect.{pattern-of, pattern-right, parameters-right, disk-right, ready-of}
 
@@ -124,7 +124,7 @@ hasCode c [] = false
 hasCode c (r ∷ rs) = cond (isCode c (r .code)) true (hasCode c rs)
 
 -- the calls that a row of their own may refuse with a code, as document 01's table has them, 3, 0 aside. The first three rows are every call's, that of
--- the protection has its own list (`Protection: heldCalls`), and an acceptance is no refusal
+-- the protection has its own list (`Protection: stoppedCalls`), and an acceptance is no refusal
 abbrev pub gives : Code → List ℕ
 gives (Code.Accepted a) = []
 gives Code.NotListed = []
@@ -179,13 +179,13 @@ module _ (G : Geometry) (asked : Asked) (l : Lent) (s : Session) where
     unlisted : code ≡ Code.NotListed → isCall (asked .number) ≡ false → Refuses code
     parameter : code ≡ Code.BadParameter → isCall (asked .number) ≡ true → parametersRight G l asked s ≡ false → Refuses code
     disk : code ≡ Code.BadDisk → isCall (asked .number) ≡ true → diskRight G l asked ≡ false → Refuses code
-    protection : code ≡ Code.Protected → oneOf (asked .number) heldCalls ≡ true → Ready G asked l s → protectionHolds G asked l s ≡ true → Refuses code
+    protection : code ≡ Code.Protected → oneOf (asked .number) stoppedCalls ≡ true → Ready G asked l s → protectionHolds G asked l s ≡ true → Refuses code
     own : oneOf (asked .number) (gives code) ≡ true → Ready G asked l s → protectionHolds G asked l s ≡ false → Decides code (ownRows G asked l s) → Refuses code
 
   refuses-call : (code : Code) → isCall (asked .number) ≡ true → Decides code (rowsFor G asked l s) → Refuses code
   refuses-call code c (here t q) = parameter (sym q) c (not-true _ t)
   refuses-call code c (later f (here t q)) = disk (sym q) c (not-true _ t)
-  refuses-call code c (later f (later g (here t q))) = protection (sym q) (holds-call G asked l s t) (ready-of G asked l s (not-false _ f) (not-false _ g)) t
+  refuses-call code c (later f (later g (here t q))) = protection (sym q) (stopped-call G asked l s t) (ready-of G asked l s (not-false _ f) (not-false _ g)) t
   refuses-call code c (later f (later g (later p d))) = own (own-given code d) (ready-of G asked l s (not-false _ f) (not-false _ g)) p d
 
   pub refuses : (code : Code) → verdict G asked l s ≡ Refused code → Refuses code
@@ -258,5 +258,5 @@ module _ (G : Geometry) (asked : Asked) (l : Lent) (s : Session) where
   pub over-search : (n : ℕ) → SearchEnds G asked l s n → verdict G (calling n asked) l s ≡ Refused Code.SearchOver
   unfolding isCall kindOf
   over-search n (ends17 r name ex none) =
-      refused-own G (calling 17 asked) l s Code.SearchOver refl r (other-open G (calling 17 asked) l s refl) (later (ap not name) (later (pattern-right _ ex) (here (missed-row _ none) refl)))
-  over-search n (ends18 r is-on none) = refused-own G (calling 18 asked) l s Code.SearchOver refl r (other-open G (calling 18 asked) l s refl) (later (ap not is-on) (here (missed-row _ none) refl))
+      refused-own G (calling 17 asked) l s Code.SearchOver refl r (other-spared G (calling 17 asked) l s refl) (later (ap not name) (later (pattern-right _ ex) (here (missed-row _ none) refl)))
+  over-search n (ends18 r is-on none) = refused-own G (calling 18 asked) l s Code.SearchOver refl r (other-spared G (calling 18 asked) l s refl) (later (ap not is-on) (here (missed-row _ none) refl))

@@ -2,7 +2,7 @@
 use mathlib.Core.Path.{_≡_, refl, sym, ap, _∙_}
 use mathlib.Core.Logic.{_⊎_, inl, inr}
 use mathlib.Core.Bool.{true, false, cond}
-use Prim.Native.Nat.{_≤_, _<_}
+use Prim.Native.Nat.{ℕ, _≤_, _<_}
 use native.Mathlib.Omega.{arith}
 use lib.Dec.{eqb}
 use borrow.Author.Tests.{eq-eqb, ne-eqb}
@@ -17,7 +17,7 @@ use Rattle.model.specs.declared.Verdict.{Verdict}
 use Rattle.model.specs.declared.Verdict.the-variants.{Passed, Refused}
 use Rattle.model.specs.Codes.{saysOf, aOf, hOf}
 use Rattle.model.specs.Kinds.{kindOf, isCall}
-use Rattle.model.specs.Lent.{Lent, Outcome, ended, withUser}
+use Rattle.model.specs.Lent.{Lent, Outcome, ended, withUser, withLifted}
 use Rattle.model.specs.Search.{findHit}
 use Rattle.model.specs.Table.{ownRows, protectionHolds, table, verdict}
 use Rattle.model.specs.Step.{refusedSession, refused, place, effect, stamped, step}
@@ -128,6 +128,10 @@ module _ (G : Geometry) (asked : Asked) (l : Lent) (s : Session) where
 pub record InRange (G : Geometry) (s : Session) : Type 0 where
   pub user : s .user ≤ 15
   pub place : s .place ≤ G .entries
+
+-- whatever the protection
+pub range-lifted : {G : Geometry} {s : Session} (b : ℕ) → InRange G s → InRange G (withLifted s b)
+range-lifted b r = record { user = r .user; place = r .place }
 
 ended-range : (G : Geometry) (s : Session) → InRange G s → InRange G (ended s)
 ended-range G s r = record { user = r .user; place = omega arith }

@@ -45,16 +45,16 @@ same-length-6 : tie.Need-same-length-6
 same-length-6 c = c .before .before .before .before .before .before .before .before .before .before .before .before .before .before .before .before .before .before .before .before .before .before .before .before .call .kept .1 .1 .1 .1 .0
 
 same-length-7 : tie.Need-same-length-7
-same-length-7 c = c .before .before .before .before .before .before .before .before .run-calls .kept .1 .0
+same-length-7 c = c .before .before .before .before .before .before .before .before .run-script .kept .1 .0
 
 same-length-8 : tie.Need-same-length-8
-same-length-8 c = c .before .before .before .before .before .before .before .before .run-calls .kept .1 .1 .0
+same-length-8 c = c .before .before .before .before .before .before .before .before .run-script .kept .1 .1 .0
 
 same-length-9 : tie.Need-same-length-9
-same-length-9 c = c .before .before .before .before .before .before .before .before .run-calls .kept .1 .1 .1 .0 ∙ c .before .before .before .before .before .before .before .before .before .before .before .before .before .before .before .before .before .before .before .before .before .before .before .before .call .kept .1 .0
+same-length-9 c = c .before .before .before .before .before .before .before .before .run-script .kept .1 .1 .1 .0 ∙ c .before .before .before .before .before .before .before .before .before .before .before .before .before .before .before .before .before .before .before .before .before .before .before .before .call .kept .1 .0
 
 same-length-10 : tie.Need-same-length-10
-same-length-10 c = c .before .before .before .before .before .before .before .before .run-calls .kept .1 .1 .1 .1 .0 ∙ c .before .before .before .before .before .before .before .before .before .before .before .before .before .before .before .before .before .before .before .before .before .before .before .before .call .kept .1 .1 .0
+same-length-10 c = c .before .before .before .before .before .before .before .before .run-script .kept .1 .1 .1 .1 .0 ∙ c .before .before .before .before .before .before .before .before .before .before .before .before .before .before .before .before .before .before .before .before .before .before .before .before .call .kept .1 .1 .0
 
 returns-2 : tie.Need-returns-2
 returns-2 c =
@@ -62,7 +62,7 @@ returns-2 c =
     let meets = c .before .before .before .before .before .before .before .before .before .before .before .before .before .before .before .before .before .before .before .before .before .before .before .before .call .ensures in
     logged-in (given s) (asks s) refl _ _
     (met-says (given s) (asks s) _ _ _ meets refl refl acceptedAnswer _ true (c .before .before .before .before .before .before .before .before .before .before .before .before .before .before .accepted .ensures) (not-false _ (c .before .before .before .before .before .before .before .before .before .before .before .before .before .if1 .left)))
-    (met-run (given s) (asks s) _ _ _ meets refl refl _ _ (c .before .before .before .before .before .before .before .before .run-calls .ensures))
+    (met-run (given s) (asks s) _ _ _ meets refl refl _ _ (c .before .before .before .before .before .before .before .before .run-script .ensures))
     _ (met (given s) (asks s) _ _ _ meets refl refl)
 
 pub log-in-and-run-spec : {M : Type 1} → statement M

@@ -4,7 +4,7 @@ use borrow.Author.Needs.{needs}
 use Rattle.format.specs.Diskette.{eightInch}
 use Rattle.model.specs.declared.Session.{Session}
 use Rattle.demands.specs.Runs.{run}
-use Rattle.script.specs.Script.{acts, diskOf}
+use Rattle.script.specs.Script.{actsOf, diskOf}
 use Rattle.assured.specs.Demands.{untouched}
 use Rattle.assured.proofs.run_protected.Statement.{statement}
 use Rattle.assured.proofs.run_protected.Tie as tie
@@ -12,9 +12,9 @@ use Rattle.assured.proofs.run_protected.Tie as tie
 returns : tie.Need-returns
 returns c =
     let a = c .before .before .before .before .before .before .before .before .before .before .before .before .before .before .before .before .before .before .before .args in
-    untouched (diskOf (a .image .now) (a .map .now) (a .session)) (acts (a .script .now) (a .fcbs .now) (a .buffers .now)) _
-    (c .before .before .before .before .before .before .before .before .run-calls .ensures
-    ∙ ap (λ (s : Session). run eightInch (diskOf (a .image .now) (a .map .now) s) (acts (a .script .now) (a .fcbs .now) (a .buffers .now))) (c .before .before .before .before .before .before .before .before .before .before .before .before .before .benzo-protect .ensures))
+    untouched (diskOf (a .image .now) (a .map .now) (a .session)) (actsOf (a .script .now) (a .fcbs .now) (a .buffers .now)) _
+    (c .before .before .before .before .before .before .before .before .run-script .ensures
+    ∙ ap (λ (s : Session). run eightInch (diskOf (a .image .now) (a .map .now) s) (actsOf (a .script .now) (a .fcbs .now) (a .buffers .now))) (c .before .before .before .before .before .before .before .before .before .before .before .before .before .benzo-protect .ensures))
 
 pub run-protected-spec : {M : Type 1} → statement M
 run-protected-spec =

@@ -11,7 +11,7 @@ use Rattle.model.specs.Table.{parametersRight}
 use Rattle.table.specs.Facts.{Ready}
 use Rattle.table.specs.Reflect.{fits-of, ready-of}
 use Rattle.table.specs.OwnStep.{ready-own, own-at}
-use Rattle.table.specs.Protection.{heldCalls, other-open}
+use Rattle.table.specs.Protection.{stoppedCalls, other-spared}
 use Rattle.table.specs.Early.{unlisted-step, parameter-step, disk-step}
 use Rattle.stamping.specs.Made.{made-at, step-plain, log-in-made}
 use Rattle.bdos.proofs.call.Statement.{statement}
@@ -67,7 +67,7 @@ returns-4 c =
     let thirteen = c .before .before .before .before .before .if4 .taken in
     step-plain eightInch a _ (s .args .session) (called (c .before .before .before .before .before .before .before .before .before .before .before .before .before .before .before .before .before .before .before .before .before .before)) (ready (c .before .before .before .before .before .before)) _ _ _ _ _
     (c .before .before .log-in .ensures a _ _ _ (c .before .before .before .before .before .before .before .before .before .before .disk-right .ensures .1 (not-false _ (c .before .before .before .before .before .before .if3 .left)) .0) ∙ own-at eightInch a _ _ 13 thirteen
-    ∙ sym (ready-own eightInch a (given s) (s .args .session) (other-open eightInch a (given s) (s .args .session) (ap (λ (n : ℕ). oneOf n heldCalls) thirteen))))
+    ∙ sym (ready-own eightInch a (given s) (s .args .session) (other-spared eightInch a (given s) (s .args .session) (ap (λ (n : ℕ). oneOf n stoppedCalls) thirteen))))
     (sym (made-at eightInch a (given s) (s .args .session) 13 thirteen) ∙ log-in-made eightInch a (given s) (s .args .session))
 
 ready-call-requires : tie.Need-ready-call-requires

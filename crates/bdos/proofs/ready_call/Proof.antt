@@ -4,8 +4,8 @@ use mathlib.Core.Path.{sym, _∙_}
 use borrow.Author.Needs.{needs}
 use Rattle.lists.specs.Tests.{and-left, and-right, second-fails}
 use Rattle.format.specs.Diskette.{eightInch}
-use Rattle.table.specs.Early.{held-step}
-use Rattle.table.specs.Protection.{writer-closed}
+use Rattle.table.specs.Early.{stopped-step}
+use Rattle.table.specs.Protection.{changer-stopped}
 use Rattle.bdos.proofs.ready_call.Statement.{statement}
 use Rattle.bdos.proofs.ready_call.Tie as tie
 
@@ -13,8 +13,8 @@ returns : tie.Need-returns
 returns c =
     let s = c .before .before .before .before .before .before .before .before in
     let held = sym (c .before .before .refuses .ensures (s .args .asked .number) (sym (s .pre .0))) ∙ c .before .if1 .taken in
-    held-step eightInch (s .args .asked) _ (s .args .session) _ (s .pre .1) (s .pre .3)
-    (writer-closed eightInch (s .args .asked) _ (s .args .session) (and-left _ _ held) (and-right _ _ held)) (c .refuse .ensures)
+    stopped-step eightInch (s .args .asked) _ (s .args .session) _ (s .pre .1) (s .pre .3)
+    (changer-stopped eightInch (s .args .asked) _ (s .args .session) (and-left _ _ held) (and-right _ _ held)) (c .refuse .ensures)
 
 passed-call-requires : tie.Need-passed-call-requires
 passed-call-requires c κs =

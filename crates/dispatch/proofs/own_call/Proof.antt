@@ -4,7 +4,7 @@ use mathlib.Core.Path.{_≡_, refl, sym, _∙_}
 use mathlib.Core.Bool.{true, false}
 use Rattle.format.specs.Diskette.{eightInch}
 use Rattle.table.specs.Own.{not-unlisted}
-use Rattle.table.specs.Protection.{not-reader, record-reads, unread-open}
+use Rattle.table.specs.Protection.{not-reader, unread-spared}
 use Rattle.table.specs.OwnStep.{ownStep, readyStep, ready-own, own-at}
 use Rattle.calls.specs.Apart.{moves-record}
 use Rattle.dispatch.specs.Numbers.{only-of, other-of, at-number}
@@ -26,7 +26,7 @@ spared : (s : tie.Start) (k : Kind) → s .args .kind ≡ k → same k Read ≡ 
 spared s k q f =
     let a = s .args in
     sym (ready-own eightInch (a .asked) (given s) (a .session)
-    (unread-open eightInch (a .asked) (given s) (a .session) (s .pre .5) (not-reader (a .asked .number) k (sym (s .pre .0) ∙ q) f)))
+    (unread-spared eightInch (a .asked) (given s) (a .session) (s .pre .5) (not-reader (a .asked .number) k (sym (s .pre .0) ∙ q) f)))
 
 quiet-call-requires : tie.Need-quiet-call-requires
 quiet-call-requires c κs =
@@ -45,7 +45,7 @@ record-call-requires : tie.Need-record-call-requires
 record-call-requires c κs =
     let m = c .before .before .before .before in let s = m .before .before .before .before .before .before in let p = s .pre in let f = p .3 .fits in
     let moves : ofRecord (kindOf (s .args .asked .number)) ≡ true = rw (← p .0) (moves-record (s .args .kind) (m .match .keys9)) in
-    (f .map-long, f .buffer-long, p .3 .image-right, moves, λ t. record-reads (s .args .asked .number) moves (p .5 t), search needs)
+    (f .map-long, f .buffer-long, p .3 .image-right, moves, p .5, search needs)
 
 returns : tie.Need-returns
 returns c = c .before .before .before .before .quiet-call .ensures ∙ spared (c .before .before .before .before .before .before .before .before .before .before .before .before .before .before .before .before) Quiet (c .before .before .before .before .before .before .before .before .before .enum-told .given .1) refl

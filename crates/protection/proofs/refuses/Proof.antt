@@ -6,7 +6,7 @@ use Rattle.protection.proofs.refuses.Statement.{statement}
 use Rattle.protection.proofs.refuses.Tie as tie
 
 returns : tie.Need-returns
-returns c n q = c .kind-writes .ensures n q ∙ sym (and-then _ _ (sym (c .before .before .is-protected .ensures) ∙ c .before .if1 .taken))
+returns c n q = c .kind-changes .ensures n q ∙ sym (and-then _ _ (sym (c .before .before .is-protected .ensures) ∙ c .before .if1 .taken))
 
 returns-2 : tie.Need-returns-2
 returns-2 c n q = sym (and-fails-left _ _ (sym (c .before .is-protected .ensures) ∙ c .if1 .left))

@@ -4,10 +4,11 @@ use Rattle.format.specs.Diskette.{eightInch}
 use Rattle.disk.specs.Eight.{eight-sound}
 use Rattle.facts.specs.Naming.{run-own}
 use Rattle.model.specs.Lent.{lend}
+use Rattle.table.specs.Protection.{record-reads}
 use Rattle.rulings.specs.declared.Ruling.the-variants.{Follow}
 use Rattle.rulings.specs.Ruling.{ruling}
 use Rattle.rulings.specs.Bounds.{Sure, ruling-sure}
-use Rattle.records.specs.Carry.{record-refused, record-held, record-carried}
+use Rattle.records.specs.Carry.{record-refused, record-stopped, record-carried}
 use borrow.Author.Needs.{needs}
 use Rattle.records.proofs.record_call.Statement.{statement}
 use Rattle.records.proofs.record_call.Tie as tie
@@ -37,21 +38,21 @@ follow-requires c κs =
 returns : tie.Need-returns
 returns c =
     let d = c .before .before .before .before .before in let s = d .before .before .before .before .before .before .before .before .before .before .before .before .before .before in let a = s .args in
-    record-held eightInch (a .asked) (lend (a .image .now) (a .map .now) (a .fcb .now) (a .buffer .now)) (a .session) (c .refuse2 .result) (s .pre .3) (s .pre .4)
+    record-stopped eightInch (a .asked) (lend (a .image .now) (a .map .now) (a .fcb .now) (a .buffer .now)) (a .session) (c .refuse2 .result) (s .pre .3) (λ t. record-reads (a .asked .number) (s .pre .3) (s .pre .4 t))
     (d .before .plan .given .0 .0) (follows d) (sym (c .before .before .stops .ensures (a .map .now) (a .buffer .now)) ∙ c .before .if1 .taken) (c .refuse2 .ensures)
 
 -- its ruling refuses it
 returns-2 : tie.Need-returns-2
 returns-2 c =
     let s = c .before .before .before .before .before .before .before .before .before .before .before .before .before .before .before in let a = s .args in
-    record-refused eightInch (a .asked) (lend (a .image .now) (a .map .now) (a .fcb .now) (a .buffer .now)) (a .session) (c .refuse .result) (s .pre .3) (s .pre .4)
+    record-refused eightInch (a .asked) (lend (a .image .now) (a .map .now) (a .fcb .now) (a .buffer .now)) (a .session) (c .refuse .result) (s .pre .3) (λ t. record-reads (a .asked .number) (s .pre .3) (s .pre .4 t))
     (c .before .before .code .given .0 .0) (sym (c .before .before .before .before .rule .ensures (a .buffer .now)) ∙ c .before .before .code .given .1) (c .refuse .ensures)
 
 returns-3 : tie.Need-returns-3
 returns-3 c =
     let f = c .before .before .before .before .before .before .before .before .before in let d = f .before .before .before .before .before .before .before .before .before in let t = d .before .before .before .before .before .before .before .target-of in let s = d .before .before .before .before .before .before .before .before .before .before .before .before .before .before in let a = s .args in
     let left = f .follow .last .1 in
-    record-carried eightInch (a .asked) (lend (a .image .now) (a .map .now) (a .fcb .now) (a .buffer .now)) (a .session) (c .done .result) (s .pre .3) (s .pre .4)
+    record-carried eightInch (a .asked) (lend (a .image .now) (a .map .now) (a .fcb .now) (a .buffer .now)) (a .session) (c .done .result) (s .pre .3) (λ t. record-reads (a .asked .number) (s .pre .3) (s .pre .4 t))
     (d .before .plan .given .0 .0) (t .result) (lend (left .0) (left .1 .0) (left .1 .1 .0) (left .1 .1 .1 .0)) (follows d)
     (sym (f .before .before .before .before .before .before .stops .ensures (a .map .now) (a .buffer .now)) ∙ f .before .before .before .before .before .if1 .left) (t .ensures) (c .done .ensures) (f .follow .ensures)
 

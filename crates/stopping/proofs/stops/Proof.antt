@@ -2,8 +2,8 @@
 use mathlib.Core.Path.{sym, _∙_}
 use borrow.Author.Needs.{needs}
 use Rattle.lists.specs.Tests.{and-then, and-fails-left}
-use Rattle.protection.proofs.stops.Statement.{statement}
-use Rattle.protection.proofs.stops.Tie as tie
+use Rattle.stopping.proofs.stops.Statement.{statement}
+use Rattle.stopping.proofs.stops.Tie as tie
 
 returns : tie.Need-returns
 returns c map buffer = c .move-changes .ensures map buffer ∙ sym (and-then _ _ (sym (c .before .before .is-protected .ensures) ∙ c .before .if1 .taken))

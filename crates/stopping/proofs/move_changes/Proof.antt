@@ -1,7 +1,7 @@
 -- One arm of the plan a case: a move's entry is that of the FCB.
 use borrow.Author.Needs.{needs}
-use Rattle.protection.proofs.move_changes.Statement.{statement}
-use Rattle.protection.proofs.move_changes.Tie as tie
+use Rattle.stopping.proofs.move_changes.Statement.{statement}
+use Rattle.stopping.proofs.move_changes.Tie as tie
 
 row-requires : tie.Need-row-requires
 row-requires c κs = let s = c .before .before .before .before .before in (s .pre .0, (rw (c .before .plan .given .1) at (s .pre .2)) .0)

@@ -1,4 +1,4 @@
--- The protection of a record call by its ruling. On a protected session only reads are asked of here: one that is refused is refused as ever, and of
+-- The protection of a record call by its ruling. Of a protected session only reads come here: one that its ruling refuses is refused as ever, and of
 -- one that has a plan the plan tells whether the protection holds.
 use mathlib.Core.Path.{_≡_, refl, ap, _∙_}
 use mathlib.Core.Bool.{true, false}
@@ -20,7 +20,7 @@ use Rattle.model.specs.Target.{plan}
 use Rattle.model.specs.Table.{readers, firstRow, ownRows, moveChanges, protectionHolds}
 use Rattle.table.specs.First.{_&_, passed-none, refused-decides}
 use Rattle.table.specs.Own.{calling, at-kind}
-use Rattle.table.specs.Protection.{planChanges, lifted-open, read-closed, none-succeeds, unchanged-open, refused-open, plan-changes}
+use Rattle.table.specs.Protection.{planChanges, lifted-spared, read-stopped, none-succeeds, unchanged-spared, failing-spared, plan-changes}
 use Rattle.rulings.specs.declared.Ruling.the-variants.{Refuse, Follow}
 use Rattle.rulings.specs.Ruling.{rulingOf, rulingRows, ruling}
 use Rattle.rulings.specs.Own.{rows-20, rows-33}
@@ -45,13 +45,13 @@ module _ (G : Geometry) (asked : Asked) (l : Lent) (s : Session) (only : protect
       (rows-20 G asked l s & rows-33 G asked l s & tt) (only t)
 
   -- a refusal
-  pub refused-free : (code : Code) → ruling G (asked .number) (s .user) l ≡ Refuse code → protectionHolds G asked l s ≡ false
+  pub refuse-spared : (code : Code) → ruling G (asked .number) (s .user) l ≡ Refuse code → protectionHolds G asked l s ≡ false
   unfolding ruling
-  refused-free code q =
+  refuse-spared code q =
       split (bool-cases (protected s))
-      (λ t. refused-open G asked l s (reader t) code (refused-decides code (ownRows G asked l s)
+      (λ t. failing-spared G asked l s (reader t) code (refused-decides code (ownRows G asked l s)
       (rows-read t ∙ ruling-refused (firstRow (rulingRows G (asked .number) (s .user) l)) (plan G (asked .number) (s .user) l) code q)))
-      (λ f. lifted-open G asked l s f)
+      (λ f. lifted-spared G asked l s f)
 
   -- a plan
   module _ (p : Plan) (q : ruling G (asked .number) (s .user) l ≡ Follow p) where
@@ -62,11 +62,11 @@ module _ (G : Geometry) (asked : Asked) (l : Lent) (s : Session) (only : protect
     changes : moveChanges G asked l s ≡ planChanges G l p
     changes = plan-changes G asked l s ∙ ap (planChanges G l) (told .1)
 
-    pub followed-held : (protected s and planChanges G l p) ≡ true → protectionHolds G asked l s ≡ true
-    followed-held h =
+    pub follow-stopped : (protected s and planChanges G l p) ≡ true → protectionHolds G asked l s ≡ true
+    follow-stopped h =
         let t = and-left _ _ h in
-        read-closed G asked l s t (reader t) (none-succeeds G asked l s (passed-none (ownRows G asked l s) (rows-read t ∙ told .0))) (changes ∙ and-right _ _ h)
+        read-stopped G asked l s t (reader t) (none-succeeds G asked l s (passed-none (ownRows G asked l s) (rows-read t ∙ told .0))) (changes ∙ and-right _ _ h)
 
-    pub followed-free : (protected s and planChanges G l p) ≡ false → protectionHolds G asked l s ≡ false
-    followed-free h =
-        split (bool-cases (protected s)) (λ t. unchanged-open G asked l s (reader t) (changes ∙ second-fails _ _ h t)) (λ f. lifted-open G asked l s f)
+    pub follow-spared : (protected s and planChanges G l p) ≡ false → protectionHolds G asked l s ≡ false
+    follow-spared h =
+        split (bool-cases (protected s)) (λ t. unchanged-spared G asked l s (reader t) (changes ∙ second-fails _ _ h t)) (λ f. lifted-spared G asked l s f)
