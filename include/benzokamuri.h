@@ -75,12 +75,12 @@ extern "C" {
  *
  * Only disks with date entries are stamped: entries whose byte 0 is 21H, the
  * fourth of every four. Where the disk's label (byte 0 20H) asks for it, 22
- * stamps create, 15 access, and a close or move that changes an entry update,
- * beside that entry; a new entry's stamps start at zero. Nothing else is stamped,
- * and a refused call stamps nothing. So 15 may change the image once the write
- * protection is lifted, and so may 20 and 33 where they move: who saves an image
- * saves it after them too, or reads on a protected session, where nothing changes
- * and nothing is to be saved.
+ * stamps create, 15 access (unless the session is protected), and a close or
+ * move that changes an entry update, beside that entry; a new entry's stamps
+ * start at zero. Nothing else is stamped, and a refused call stamps nothing. So
+ * 15 may change the image once the write protection is lifted, and so may 20 and
+ * 33 where they move: who saves an image saves it after them too, or reads on a
+ * protected session, where nothing changes and nothing is to be saved.
  *
  * A label asks by its byte 12: bit 4 for create, 5 for update, 6 for access. A
  * date entry has from byte 1 on ten bytes for each of the three entries before
@@ -105,10 +105,17 @@ typedef struct {
  * call lifts or sets the protection, and lifting or setting it changes nothing
  * else, a search included.
  *
- * So whoever only reads never lifts it, and need not save the image. Who writes
- * lifts it with benzo_lift, as late as may be, and may set it again with
- * benzo_protect. What was written and not closed before that stays pending, and
- * is closed after another lift. Every answer has the field as it came. */
+ * What to do about 255, 2: if the disk is to change, lift the protection and
+ * make the same call again. In C benzo_lift lifts it, in Rust Disk::lift, and
+ * with `benzokamuri call` the option --lift; every other verb of that program
+ * lifts it by itself where it has to write. benzo_protect, Disk::protect and
+ * --protect set it again. A read that is refused so would leave an extent that
+ * was written to and not closed: close the file first, which takes a lift too.
+ *
+ * So whoever only reads never lifts it, and need not save the image; who writes
+ * lifts it as late as may be. What was written and not closed when the
+ * protection is set again stays pending, and is closed after another lift. Every
+ * answer has the field as it came. */
 typedef struct {
     uint8_t user;        /* 0 to 15 */
     uint8_t pattern[12]; /* of the last search: name, type and extent */

@@ -1,4 +1,5 @@
-/* Makes a file on an empty disk, writes a record, and reads it back. */
+/* Makes a file on an empty disk, writes a record, and reads it back; a file more
+ * is refused, since the disk is write-protected by then. */
 #include <stdio.h>
 #include <string.h>
 #include <time.h>
@@ -62,5 +63,8 @@ int main(void) {
 
     call(BENZO_SPACE, "space");
     printf("%d records are free\n", buffer[0] + 256 * buffer[1] + 65536 * buffer[2]);
+
+    memcpy(fcb + 1, "MORE    TXT", 11);
+    call(BENZO_MAKE, "make, protected");
     return 0;
 }

@@ -11,7 +11,7 @@ use std::fmt;
 pub mod enough {
     /// Every cause of the table.
     pub const CAUSE: usize = 100;
-    /// Every call, accepted.
+    /// Every call, accepted where the protection is lifted.
     pub const ACCEPTED: usize = 1_000;
     /// Moves by each call, entries made by a move, deletes that free pending
     /// blocks, and each call that reads a count with one over 128.
@@ -304,19 +304,15 @@ const PROTECTED: [(u8, Cause); 8] = [
     (34, Cause::Protected34),
 ];
 
-/// The calls that a protected session accepts: all the others, and the reads.
-fn accepted_protected() -> impl Iterator<Item = u8> {
-    let refused = |number: &u8| matches!(number, 16 | 19 | 21 | 22 | 23 | 34);
-    LISTED
-        .iter()
-        .copied()
-        .filter(move |number| !refused(number))
-}
-
 /// The calls that it refuses whatever they are lent.
 fn refused_protected() -> impl Iterator<Item = u8> {
     let calls = PROTECTED.iter().map(|&(number, _)| number);
     calls.filter(|number| !matches!(number, 20 | 33))
+}
+
+/// Whether it may accept a call: all the others, and the reads.
+fn is_accepted_protected(call: u8) -> bool {
+    refused_protected().all(|number| number != call)
 }
 
 /// Whether the protection is lifted by another byte than 1.
@@ -669,10 +665,6 @@ impl Counts {
             let times = self.causes[cause as usize];
             (format!("{a:3},{h:3}  {cause:?}"), times, enough::CAUSE)
         };
-        let accepted = |&number: &u8| {
-            let times = self.accepted[usize::from(number)];
-            (format!("accepted {number}"), times, enough::ACCEPTED)
-        };
         let bad_time = |&number: &u8| {
             let times = self.bad_times[usize::from(number)];
             (format!("255,  4  time, {number}"), times, enough::BAD_TIME)
@@ -692,19 +684,30 @@ impl Counts {
         lines.extend(LISTED.iter().map(bad_time));
         lines.extend(Fault::ALL.iter().map(fault));
         lines.extend(BadBcd::ALL.into_iter().zip(&self.bad_bcd).map(bad_bcd));
-        lines.extend(LISTED.iter().map(accepted));
+        lines.extend(self.lines_of_accepted());
         lines.extend(self.lines_of_protection());
         lines.extend(Event::ALL.iter().map(event));
         lines
     }
 
+    /// Those of accepted calls, lifted and protected apart: what came up on the
+    /// one kind of session is not enough for the other.
+    fn lines_of_accepted(&self) -> Vec<(String, usize, usize)> {
+        let mut lines = Vec::new();
+        for &number in LISTED {
+            let protected = self.protected[usize::from(number)];
+            let lifted = self.accepted[usize::from(number)] - protected;
+            let what = |session: &str| format!("accepted {number}, {session}");
+            lines.push((what("lifted"), lifted, enough::ACCEPTED));
+            if is_accepted_protected(number) {
+                lines.push((what("protected"), protected, enough::PROTECTED));
+            }
+        }
+        lines
+    }
+
     /// Those of the write protection.
     fn lines_of_protection(&self) -> Vec<(String, usize, usize)> {
-        let protected = |number: u8| {
-            let times = self.protected[usize::from(number)];
-            let what = format!("accepted {number}, protected");
-            (what, times, enough::PROTECTED)
-        };
         let odd = |&(number, _): &(u8, Cause)| {
             let times = self.odd[usize::from(number)];
             let what = format!("accepted {number}, lifted by 2 to 255");
@@ -716,7 +719,6 @@ impl Counts {
             (what, times, enough::LIFTED)
         };
         let mut lines: Vec<_> = refused_protected().map(first).collect();
-        lines.extend(accepted_protected().map(protected));
         lines.extend(PROTECTED.iter().map(odd));
         lines
     }
@@ -741,5 +743,28 @@ impl fmt::Display for Counts {
         let accepted: usize = self.accepted.iter().sum();
         writeln!(f, "{:<40} {:>8}", "accepted in all", accepted)?;
         writeln!(f, "{:<40} {:>8}", "calls in all", self.calls)
+    }
+}
+
+#[cfg(test)]
+mod tests {
+    use super::*;
+
+    /// Calls on the one kind of session do not stand for those on the other.
+    #[test]
+    fn lifted_and_protected_calls_are_counted_apart() {
+        let mut counts = Counts::default();
+        counts.accepted[13] = 2 * enough::ACCEPTED;
+        let few = |counts: &Counts| -> Vec<String> {
+            let lines = counts.too_few().into_iter();
+            lines
+                .filter(|line| line.starts_with("accepted 13, "))
+                .collect()
+        };
+        assert_eq!(few(&counts), ["accepted 13, protected: 0 of 300"]);
+        counts.protected[13] = enough::ACCEPTED + 1;
+        assert_eq!(few(&counts), ["accepted 13, lifted: 999 of 1000"]);
+        counts.accepted[13] += 1;
+        assert!(few(&counts).is_empty());
     }
 }

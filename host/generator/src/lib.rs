@@ -11,7 +11,7 @@
 //! Anything with the signature of [`reference::call`] is an
 //! [`Implementation`], which lifts and sets the write protection as the
 //! reference does; a library behind a foreign interface needs a small type
-//! around it that does that by the library too.
+//! around it that does that by the library too. The reference beside itself:
 //!
 //! ```
 //! use generator::{run, Counts};

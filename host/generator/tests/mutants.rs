@@ -1311,6 +1311,23 @@ impl Lent<'_> {
         }
     }
 
+    /// The entry of the FCB.
+    fn row(&self) -> Option<[u8; 32]> {
+        let rows = Rows::of(self.image)?;
+        let entry = rows.entry_of(self.session.user, self.fcb)?;
+        Some(rows.0[entry])
+    }
+
+    /// Whether this is a read on a protected session that goes to another extent
+    /// and would change the entry that it leaves, if nothing else refused it.
+    fn read_would_change(&self) -> bool {
+        let changes = |row: [u8; 32]| {
+            let mut slots = row[16..].iter().zip(&self.fcb[16..32]);
+            self.fcb[15].min(128) > row[15].min(128) || slots.any(|(slot, block)| slot != block)
+        };
+        self.is_protected() && self.read_moves() && self.row().is_some_and(changes)
+    }
+
     /// Makes a read that is refused for its move as if a part of what the move
     /// would change were not asked for, which is done as it would be lifted.
     fn call_if_same(&mut self, same: fn(&[u8; 32], &[u8]) -> bool) -> Answer {
@@ -1318,11 +1335,7 @@ impl Lent<'_> {
             self.refusal(),
             Some(Cause::Protected20 | Cause::Protected33)
         );
-        let row = Rows::of(self.image).and_then(|rows| {
-            let entry = rows.entry_of(self.session.user, self.fcb)?;
-            Some(rows.0[entry])
-        });
-        match row {
+        match self.row() {
             Some(row) if refused && same(&row, self.fcb) => self.call_lifted(1),
             _ => self.call(),
         }
@@ -1425,12 +1438,7 @@ mutants! {
 
     /// rc over 128 is no later end than 128.
     protected_reads_by_rc_as_it_is: |lent| lent.refuse_protected(|lent| {
-        let rows = Rows::of(lent.image);
-        let entry = rows.as_ref().and_then(|r| r.entry_of(lent.session.user, lent.fcb));
-        let (Some(rows), Some(entry)) = (rows, entry) else {
-            return false;
-        };
-        lent.read_moves() && lent.fcb[15] > rows.0[entry][15]
+        lent.read_moves() && lent.row().is_some_and(|row| lent.fcb[15] > row[15])
     });
 
     /// "A read that would else succeed": the record may not be there.
@@ -1448,25 +1456,17 @@ mutants! {
                     | Cause::NoBlock33
             )
         );
-        let row = Rows::of(lent.image).and_then(|rows| {
-            let entry = rows.entry_of(lent.session.user, lent.fcb)?;
-            Some(rows.0[entry])
-        });
-        let changes = |row: &[u8; 32]| {
-            let mut slots = row[16..].iter().zip(&lent.fcb[16..32]);
-            lent.fcb[15].min(128) > row[15].min(128) || slots.any(|(s, b)| s != b)
-        };
-        match later && lent.is_protected() && lent.read_moves() && row.is_some_and(|r| changes(&r)) {
+        match later && lent.read_would_change() {
             true => lent.refuse(255, 2),
             false => lent.call(),
         }
     };
 
-    /// The same where only the extent is looked for.
+    /// The same where the extent is looked for, and the record is not.
     protected_reads_before_the_record_is_looked_for: |lent| {
         match lent.refusal() {
             Some(Cause::NoBlock20 | Cause::NoBlock33 | Cause::PastCount20 | Cause::PastCount33)
-                if lent.is_protected() && lent.read_moves() =>
+                if lent.read_would_change() =>
             {
                 lent.refuse(255, 2)
             }

@@ -126,6 +126,17 @@ lifts or sets the protection, and lifting or setting it changes nothing else, a
 search included.
 ";
 
+    /// What the help card says is to be done about 255, 2, in lines of at most
+    /// 80 characters.
+    pub const LIFTING: &'static str = "\
+What to do about 255, 2: if the disk is to change, lift the protection and make
+the same call again. In C benzo_lift lifts it, in Rust Disk::lift, and with
+`benzokamuri call` the option --lift; every other verb of that program lifts it
+by itself where it has to write. benzo_protect, Disk::protect and --protect set
+it again. A read that is refused so would leave an extent that was written to
+and not closed: close the file first, which takes a lift too.
+";
+
     /// What the help card says of record counts, in lines of at most 80
     /// characters.
     pub const RECORD_COUNTS: &'static str = "\
@@ -154,15 +165,17 @@ stored as it is given, also where it repeats or goes back.
     pub const STAMPS: &'static str = "\
 Only disks with date entries are stamped: entries whose byte 0 is 21H, the
 fourth of every four. Where the disk's label (byte 0 20H) asks for it, 22
-stamps create, 15 access, and a close or move that changes an entry update,
-beside that entry; a new entry's stamps start at zero. Nothing else is stamped,
-and a refused call stamps nothing.
+stamps create, 15 access (unless the session is protected), and a close or move
+that changes an entry update, beside that entry; a new entry's stamps start at
+zero. Nothing else is stamped, and a refused call stamps nothing.
 ";
 
-    /// Everything that the help card says below its table, in its order.
-    pub const REMARKS: [&'static str; 6] = [
+    /// Everything that the help card says below its table, in its order, but
+    /// for where to read on.
+    pub const REMARKS: [&'static str; 7] = [
         Code::ACCEPTED_CALLS,
         Code::PROTECTION,
+        Code::LIFTING,
         Code::RECORD_COUNTS,
         Code::WRONG_DATES,
         Code::THE_TIME,

@@ -14,6 +14,7 @@ Hello from a diskette!
 20 read past end    1, 0
 46 space            0, 0
 1920 records are free
+22 make, protected  255, 2
 ";
 
 /// What the program of `examples/c/lengths.c` has to print.

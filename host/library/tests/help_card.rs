@@ -74,6 +74,30 @@ fn header_and_help_card_say_the_same_beside_the_table() {
     }
 }
 
+/// The program prints the table and the remarks; what the card has beside them
+/// is where to read on, and its headings.
+#[test]
+fn the_help_card_says_nothing_else_below_the_table() {
+    let card = read("docs/HELP-CARD.md");
+    let (_, below) = card.rsplit_once("|\n").expect("a table");
+    let text: Vec<&str> = below.lines().filter(|l| !l.starts_with('#')).collect();
+    let mut rest = flat(&text.join("\n"));
+    let mut at = 0;
+    for said in Code::REMARKS.map(flat) {
+        let place = rest.find(&said).expect("a remark");
+        assert!(place >= at, "out of order: {said}");
+        at = place;
+        rest.replace_range(place..place + said.len(), "");
+    }
+    assert_eq!(
+        flat(&rest),
+        "The manual's code 3 of 33 and 34 is never given; \
+         [changes/07-code-3.md](changes/07-code-3.md) says why. \
+         `benzokamuri help codes` prints this card too, and `benzokamuri check` says where a \
+         directory is not consistent."
+    );
+}
+
 #[test]
 fn the_header_has_every_call() {
     let header = read("include/benzokamuri.h");

@@ -29,6 +29,23 @@ fn a_disk_begins_protected() {
     assert_eq!(Session::default().lifted, 0);
 }
 
+/// A session that was kept may have any byte there: 0 alone is protected.
+#[test]
+fn any_byte_but_0_is_lifted() {
+    for lifted in [0, 1, 2, 255] {
+        let disk = Disk::erased();
+        let session = Session {
+            lifted,
+            ..disk.session()
+        };
+        let (image, map) = (Box::new(*disk.image()), Box::new(*disk.map()));
+        let mut disk = Disk::resumed(image, map, session);
+        assert_eq!(disk.is_protected(), lifted == 0, "{lifted}");
+        let made = disk.make(&mut named("A"));
+        assert_eq!(made == Err(Code::Protected), lifted == 0, "{lifted}");
+    }
+}
+
 #[test]
 fn what_would_change_a_protected_disk_is_refused() {
     let mut disk = with_a_file();

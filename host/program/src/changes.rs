@@ -108,8 +108,16 @@ fn session(was: Session, is: Session) -> Vec<String> {
     );
     differs("search place", was.place.to_string(), is.place.to_string());
     differs("search on", was.on.to_string(), is.on.to_string());
-    differs("lifted", was.lifted.to_string(), is.lifted.to_string());
+    differs("protection", protection(was), protection(is));
     lines
+}
+
+/// The byte of the write protection, and what it means.
+fn protection(session: Session) -> String {
+    match session.lifted {
+        0 => "0 (set)".into(),
+        byte => format!("{byte} (lifted)"),
+    }
 }
 
 #[cfg(test)]
@@ -124,8 +132,11 @@ mod tests {
         };
         let mut after = before.clone();
         after.disk.lift();
-        let told = between(&before, &after);
-        assert_eq!(told, ["session, lifted: was 0, is 1"]);
+        let told = |was, is| between(was, is).concat();
+        let lifted = "session, protection: was 0 (set), is 1 (lifted)";
+        let set = "session, protection: was 1 (lifted), is 0 (set)";
+        assert_eq!(told(&before, &after), lifted);
+        assert_eq!(told(&after, &before), set);
     }
 
     #[test]

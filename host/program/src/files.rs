@@ -1,6 +1,7 @@
 //! Files on a disk, by its calls.
 
 use crate::layout::Row;
+use crate::looking::Looking;
 use benzokamuri::{Code, Disk, Fcb, Found, Name, Pattern, Stamps, BUFFER_LEN};
 
 /// What fills up a file's last record.
@@ -61,7 +62,7 @@ impl File {
 
 /// The files of a user that match, by calls 17, 18 and 35, in the order of
 /// their names.
-pub fn matching(disk: &mut Disk, user: u8, pattern: Pattern) -> Result<Vec<File>, Code> {
+pub fn matching(disk: &mut Looking, user: u8, pattern: Pattern) -> Result<Vec<File>, Code> {
     let before = disk.user()?;
     disk.set_user(user)?;
     let mut files: Vec<File> = Vec::new();
@@ -87,7 +88,7 @@ pub fn matching(disk: &mut Disk, user: u8, pattern: Pattern) -> Result<Vec<File>
 }
 
 /// The files of every user.
-pub fn all(disk: &mut Disk) -> Result<Vec<File>, Code> {
+pub fn all(disk: &mut Looking) -> Result<Vec<File>, Code> {
     let mut files = Vec::new();
     for user in 0..=LAST_USER {
         files.extend(matching(disk, user, Pattern::EVERY)?);
@@ -96,7 +97,7 @@ pub fn all(disk: &mut Disk) -> Result<Vec<File>, Code> {
 }
 
 /// The present user's entries that match, lowest-numbered first.
-fn entries(disk: &mut Disk, pattern: Pattern) -> Result<Vec<Found>, Code> {
+fn entries(disk: &mut Looking, pattern: Pattern) -> Result<Vec<Found>, Code> {
     let mut fcb = Fcb::matching(pattern).in_every_extent();
     let mut found = match disk.search_first(&mut fcb) {
         Err(Code::NothingMatches) => return Ok(Vec::new()),
@@ -119,10 +120,10 @@ pub struct Contents {
     pub missing: u32,
 }
 
-/// Reads a file of the present user, by calls 15 and 33. The disk may be
-/// write-protected: no move has anything to close, since nothing is written.
-pub fn read(disk: &mut Disk, file: &File) -> Result<Contents, Code> {
-    let mut fcb = opened(disk, file)?;
+/// Reads a file of the present user, by calls 15 and 33. No read is refused for
+/// the write protection: no move has anything to close, since nothing is written.
+pub fn read(disk: &mut Looking, file: &File) -> Result<Contents, Code> {
+    let mut fcb = current(disk, file)?;
     let mut contents = Contents {
         bytes: Vec::new(),
         missing: 0,
@@ -130,7 +131,7 @@ pub fn read(disk: &mut Disk, file: &File) -> Result<Contents, Code> {
     for record in 0..file.records {
         fcb.set_random(record);
         match disk.read_random(&mut fcb) {
-            Ok(()) => contents.bytes.extend(disk.buffer),
+            Ok(record) => contents.bytes.extend(record),
             Err(Code::NotThere | Code::NoExtent) => {
                 contents.missing += 1;
                 contents.bytes.extend([0; BUFFER_LEN]);
@@ -141,20 +142,34 @@ pub fn read(disk: &mut Disk, file: &File) -> Result<Contents, Code> {
     Ok(contents)
 }
 
-/// An FCB that is current for a file. Open reaches the extents 0 to 31; an FCB
-/// for a file that has none of these is filled as open would fill it.
-fn opened(disk: &mut Disk, file: &File) -> Result<Fcb, Code> {
+/// An FCB that is current for a file. For a file that open does not reach it is
+/// filled as open would fill it.
+fn current(disk: &mut Looking, file: &File) -> Result<Fcb, Code> {
+    if let Some(mut fcb) = to_open(file) {
+        disk.open(&mut fcb)?;
+        return Ok(fcb);
+    }
     let mut fcb = Fcb::named(file.name);
     let first = file.entries.first().ok_or(Code::NothingMatches)?;
-    let extent = Row(&first.entry).extent();
-    match u8::try_from(extent) {
-        Ok(ex @ 0..=31) => {
-            fcb.bytes_mut()[12] = ex;
-            disk.open(&mut fcb)?;
-        }
-        _ => fcb.bytes_mut()[1..32].copy_from_slice(&first.entry[1..]),
-    }
+    fcb.bytes_mut()[1..32].copy_from_slice(&first.entry[1..]);
     Ok(fcb)
+}
+
+/// An FCB to open a file with, at its first extent. Open reaches the extents 0
+/// to 31; there is none for a file that has none of these.
+fn to_open(file: &File) -> Option<Fcb> {
+    let extent = Row(&file.entries.first()?.entry).extent();
+    let ex = u8::try_from(extent).ok().filter(|ex| *ex <= 31)?;
+    let mut fcb = Fcb::named(file.name);
+    fcb.bytes_mut()[12] = ex;
+    Some(fcb)
+}
+
+/// Leaves the access stamp of a file of the present user that was read, by call
+/// 15. The disk's write protection has to be lifted.
+pub fn stamp_access(disk: &mut Disk, file: &File) -> Result<(), Code> {
+    let opened = to_open(file).map(|mut fcb| disk.open(&mut fcb));
+    opened.transpose().map(|_| ())
 }
 
 /// Makes a file of the present user and writes it, by calls 22, 21 and 16. The
@@ -178,9 +193,12 @@ mod tests {
         text.parse().expect("a name")
     }
 
-    fn one(disk: &mut Disk, user: u8, text: &str) -> File {
-        let files = matching(disk, user, name(text).into()).expect("a sound disk");
-        files.into_iter().next().expect("the file is there")
+    /// A file, and the disk that it is to be read from.
+    fn one(disk: &Disk, user: u8, text: &str) -> (File, Looking) {
+        let mut disk = Looking::at(disk.clone());
+        let files = matching(&mut disk, user, name(text).into()).expect("a sound disk");
+        let file = files.into_iter().next().expect("the file is there");
+        (file, disk)
     }
 
     #[test]
@@ -199,16 +217,15 @@ mod tests {
             let text = format!("F{length}");
             disk.set_user(user).unwrap();
             write(&mut disk, name(&text), &bytes).unwrap();
-            disk.protect();
-            let file = one(&mut disk, user, &text);
+            let (file, mut looked_at) = one(&disk, user, &text);
             assert_eq!(file.records as usize, bytes.len().div_ceil(128));
             assert_eq!(file.bytes() % 128, 0);
-            let contents = read(&mut disk, &file).unwrap();
+            let contents = read(&mut looked_at, &file).unwrap();
             assert_eq!(contents.missing, 0);
             assert_eq!(contents.bytes[..length], bytes);
             assert!(contents.bytes[length..].iter().all(|&byte| byte == FILLING));
-            disk.lift();
         }
+        let mut disk = Looking::at(disk);
         assert_eq!(all(&mut disk).unwrap().len(), 6);
         assert_eq!(disk.user(), Ok(0));
     }
@@ -225,8 +242,7 @@ mod tests {
             disk.write_random(&mut fcb).unwrap();
         }
         disk.close(&mut fcb).unwrap();
-        disk.protect();
-        let file = one(&mut disk, 0, "HOLES");
+        let (file, mut disk) = one(&disk, 0, "HOLES");
         let contents = read(&mut disk, &file).unwrap();
         assert_eq!(contents.bytes.len(), 301 * 128);
         assert_eq!(contents.bytes[3 * 128..4 * 128], [7; 128]);
@@ -248,8 +264,7 @@ mod tests {
         // Without the entry that make made, extent 40 is all there is.
         let mut image = disk.into_image();
         image[crate::layout::entry_place(0)] = 0xE5;
-        let mut disk = Disk::new(image).unwrap();
-        let file = one(&mut disk, 0, "FAR");
+        let (file, mut disk) = one(&Disk::new(image).unwrap(), 0, "FAR");
         assert_eq!(file.records, 128 * 40 + 1);
         let contents = read(&mut disk, &file).unwrap();
         assert_eq!(contents.missing, 128 * 40);

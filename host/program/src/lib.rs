@@ -3,11 +3,11 @@
 //!
 //! A verb reads the image file, makes calls of [`benzokamuri`] on the copy in
 //! memory, and saves that copy at the end if all went well. Files are found,
-//! read and changed by calls alone, on a disk that is write-protected until a
-//! verb that changes it is about to ([`Desk::lifts`]). What is done beside them: `new` makes an
-//! image, short images are filled up and blank stamps made zeros as they are
-//! read ([`store`]), and `check`, `free`, `map` and `call` show what no call tells
-//! of ([`layout`]).
+//! read and changed by calls alone, on a disk that is write-protected while it
+//! is looked at ([`looking`]), until a verb that changes it is about to
+//! ([`Desk::lifts`]). What is done beside the calls: `new` makes an image, short
+//! images are filled up and blank stamps made zeros as they are read ([`store`]),
+//! and `check`, `free`, `map` and `call` show what no call tells of ([`layout`]).
 
 #![forbid(unsafe_code)]
 #![warn(missing_docs)]
@@ -19,6 +19,7 @@ pub mod files;
 mod help;
 mod hex;
 pub mod layout;
+pub mod looking;
 pub mod picture;
 pub mod saving;
 mod state;

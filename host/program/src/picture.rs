@@ -3,7 +3,8 @@
 
 use crate::files::{self, File};
 use crate::layout::{Note, AREA, BLOCKS};
-use benzokamuri::{Code, Disk};
+use crate::looking::Looking;
+use benzokamuri::Code;
 use std::fmt::Write;
 
 /// Blocks in a row; 243 is 9 rows of 27.
@@ -30,10 +31,10 @@ pub struct Picture {
 }
 
 impl Picture {
-    /// What a disk looks like at this moment. The calls that find it out are
-    /// made on a copy, so that a search can go on.
-    pub fn of(disk: &Disk) -> Result<Picture, Code> {
-        let files = files::all(&mut disk.clone())?;
+    /// What a disk looks like. The calls that find it out end a search, so a
+    /// disk that is worked on afterwards has to be copied for this.
+    pub fn of(mut disk: Looking) -> Result<Picture, Code> {
+        let files = files::all(&mut disk)?;
         let mut cells = [Cell::Free; BLOCKS];
         cells[..AREA].fill(Cell::Directory);
         for (number, file) in files.iter().enumerate() {
@@ -277,10 +278,10 @@ fn escaped(text: &str) -> String {
 #[cfg(test)]
 mod tests {
     use super::*;
-    use benzokamuri::Fcb;
+    use benzokamuri::{Disk, Fcb};
 
     /// Two files, one of them with a pending block.
-    fn disk() -> Disk {
+    fn disk() -> Looking {
         let mut disk = Disk::erased();
         disk.lift();
         files::write(&mut disk, "A&B.TXT".parse().unwrap(), &[1; 3_000]).unwrap();
@@ -288,12 +289,12 @@ mod tests {
         let mut fcb = Fcb::named("WAITS".parse().unwrap());
         disk.make(&mut fcb).unwrap();
         disk.write_next(&mut fcb).unwrap();
-        disk
+        Looking::at(disk)
     }
 
     #[test]
     fn the_picture_as_text() {
-        let picture = Picture::of(&disk()).unwrap();
+        let picture = Picture::of(disk()).unwrap();
         let free = " .".repeat(27);
         let mut expected = format!("    0  # # A A A~B{}\n", " .".repeat(21));
         for row in 1..9 {
@@ -310,7 +311,7 @@ mod tests {
 
     #[test]
     fn the_picture_as_svg() {
-        let svg = Picture::of(&disk()).unwrap().svg("<disk>");
+        let svg = Picture::of(disk()).unwrap().svg("<disk>");
         assert!(svg.starts_with("<svg ") && svg.ends_with("</svg>\n"));
         assert_eq!(svg.matches("<title>block ").count(), 243);
         assert_eq!(svg.matches("<pattern ").count(), 1);

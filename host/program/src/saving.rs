@@ -118,7 +118,8 @@ impl Held {
     /// Bytes that are to take the file's place.
     pub fn ready(&self, bytes: &[u8]) -> Result<Ready, Trouble> {
         if let Some(error) = &self.protected {
-            let what = format!("{} can't be saved, for it is write-protected", self.shown);
+            let why = "for its file may not be written to";
+            let what = format!("{} can't be saved, {why}", self.shown);
             return Err(Trouble::file(what, error));
         }
         let ready = self.beside(bytes);

@@ -10,7 +10,7 @@ const HEADING: &str = "benzokamuri state 2";
 
 /// The first line of a state from before there was a write protection. Its
 /// session lacks the last word, and is read as protected.
-const UNPROTECTED: &str = "benzokamuri state 1";
+const OLDER: &str = "benzokamuri state 1";
 
 /// What is kept.
 #[derive(Clone, Debug, PartialEq, Eq)]
@@ -67,7 +67,7 @@ impl State {
         let mut lines = text.lines();
         let has_protection = match lines.next()? {
             HEADING => true,
-            UNPROTECTED => false,
+            OLDER => false,
             _ => return None,
         };
         let mut line = |kind: &str| -> Option<Vec<&str>> {

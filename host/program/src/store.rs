@@ -2,6 +2,7 @@
 
 use crate::dates::fill_blank_stamps;
 use crate::layout::{place, Row, AREA, BLOCKS, BLOCK_RECORDS, ERASED};
+use crate::looking::Looking;
 use crate::saving::{self, Held, Ready};
 use crate::trouble::Trouble;
 use crate::Desk;
@@ -87,8 +88,8 @@ impl ImageFile {
         IMAGE_LEN - self.length
     }
 
-    /// Logs in, as a user and at a time. The disk is write-protected.
-    pub fn log_in(&self, user: u8, time: Time) -> Result<Disk, Trouble> {
+    /// Logs in, as a user and at a time, to look at the disk.
+    pub fn log_in(&self, user: u8, time: Time) -> Result<Looking, Trouble> {
         let refused = |code| Trouble::Refused {
             doing: self.name(),
             code,
@@ -99,7 +100,7 @@ impl ImageFile {
         })?;
         disk.set_time(time);
         disk.set_user(user).map_err(refused)?;
-        Ok(disk)
+        Ok(Looking::at(disk))
     }
 
     /// Saves a disk's image, and what goes with it, where there is such a

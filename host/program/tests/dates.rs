@@ -464,7 +464,7 @@ fn a_file_is_written_before_its_stamp() {
 }
 
 #[test]
-fn a_write_protected_image_is_not_stamped() {
+fn an_image_that_may_not_be_written_to_is_not_stamped() {
     let folder = with_access();
     let before = folder.read("disk.img");
     folder.set_mode("disk.img", 0o444);
@@ -473,7 +473,7 @@ fn a_write_protected_image_is_not_stamped() {
     };
     let refused = ran(command.args(["get", "--stamp", "disk.img", "a.txt"]));
     assert_eq!(refused.status, Some(1));
-    let due = "disk.img can't be saved, for it is write-protected: Permission denied";
+    let due = "disk.img can't be saved, for its file may not be written to: Permission denied";
     assert!(refused.err.contains(due), "{}", refused.err);
     assert!(folder.read("disk.img") == before);
     assert_eq!(folder.names(), ["disk.img", "file"], "no file is written");

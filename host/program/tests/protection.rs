@@ -1,5 +1,6 @@
 //! Write protection: verbs that look never lift it, verbs that change a disk do
-//! so once, and `call` keeps it from one run to the next.
+//! so once, `demo` once for each of its two, and `call` keeps it from one run to
+//! the next.
 
 mod common;
 
@@ -42,7 +43,9 @@ fn lifts(folder: &Folder, line: &str) -> (u8, usize) {
 fn verbs_that_look_never_lift() {
     let folder = with_files();
     folder.done("call --lift --state kept disk.img 13");
+    assert_eq!(kept(&folder), "1", "a state that is lifted");
     let before = folder.read("disk.img");
+    let state = folder.read("kept");
     for line in [
         "ls @disk.img",
         "ls -l -a @disk.img *.txt",
@@ -64,8 +67,19 @@ fn verbs_that_look_never_lift() {
         let refused = line.contains("nosuch") || line.contains(" 22 ");
         assert_eq!(lifts(&folder, line), (u8::from(refused), 0), "{line}");
         assert!(folder.read("disk.img") == before, "{line}");
+        assert!(folder.read("kept") == state, "{line}");
     }
     assert_eq!(folder.read("copy")[..20_000], [7; 20_000]);
+}
+
+/// `demo` has two disks of its own, and no other.
+#[test]
+fn the_demo_lifts_each_of_its_disks_once() {
+    let folder = Folder::new();
+    assert_eq!(lifts(&folder, "demo"), (0, 2));
+    let said = folder.done("demo");
+    assert_eq!(said.matches("The write protection is lifted").count(), 2);
+    assert!(folder.names().is_empty());
 }
 
 #[test]
@@ -99,31 +113,91 @@ fn verbs_that_change_a_disk_lift_it_once() {
     }
 }
 
-/// All lifts of the program go through the one that counts them.
+/// The lines of code under a folder of sources, each with its file's name,
+/// without comments and without what modules' own tests do.
+fn code(folder: &Path) -> Vec<(String, String)> {
+    let entries = fs::read_dir(folder).expect("the folder can be read");
+    let paths = entries.map(|entry| entry.expect("an entry").path());
+    paths
+        .flat_map(|path| {
+            if path.is_dir() {
+                return code(&path);
+            }
+            let source = fs::read_to_string(&path).expect("a source can be read");
+            let code = source.split("#[cfg(test)]").next().unwrap_or_default();
+            let name = path.file_name().expect("a name").to_string_lossy();
+            let lines = code.lines().map(str::trim);
+            lines
+                .filter(|line| !line.starts_with("//"))
+                .map(|line| (name.to_string(), line.to_string()))
+                .collect()
+        })
+        .collect()
+}
+
+/// The lines of the program's code that have one of some words, in the order of
+/// files and lines.
+fn code_with(words: &[&str]) -> Vec<String> {
+    let mut code = code(&Path::new(env!("CARGO_MANIFEST_DIR")).join("src"));
+    code.sort_by(|one, other| one.0.cmp(&other.0));
+    code.into_iter()
+        .filter(|(_, line)| words.iter().any(|word| line.contains(word)))
+        .map(|(name, line)| format!("{name}: {line}"))
+        .collect()
+}
+
+/// All lifts of the program go through the one that counts them, and no session
+/// is made lifted. Whoever adds a line here says why it may lift.
 #[test]
 fn there_is_one_way_to_lift() {
-    fn sources(folder: &Path) -> Vec<String> {
-        let entries = fs::read_dir(folder).expect("the folder can be read");
-        let paths = entries.map(|entry| entry.expect("an entry").path());
-        paths
-            .flat_map(|path| match path.is_dir() {
-                true => sources(&path),
-                false => vec![fs::read_to_string(&path).expect("a source can be read")],
-            })
-            .collect()
-    }
-    let sources = sources(&Path::new(env!("CARGO_MANIFEST_DIR")).join("src"));
-    // What a module's own tests do is no way of the program's.
-    let code: Vec<&str> = sources
-        .iter()
-        .filter_map(|source| source.split("#[cfg(test)]").next())
-        .collect();
-    let times = |what: &str| -> usize { code.iter().map(|text| text.matches(what).count()).sum() };
-    assert_eq!(times("disk.lift()"), 1);
-    assert_eq!(times(".lift()"), 1);
-    assert_eq!(times("benzokamuri::lift"), 0);
-    assert_eq!(times("lifted: 1"), 0);
-    assert!(times("desk.lift(") >= 5);
+    let lifts = ["lift(", "::lift", "lifted(", "lifted:", "lifted ="];
+    assert_eq!(
+        code_with(&lifts),
+        [
+            // As the command line says.
+            "call.rs: (true, false) => desk.lift(disk),",
+            // On disks of its own, in memory.
+            "demo.rs: fn lift(disk: &mut Disk, desk: &mut Desk) -> Result<(), Trouble> {",
+            "demo.rs: desk.lift(disk);",
+            r#"demo.rs: "    The write protection is lifted: from here on calls may change the disk.\n""#,
+            "demo.rs: lift(&mut disk, desk)?;",
+            "demo.rs: lift(&mut disk, desk)?;",
+            // For --stamp alone, when all was read.
+            "get.rs: let mut disk = disk.lifted(desk);",
+            // The one way.
+            "lib.rs: fn lift(&mut self, disk: &mut Disk) {",
+            "lib.rs: disk.lift();",
+            "looking.rs: pub fn lifted(mut self, desk: &mut Desk) -> Disk {",
+            "looking.rs: desk.lift(&mut self.0);",
+            // Verbs that change the disk.
+            "mv.rs: let mut disk = logged_in(&image, &words, desk)?.lifted(desk);",
+            "put.rs: let mut disk = disk.lifted(desk);",
+            "rm.rs: let mut disk = logged_in(&image, &words, desk)?.lifted(desk);",
+            // As it was kept.
+            "state.rs: lifted: lifted.parse().ok()?,",
+        ]
+    );
+}
+
+/// A disk that can be lifted is made where it is worked on by calls of the
+/// user's or the demo's; all others are looked at, and are protected so.
+#[test]
+fn few_make_a_disk_that_can_be_lifted() {
+    let makes = code_with(&["Disk::erased", "Disk::new", "Disk::resumed", "lend("]);
+    assert_eq!(
+        makes,
+        [
+            "call.rs: let mut disk = Disk::resumed(bytes, kept.map, session);",
+            "call.rs: let mut disk = Disk::resumed(bytes, map, session);",
+            "demo.rs: let mut image = Box::new(*Disk::erased().image());",
+            "demo.rs: let disk = Disk::new(image.to_vec());",
+            "demo.rs: let mut disk = Disk::erased();",
+            "looking.rs: let mut disk = Disk::resumed(image, map, session);",
+            // For its bytes alone.
+            "new.rs: let mut image = Box::new(*Disk::erased().image());",
+            "store.rs: let mut disk = Disk::new(self.image.to_vec()).map_err(|no_disk| match no_disk {",
+        ]
+    );
 }
 
 #[test]
@@ -166,7 +240,7 @@ fn a_state_keeps_the_protection_and_a_search() {
     // Neither option ends the search.
     let found = folder.done("call --lift --state kept disk.img 18");
     assert!(found.starts_with("call 18 (search for the next): A = 0, H = 0\n"));
-    assert!(!found.contains("lifted"), "the call itself changes nothing");
+    assert!(found.contains("\nsession, protection: was 0 (set), is 1 (lifted)\n"));
     assert_eq!(kept(&folder), "1");
     let found = folder.done("call --protect --state kept disk.img 18");
     assert!(found.starts_with("call 18 (search for the next): A = 1, H = 0\n"));
@@ -182,6 +256,32 @@ fn a_state_keeps_the_protection_and_a_search() {
     // -n keeps nothing.
     folder.done("call --lift -n --state kept disk.img 46");
     assert_eq!(kept(&folder), "0");
+}
+
+/// The lift is an operation by itself: it stays, and is told, whatever becomes
+/// of the call. The same goes for setting the protection.
+#[test]
+fn what_is_done_to_the_protection_is_told_of_a_refused_call_too() {
+    let folder = with_files();
+    folder.done("call --state kept disk.img 13");
+    for (option, told, byte) in [
+        ("--lift ", "protection: was 0 (set), is 1 (lifted)", "1"),
+        ("--lift ", "nothing changed", "1"),
+        ("", "nothing changed", "1"),
+        ("--protect ", "protection: was 1 (lifted), is 0 (set)", "0"),
+        ("--protect ", "nothing changed", "0"),
+    ] {
+        let line = format!("call {option}--state kept disk.img 22 --name note.txt");
+        let ran = folder.run(&line);
+        assert_eq!(ran.status, Some(1), "{line}");
+        let out = String::from_utf8(ran.out).expect("text");
+        let lines: Vec<&str> = out.lines().collect();
+        let code = if byte == "1" { "8" } else { "2" };
+        assert_eq!(lines[0], format!("call 22 (make): A = 255, H = {code}"));
+        assert_eq!(lines[1].trim_start_matches("session, "), told, "{line}");
+        assert_eq!(lines.len(), 3, "the FCB, and no more: {out}");
+        assert_eq!(kept(&folder), byte, "{line}");
+    }
 }
 
 /// Any byte but 0 is lifted, and comes back as it is.

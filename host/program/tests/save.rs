@@ -150,7 +150,7 @@ fn a_folder_that_can_not_be_read_leaves_the_image_as_it_was() {
 }
 
 #[test]
-fn what_is_write_protected_stays_as_it_was() {
+fn files_that_may_not_be_written_to_stay_as_they_were() {
     let folder = Folder::new();
     folder.done("new disk.img");
     folder.write("file", b"x");
@@ -178,7 +178,7 @@ fn what_is_write_protected_stays_as_it_was() {
         assert_eq!(ran.status, Some(1), "{line}");
         let due = match line.ends_with("disk.img 13") {
             true => "not what `call` keeps",
-            false => "can't be saved, for it is write-protected: Permission denied",
+            false => "can't be saved, for its file may not be written to: Permission denied",
         };
         assert!(ran.err.contains(due), "{line}: {}", ran.err);
         assert_eq!(folder.read("disk.img"), old, "{line}");

@@ -6,7 +6,7 @@ use crate::directory::{
     Directory, Entries, ATTRIBUTE, EMPTY, ROW_BYTES,
 };
 use crate::diskette::{record, record_mut};
-use crate::fcb;
+use crate::fcb::{self, Fcb};
 use crate::lent::LentMut;
 use crate::map::{self, pending, RECORDED};
 use crate::{Answer, Session};
@@ -253,27 +253,38 @@ fn hit(lent: LentMut, entry: usize, pattern: [u8; 12], session: Session) -> Answ
 /// is current, so its block is held for that very slot. A close "that changes an
 /// entry" stamps it.
 fn close(lent: LentMut, stamper: Stamper, entry: usize) -> u8 {
-    let row = row_mut(lent.image, entry);
-    let blocks = fcb::slots(lent.fcb);
-    let mut changes = false;
-    for (slot, block) in row[entry_at::SLOTS..].iter_mut().zip(blocks) {
-        if *slot == 0 && block != 0 {
-            *slot = block;
-            lent.map[usize::from(block)] = RECORDED;
-            changes = true;
-        }
-    }
-    let records = count(lent.fcb[entry_at::RC]);
-    if records > count(row[entry_at::RC]) {
-        row[entry_at::RC] = records;
-        changes = true;
-    }
-    if changes {
+    if close_changes(lent.fcb, row(lent.image, entry)) {
         stamper.changed(lent.image, entry);
     }
+    let row = row_mut(lent.image, entry);
+    for (slot, block) in row[entry_at::SLOTS..].iter_mut().zip(fcb::slots(lent.fcb)) {
+        if is_recorded(*slot, block) {
+            *slot = block;
+            lent.map[usize::from(block)] = RECORDED;
+        }
+    }
+    row[entry_at::RC] = recorded_count(lent.fcb, row).unwrap_or(row[entry_at::RC]);
     lent.fcb[5] &= !ATTRIBUTE;
     lent.fcb[6] &= !ATTRIBUTE;
     directory_code(entry)
+}
+
+/// Whether a close records a block of the FCB: "each slot where the entry has 0
+/// and the FCB doesn't".
+fn is_recorded(slot: u8, block: u8) -> bool {
+    slot == 0 && block != 0
+}
+
+/// The FCB's count, where a close writes it: "where it is the larger".
+fn recorded_count(fcb: &Fcb, row: &[u8]) -> Option<u8> {
+    let records = count(fcb[entry_at::RC]);
+    (records > count(row[entry_at::RC])).then_some(records)
+}
+
+/// Whether a close would change the entry of an FCB.
+pub fn close_changes(fcb: &Fcb, row: &[u8]) -> bool {
+    let mut slots = row[entry_at::SLOTS..].iter().zip(fcb::slots(fcb));
+    recorded_count(fcb, row).is_some() || slots.any(|(&slot, block)| is_recorded(slot, block))
 }
 
 /// "All extents matching the name become empty (byte 0 to E5H only). Their

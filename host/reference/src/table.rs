@@ -4,7 +4,7 @@
 //! changed. A call that is not refused leaves as a [`Plan`] that
 //! [`carry_out`](crate::calls::carry_out) can't fail to follow.
 
-use crate::calls::{Call, Going, Plan, Transfer};
+use crate::calls::{close_changes, Call, Going, Plan, Transfer};
 use crate::current::{current, numbers_in_range};
 use crate::dates::is_bcd;
 use crate::directory::{
@@ -651,20 +651,11 @@ impl State<'_> {
     /// refused on a protected session.
     fn check_move(self, present: usize, going: Going, cause: Cause) -> Result<(), Cause> {
         let stays = matches!(going, Going::Stay);
-        match self.session.is_protected() && !stays && self.close_changes(present) {
+        let changes = || close_changes(self.lent.fcb, row(self.lent.image, present));
+        match self.session.is_protected() && !stays && changes() {
             true => Err(cause),
             false => Ok(()),
         }
-    }
-
-    /// Whether a close would change the FCB's entry: a slot where the entry has
-    /// 0 and the FCB doesn't, or a larger count.
-    fn close_changes(self, present: usize) -> bool {
-        let recorded = row(self.lent.image, present);
-        let slots = recorded[entry_at::SLOTS..].iter();
-        let mut slots = slots.zip(fcb::slots(self.lent.fcb));
-        count(self.lent.fcb[entry_at::RC]) > count(recorded[entry_at::RC])
-            || slots.any(|(&slot, block)| slot == 0 && block != 0)
     }
 
     /// "A slot of 0 takes the first free block": that block where one is

@@ -73,7 +73,9 @@ fn back(session: benzokamuri::Session) -> Session {
     }
 }
 
-/// Makes one call of the proved library, in the reference's types.
+/// Makes one call of the proved library, in the reference's types. By itself, as
+/// the generator's [`Implementation`], it would lift and set the write protection
+/// as the reference does; [`Proved`] does that by the library.
 pub fn call(
     asked: Asked,
     image: &mut [u8],

@@ -27,8 +27,10 @@ zero, and what it leaves in the map, the FCB, the buffer and the session is gone
 afterwards: a file that was written can't be closed by another `call`.
 
 A session that begins at zero is write-protected: 16, 19, 21, 22, 23 and 34, and
-a read that would change the disk, are refused with 255, 2. --lift lifts the
-protection before the call. With --state it stays lifted, until --protect.
+a read that would change the disk, are refused with 255, 2, and an open (15)
+stamps no access. --lift lifts the protection before the call. With --state it
+stays lifted until --protect, also where the call is refused; a line `session,
+protection` says that it was lifted or set.
 
 The library is lent the image as it stands in its file; sectors that the file
 lacks at its end are E5H. Stamps of E5H throughout, as cpmtools leaves them, are
@@ -68,7 +70,6 @@ fn run(mut words: Words, desk: &mut Desk) -> Result<(), Trouble> {
         _ => None,
     };
     let mut moment = begin(&image, &words, kept)?;
-    set_protection(&mut moment.disk, &words, desk)?;
     match (given, words.value("--name")) {
         (Some(_), Some(_)) => return Err(Trouble::usage("an FCB and --name do not go together")),
         (Some(given), None) => moment.fcb = fcb(&given)?,
@@ -78,7 +79,9 @@ fn run(mut words: Words, desk: &mut Desk) -> Result<(), Trouble> {
     if let Some(text) = words.text("--buffer")? {
         moment.disk.buffer = bytes::<BUFFER_LEN>(text, "the buffer")?;
     }
+    // What is done to the protection is shown too, since a state keeps it.
     let before = moment.clone();
+    set_protection(&mut moment.disk, &words, desk)?;
     let asked = Asked::new(number, argument, time(&words, desk));
     let answered = moment.disk.ask(asked, &mut moment.fcb);
     if let Some(held) = held {
@@ -100,7 +103,7 @@ fn set_protection(disk: &mut Disk, words: &Words, desk: &mut Desk) -> Result<(),
     Ok(())
 }
 
-/// Prints what a call answered, and what it changed.
+/// Prints what a call answered, and what it and the options before it changed.
 fn show(
     number: u8,
     answered: Result<u8, Code>,

@@ -5,13 +5,14 @@ use crate::check::{image_faults, map_faults, spelled};
 use crate::dates::fill_blank_stamps;
 use crate::files;
 use crate::layout::{Row, Stamp};
+use crate::looking::Looking;
 use crate::saving;
 use crate::state::State;
 use crate::store::ImageFile;
 use crate::trouble::{Doing, Trouble};
 use crate::words::{Shape, Words};
 use crate::{Desk, Verb};
-use benzokamuri::{Code, Disk, Image, Session, Time, ENTRIES, MAP_LEN};
+use benzokamuri::{Code, Image, Session, Time, ENTRIES, MAP_LEN};
 use std::ffi::OsStr;
 use std::io::Write;
 use std::path::Path;
@@ -84,7 +85,7 @@ fn read_as_zeros(image: &Image) -> Option<usize> {
 }
 
 /// Says of an image without faults what there is.
-fn praise(image: &ImageFile, mut disk: Disk, desk: &mut Desk) -> Result<(), Trouble> {
+fn praise(image: &ImageFile, mut disk: Looking, desk: &mut Desk) -> Result<(), Trouble> {
     let files = files::all(&mut disk).doing(image.name())?;
     let entries: usize = files.iter().map(|file| file.entries.len()).sum();
     let blocks: usize = files.iter().map(|file| file.blocks().count()).sum();
@@ -128,11 +129,10 @@ fn dates(image: &Image) -> Option<String> {
 }
 
 /// What the calls say: a disk that is logged in, or why it can't be.
-fn answer(image: &ImageFile, state: Option<State>, time: Time) -> Result<Disk, Code> {
+fn answer(image: &ImageFile, state: Option<State>, time: Time) -> Result<Looking, Code> {
     let logs_in = state.is_none();
     let map = state.map_or_else(|| Box::new([0; MAP_LEN]), |state| state.map);
-    let mut disk = Disk::resumed(image.copy(), map, Session::default());
-    disk.set_time(time);
+    let mut disk = Looking::resumed(image.copy(), map, Session::default(), time);
     match logs_in {
         true => disk.log_in()?,
         false => disk.space().map(|_| ())?,

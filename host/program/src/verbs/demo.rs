@@ -4,6 +4,7 @@ use super::colours;
 use super::ls::shown;
 use crate::dates::{put_dates, put_label, Label};
 use crate::layout::Stamp;
+use crate::looking::Looking;
 use crate::picture::Picture;
 use crate::trouble::{Doing, Trouble};
 use crate::words::{Shape, Words};
@@ -16,17 +17,18 @@ pub const VERB: Verb = Verb {
     purpose: "Show a stamped file, and the double job: one file through two FCBs.",
     usage: "[-u USER] [--colour WHEN]",
     help: "\
-Both are shown on empty disks, in memory alone, whose write protection is lifted
-where it says so. The stamped file's disk has date
-entries, and a label that asks for create and update stamps; each step shows its
-call, the time that it is handed, the code, and the file's stamps afterwards, as
-call 17 gives them. These times are always the same, whatever --time says.
+Both are shown on empty disks, in memory alone. These begin write-protected; a
+line says where the protection is lifted.
+
+The stamped file's disk has date entries, and a label that asks for create and
+update stamps; each step shows its call, the time that it is handed, the code,
+and the file's stamps afterwards, as call 17 gives them. These times are always
+the same, whatever --time says.
 
 In the double job a file is made and opened once more, and both FCBs write its
-first record. Each gets a block of its own. The first to close
-keeps its block; the second is no longer current, and the block it took stays
-pending until call 98 frees it. Each step shows its call, the code, and the map
-afterwards.
+first record. Each gets a block of its own. The first to close keeps its block;
+the second is no longer current, and the block that it took stays pending until
+call 98 frees it. Each step shows its call, the code, and the map afterwards.
 
   --colour WHEN   always, never, or auto: where standard output is a terminal",
     shape: Shape {
@@ -46,6 +48,8 @@ enum Which {
 
 /// A step: the call, the FCB it is lent, what must come out, and why.
 struct Step {
+    /// Whether the write protection is lifted before it.
+    lifts: bool,
     call: Call,
     fcb: Which,
     /// A and H.
@@ -57,6 +61,7 @@ struct Step {
 
 const fn step(call: Call, fcb: Which, due: (u8, u8), says: &'static str) -> Step {
     Step {
+        lifts: false,
         call,
         fcb,
         due,
@@ -67,11 +72,8 @@ const fn step(call: Call, fcb: Which, due: (u8, u8), says: &'static str) -> Step
 
 const fn space(records: u32, says: &'static str) -> Step {
     Step {
-        call: Call::Space,
-        fcb: Which::None,
-        due: (0, 0),
         free: Some(records),
-        says,
+        ..step(Call::Space, Which::None, (0, 0), says)
     }
 }
 
@@ -83,12 +85,15 @@ const STEPS: [Step; 12] = [
         "the map is made from the directory, which is empty",
     ),
     space(1_928, "all 241 blocks behind the directory are free"),
-    step(
-        Call::Make,
-        Which::First,
-        (0, 0),
-        "JOB.DAT is there, without blocks yet",
-    ),
+    Step {
+        lifts: true,
+        ..step(
+            Call::Make,
+            Which::First,
+            (0, 0),
+            "JOB.DAT is there, without blocks yet",
+        )
+    },
     step(
         Call::Open,
         Which::Second,
@@ -249,7 +254,7 @@ fn double_job(user: u8, colours: bool, desk: &mut Desk) -> Result<(), Trouble> {
         "The double job: one file, written through two FCBs.\n"
     )?;
     for (number, step) in STEPS.iter().enumerate() {
-        if disk.is_protected() && step.call == Call::Make {
+        if step.lifts {
             lift(&mut disk, desk)?;
         }
         let (fcb, with) = match step.fcb {
@@ -270,7 +275,7 @@ fn double_job(user: u8, colours: bool, desk: &mut Desk) -> Result<(), Trouble> {
         if let Some((free, _)) = told {
             write!(desk.out, ": {free} records are free")?;
         }
-        let picture = Picture::of(&disk).doing("the picture")?;
+        let picture = Picture::of(Looking::at(disk.clone())).doing("the picture")?;
         writeln!(desk.out, "\n    {}\n\n{}", step.says, picture.text(colours))?;
         if (a, h) != step.due || told.is_some_and(|(free, due)| free != due) {
             let wrong = format!("step {number} of the double job came out wrong");

@@ -2,12 +2,13 @@
 
 use super::{image_or_held, logged_in, named};
 use crate::files::{self, File, FILLING};
+use crate::looking::Looking;
 use crate::saving::{already_there, Held, Ready};
 use crate::store::ImageFile;
 use crate::trouble::{Doing, Trouble};
 use crate::words::{Shape, Words};
 use crate::{Desk, Verb};
-use benzokamuri::{Code, Disk, Pattern};
+use benzokamuri::{Code, Pattern};
 use std::io::Write;
 use std::path::{Path, PathBuf};
 
@@ -64,10 +65,6 @@ fn run(mut words: Words, desk: &mut Desk) -> Result<(), Trouble> {
     for path in found.iter().filter_map(|file| target.path_of(file)) {
         may_be_written(&path, replace, held.as_ref())?;
     }
-    // Without --stamp the disk stays write-protected: reading leaves no stamp.
-    if stamps {
-        desk.lift(&mut disk);
-    }
     // All is read and written before anything takes its place.
     let mut copies = Vec::new();
     for file in &found {
@@ -75,13 +72,30 @@ fn run(mut words: Words, desk: &mut Desk) -> Result<(), Trouble> {
         let bytes = copied(&mut disk, file, &words, desk).doing(doing)?;
         copies.push((target.path_of(file), bytes));
     }
-    let stamped = held.map(|held| image.ready(&held, &disk).map(|ready| (held, ready)));
-    let stamped = stamped.transpose()?;
+    // Without --stamp the disk stays write-protected, and nothing is to be saved.
+    let Some(held) = held else {
+        return write(copies, replace, desk);
+    };
+    let ready = stamped(disk, &found, &image, &held, desk)?;
     write(copies, replace, desk)?;
-    match stamped {
-        Some((_held, ready)) => save_stamps(&image, ready, desk),
-        None => Ok(()),
+    save_stamps(&image, ready, desk)
+}
+
+/// The image, ready to be saved with the access stamps of the files that were
+/// read.
+fn stamped(
+    disk: Looking,
+    found: &[File],
+    image: &ImageFile,
+    held: &Held,
+    desk: &mut Desk,
+) -> Result<Option<Ready>, Trouble> {
+    let mut disk = disk.lifted(desk);
+    for file in found {
+        let doing = format!("{}: {}", image.name(), file.name);
+        files::stamp_access(&mut disk, file).doing(doing)?;
     }
+    image.ready(held, &disk)
 }
 
 /// Saves the image with the stamps that reading has left: last, so that what
@@ -165,7 +179,12 @@ fn write(
 }
 
 /// A file's bytes as they are to be written.
-fn copied(disk: &mut Disk, file: &File, words: &Words, desk: &mut Desk) -> Result<Vec<u8>, Code> {
+fn copied(
+    disk: &mut Looking,
+    file: &File,
+    words: &Words,
+    desk: &mut Desk,
+) -> Result<Vec<u8>, Code> {
     let mut contents = files::read(disk, file)?;
     if contents.missing > 0 {
         let (name, missing) = (file.name, contents.missing);

@@ -3,10 +3,11 @@
 use super::{image, logged_in, named};
 use crate::files::{self, File, LAST_USER};
 use crate::layout::Row;
+use crate::looking::Looking;
 use crate::trouble::{Doing, Trouble};
 use crate::words::{Shape, Words};
 use crate::{Desk, Verb};
-use benzokamuri::{Code, Disk, Pattern, Stamps, Time};
+use benzokamuri::{Code, Pattern, Stamps, Time};
 use std::fmt::Write as _;
 use std::io::Write as _;
 
@@ -144,7 +145,7 @@ fn counted(count: usize, what: &str) -> String {
 }
 
 /// A user's files that match one of some patterns, each once.
-fn listed_for(disk: &mut Disk, user: u8, patterns: &[Pattern]) -> Result<Vec<File>, Code> {
+fn listed_for(disk: &mut Looking, user: u8, patterns: &[Pattern]) -> Result<Vec<File>, Code> {
     let mut listed = Vec::new();
     for &pattern in patterns {
         listed.extend(files::matching(disk, user, pattern)?);

@@ -2,12 +2,12 @@
 
 use super::check::read_state;
 use super::{colours, image, logged_in, time};
+use crate::looking::Looking;
 use crate::picture::Picture;
 use crate::saving::Ready;
 use crate::trouble::{Doing, Trouble};
 use crate::words::{Shape, Words};
 use crate::{Desk, Verb};
-use benzokamuri::Disk;
 use std::io::Write;
 use std::path::Path;
 
@@ -39,14 +39,11 @@ fn run(mut words: Words, desk: &mut Desk) -> Result<(), Trouble> {
         None => logged_in(&image, &words, desk)?,
         Some(path) => {
             let state = read_state(path)?;
-            let mut disk = Disk::resumed(image.copy(), state.map, state.session);
-            // Whatever the state says: nothing is to change here.
-            disk.protect();
-            disk.set_time(time(&words, desk));
-            disk
+            let time = time(&words, desk);
+            Looking::resumed(image.copy(), state.map, state.session, time)
         }
     };
-    let picture = Picture::of(&disk).doing(image.name())?;
+    let picture = Picture::of(disk).doing(image.name())?;
     match words.value("--svg") {
         None => desk.out.write_all(picture.text(colours).as_bytes())?,
         Some(path) if path == "-" => desk.out.write_all(picture.svg(&image.name()).as_bytes())?,

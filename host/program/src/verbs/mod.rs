@@ -12,12 +12,13 @@ mod new;
 mod put;
 mod rm;
 
+use crate::looking::Looking;
 use crate::saving::Held;
 use crate::store::ImageFile;
 use crate::trouble::Trouble;
 use crate::words::Words;
 use crate::{Desk, Verb};
-use benzokamuri::{BadName, Disk, Time};
+use benzokamuri::{BadName, Time};
 use std::ffi::OsStr;
 use std::str::FromStr;
 
@@ -84,8 +85,9 @@ fn time(words: &Words, desk: &mut Desk) -> Time {
     })
 }
 
-/// Logs in to an image, as the user and at the time of the command line.
-fn logged_in(image: &ImageFile, words: &Words, desk: &mut Desk) -> Result<Disk, Trouble> {
+/// Logs in to an image, as the user and at the time of the command line. A verb
+/// that changes the disk lifts it right before the first call that may write.
+fn logged_in(image: &ImageFile, words: &Words, desk: &mut Desk) -> Result<Looking, Trouble> {
     image.log_in(words.user(), time(words, desk))
 }
 

@@ -25,8 +25,7 @@ fn run(mut words: Words, desk: &mut Desk) -> Result<(), Trouble> {
     let old: Name = named(&words.next("the old name")?)?;
     let new: Name = named(&words.next("the new name")?)?;
     words.end()?;
-    let mut disk = logged_in(&image, &words, desk)?;
-    desk.lift(&mut disk);
+    let mut disk = logged_in(&image, &words, desk)?.lifted(desk);
     let renamed = disk.rename(&mut Fcb::renaming(old, new));
     renamed.doing(format!("{}: {old} to {new}", image.name()))?;
     image.save(&held, &disk, None, desk)

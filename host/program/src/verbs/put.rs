@@ -65,7 +65,7 @@ fn run(mut words: Words, desk: &mut Desk) -> Result<(), Trouble> {
         let hint = format!("{doing}: {a}, {h}: {code} -f replaces it.");
         return Err(Trouble::failed(hint));
     }
-    desk.lift(&mut disk);
+    let mut disk = disk.lifted(desk);
     if there {
         disk.delete(&mut Fcb::named(name)).doing(&doing)?;
     }

@@ -29,8 +29,7 @@ fn run(mut words: Words, desk: &mut Desk) -> Result<(), Trouble> {
         .iter()
         .map(|word| named(word))
         .collect::<Result<_, _>>()?;
-    let mut disk = logged_in(&image, &words, desk)?;
-    desk.lift(&mut disk);
+    let mut disk = logged_in(&image, &words, desk)?.lifted(desk);
     for pattern in patterns {
         let deleted = disk.delete(&mut Fcb::matching(pattern));
         deleted.doing(format!("{}: {pattern}", image.name()))?;
