@@ -1,4 +1,5 @@
-// The demands once more, of `call` itself: functions above it that go by its contract alone, and ask nothing of what they are handed.
+// The demands once more, of `call` itself: functions above it that go by its contract, and by those of lifting and setting the protection, alone, and
+// ask nothing of what they are handed.
 ghost use mathlib.Core.Path.{_≡_};
 ghost use Prim.Native.Nat.{_<_};
 ghost use lib.ListN.{length};

@@ -42,7 +42,7 @@ use Rattle.table.specs.Total.{CarriedOut, total-refused, total-accepted}
 use Rattle.table.specs.Accepted.{carried-says}
 use Rattle.table.specs.Stamping.{where-undated, record-stamps}
 use Rattle.demands.specs.Stamped.{stampedAs, stamped-as}
-use Rattle.demands.specs.Runs.{Request, Disk, lentTo, outcomeOf, accepts}
+use Rattle.demands.specs.Runs.{Request, Disk, lentTo, outcomeOf, accepts, liftedBy}
 
 -- an answer with this A and H
 abbrev pub IsAnswer : Answer → ℕ → ℕ → Type 0
@@ -56,10 +56,6 @@ pub record PastCurrent (n : ℕ) (r : Answer) : Type 0 where
   pub protection : kindOf n ≡ Write → IsAnswer r 255 2 → ⊥
   pub random : IsAnswer r 6 0 → ⊥
   pub current : IsAnswer r 9 0 → ⊥
-
--- the disk with the protection lifted, by any byte but 0
-abbrev pub liftedBy : ℕ → Disk → Disk
-liftedBy b d = record { drive = d .drive; session = withLifted (d .session) b }
 
 -- call 16 with the FCB, and all else, of another call
 abbrev pub toClose : Request → Request
@@ -80,7 +76,7 @@ closedDrive G d q = closed G (d .session) (lentTo d q) .lent .drive
 abbrev pub stampsOf : Geometry → Disk → Request → List Stamp
 stampsOf G d q = stampsBy G (q .asked) (lentTo d q) (d .session) (kindOf (q .asked .number))
 
--- the close that a move begins with: as a call by itself it is accepted, and does what its rule says, stamped; image and map after its rule are
+-- the close that a move begins with: as a call by itself, with the protection lifted by a byte b, it is accepted, and does what its rule says, stamped; image and map after its rule are
 -- those of a move to an entry that is there and, once the new row is put in its place, those of a move that makes one; and the move stamps what
 -- the close stamps, and then, if it makes an entry, that one
 pub record ClosesFirst (G : Geometry) (d : Disk) (q : Request) (b : ℕ) : Type 0 where
@@ -127,7 +123,7 @@ module _ (G : Geometry) (asked : Asked) (l : Lent) (s : Session) where
         rows = stopped-or-own (d .1) (split k (λ f. inl f) (λ z. inr (w .protection z)));
       }
 
-module _ (G : Geometry) (asked : Asked) (l : Lent) (s : Session) (b : ℕ) (lifts : b ≡ 0 → ⊥) where
+module _ (G : Geometry) (asked : Asked) (l : Lent) (s : Session) (b : ℕ) (nonzero : b ≡ 0 → ⊥) where
   abbrev CloseFollows : ℕ → Type 0
   CloseFollows n = PastCurrent n (step G (calling n asked) l s .answer) → CarriedOut G (calling 16 asked) l (withLifted s b)
 
@@ -147,7 +143,7 @@ module _ (G : Geometry) (asked : Asked) (l : Lent) (s : Session) (b : ℕ) (lift
   unfolding isCall kindOf protected
   close-carried r f =
       total-accepted G (calling 16 asked) l (withLifted s b)
-      (passes G (calling 16 asked) l (withLifted s b) refl r (lifted-spared G (calling 16 asked) l (withLifted s b) (ne-eqb b 0 lifts)) (f & tt))
+      (passes G (calling 16 asked) l (withLifted s b) refl r (lifted-spared G (calling 16 asked) l (withLifted s b) (ne-eqb b 0 nonzero)) (f & tt))
 
   -- 20 and 21 test the FCB first
   after-sequential : (n : ℕ) (rs : List Row) → isCall n ≡ true → usesFcb n ≡ true → (oneOf n changers ≡ false) ⊎ (kindOf n ≡ Write)
@@ -200,8 +196,8 @@ close-stamps G asked l s b e = refl
 pub closes-first : (G : Geometry) (d : Disk) (q : Request) → ofRecord (kindOf (q .asked .number)) ≡ true → PastCurrent (q .asked .number) (outcomeOf G d q .answer)
     → (b : ℕ) → (b ≡ 0 → ⊥) → ClosesFirst G d q b
 unfolding outcomeOf kindOf closed closedAt moved made
-closes-first G d q k w b lifts =
-    let c = close-follows G (q .asked) (lentTo d q) (d .session) b lifts k w in
+closes-first G d q k w b nonzero =
+    let c = close-follows G (q .asked) (lentTo d q) (d .session) b nonzero k w in
     let by = record-stamps G (q .asked) (lentTo d q) (d .session) (kindOf (q .asked .number)) k in
     let own : (p : Plan) → planOf G d q ≡ p → numberOf (G .entries) (presentEntry G (d .session .user) (lentTo d q)) ≡ closedBy p =
     λ p z. sym (plan-closes G (q .asked .number) (d .session .user) (lentTo d q)) ∙ ap closedBy z in

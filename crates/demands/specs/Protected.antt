@@ -184,10 +184,10 @@ spared-table G asked l s f = rw f
 abbrev pub relifted : ℕ → Outcome → Outcome
 relifted b o = record { answer = record { a = o .answer .a; h = o .answer .h; session = withLifted (o .answer .session) b }; lent = o .lent }
 
-module _ (G : Geometry) (asked : Asked) (l : Lent) (s : Session) (b : ℕ) (lifted : b ≡ 0 → ⊥) where
+module _ (G : Geometry) (asked : Asked) (l : Lent) (s : Session) (b : ℕ) (nonzero : b ≡ 0 → ⊥) where
   spared-lifted : protectionHolds G asked l (withLifted s b) ≡ false
   unfolding protected
-  spared-lifted = lifted-spared G asked l (withLifted s b) (ne-eqb b 0 lifted)
+  spared-lifted = lifted-spared G asked l (withLifted s b) (ne-eqb b 0 nonzero)
 
   -- ---- a read that the protection refuses succeeds once it is lifted
   pub stopped-passes : isCall (asked .number) ≡ true → Ready G asked l s → protectionHolds G asked l s ≡ true → oneOf (asked .number) changers ≡ false

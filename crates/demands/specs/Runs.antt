@@ -2,10 +2,11 @@
 -- and any length; image, map and session pass from one to the next.
 use mathlib.Core.Bool.{Bool}
 use mathlib.Core.List.{List, [], _∷_}
+use Prim.Native.Nat.{ℕ}
 use Rattle.format.specs.Diskette.{Bytes, Geometry}
 use Rattle.model.specs.declared.Asked.{Asked}
 use Rattle.model.specs.declared.Session.{Session}
-use Rattle.model.specs.Lent.{Drive, Lent, Outcome, lift, protect}
+use Rattle.model.specs.Lent.{Drive, Lent, Outcome, withLifted}
 use Rattle.model.specs.Step.{step}
 use Rattle.table.specs.Accepted.{acceptedAnswer}
 use Rattle.effects.specs.Book.{Book, bookStep}
@@ -43,12 +44,15 @@ pub data Act : Type 0 where
   lifts : Act
   protects : Act
 
--- the disk with its session's protection lifted, or set; all else stays
+-- the disk with another byte for its session's protection: 1 lifts it, 0 sets it; all else stays
+abbrev pub liftedBy : ℕ → Disk → Disk
+liftedBy b d = record { drive = d .drive; session = withLifted (d .session) b }
+
 abbrev pub liftedDisk : Disk → Disk
-liftedDisk d = record { drive = d .drive; session = lift (d .session) }
+liftedDisk d = liftedBy 1 d
 
 abbrev pub protectedDisk : Disk → Disk
-protectedDisk d = record { drive = d .drive; session = protect (d .session) }
+protectedDisk d = liftedBy 0 d
 
 abbrev pub afterAct : Geometry → Disk → Act → Disk
 afterAct G d (one-call q) = after G d q

@@ -35,7 +35,7 @@ protecting = 257
 abbrev pub actBy : ℕ → Request → Act
 actBy n q = cond (eqb n lifting) lifts (cond (eqb n protecting) protects (one-call q))
 
--- the run that a script stands for. One that ends within a call ends before it; where FCBs or buffers run out, what is left is lent
+-- the run that a script stands for. One that ends within an act ends before it; where FCBs or buffers run out, what is left is lent
 unfoldable pub actsOf : List ℕ → Bytes → Bytes → List Act
 actsOf (n ∷ a ∷ d ∷ h ∷ m ∷ f ∷ b ∷ script) fcbs buffers =
     actBy n (request (askedBy n a d h m) (take f fcbs) (take b buffers)) ∷ actsOf script (drop f fcbs) (drop b buffers)
@@ -109,7 +109,7 @@ scripted (lifts ∷ rest) all = rw (scripted rest all)
 scripted (protects ∷ rest) all = rw (scripted rest all)
 
 -- ---- the loop that makes them
--- the disk that is come to by the calls from `at` on, from a point of a run
+-- the disk that is come to by the acts from `at` on, from a point of a run
 unfoldable pub actsLeft : List ℕ → ℕ → Bytes → Bytes → Bytes → Bytes → Point → Disk
 actsLeft script at fcbs buffers image map p =
     run eightInch (diskOf image map (p .session)) (actsOf (drop at script) (drop (p .fcbs) fcbs) (drop (p .buffers) buffers))

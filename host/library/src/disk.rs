@@ -17,7 +17,8 @@ const DATES: u8 = 0x21;
 ///
 /// A disk begins write-protected: no call changes its image, and those that
 /// would are refused with [`Code::Protected`], until [`Disk::lift`] is called.
-/// Reading, listing and logging in need no lift.
+/// Reading, listing and logging in need no lift; only a read that would leave an
+/// extent which was written to and not closed is refused, since it closes it.
 ///
 /// A disk begins at [`Time::ZERO`], and its time stands still until
 /// [`Disk::set_time`] is called: what a call does is decided by what it is given

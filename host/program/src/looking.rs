@@ -4,10 +4,9 @@ use crate::Desk;
 use benzokamuri::{Buffer, Code, Disk, Fcb, Found, Image, Map, Session, Time};
 
 /// A disk that stays write-protected for as long as it is looked at. It has the
-/// calls that look, and none of the others; finding and reading files takes no
-/// other kind of disk. So a verb can't look at a disk that is lifted, and has to
-/// let go of this one, by [`Looking::lifted`], to change anything.
-#[derive(Clone)]
+/// calls that look, and none of the others. Files are found and read on no other
+/// kind of disk, so a verb has to let go of this one, by [`Looking::lifted`], to
+/// change anything.
 pub struct Looking(Disk);
 
 impl Looking {
