@@ -76,9 +76,9 @@ closedDrive G d q = closed G (d .session) (lentTo d q) .lent .drive
 abbrev pub stampsOf : Geometry → Disk → Request → List Stamp
 stampsOf G d q = stampsBy G (q .asked) (lentTo d q) (d .session) (kindOf (q .asked .number))
 
--- the close that a move begins with: as a call by itself, with the protection lifted by a byte b, it is accepted, and does what its rule says, stamped; image and map after its rule are
--- those of a move to an entry that is there and, once the new row is put in its place, those of a move that makes one; and the move stamps what
--- the close stamps, and then, if it makes an entry, that one
+-- the close that a move begins with: as a call by itself, with the protection lifted by a byte b, it is accepted, and does what its rule says,
+-- stamped; image and map after its rule are those of a move to an entry that is there and, once the new row is put in its place, those of a move
+-- that makes one; and the move stamps what the close stamps, and then, if it makes an entry, that one
 pub record ClosesFirst (G : Geometry) (d : Disk) (q : Request) (b : ℕ) : Type 0 where
   pub accepted : accepts G (liftedBy b d) (toClose q) ≡ true
   pub is : outcomeOf G (liftedBy b d) (toClose q) ≡ stampedAs G (calling 16 (q .asked)) (lentTo d q) (withLifted (d .session) b) Close

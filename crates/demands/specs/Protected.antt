@@ -30,11 +30,10 @@ use Rattle.model.specs.Target.{plan, moved, haveRead}
 use Rattle.model.specs.Calls.{loggedIn, freed, userSet, openedAt, opened, closedAt, closed, foundAt, searched, deletes, deleted, createdAt, created, renamed, readAt, reading, read, writtenAt, writing, written, sized, positioned, space}
 use Rattle.model.specs.Stamps.{Stamp, accessStamps, closeStamps, newStamps, createStamps, moveStamps, stampsBy, stampedOutcome, whereDated}
 use Rattle.model.specs.Step.{refused, told, pattern, place, settled, does, effect, carriedOut, stampsMade, step}
-use Rattle.model.specs.Table.{changers, readers, parametersRight, diskRight, when, firstRow, ownRows, protectionHolds, table, verdict}
+use Rattle.model.specs.Table.{changers, parametersRight, diskRight, when, firstRow, ownRows, protectionHolds, table, verdict}
 use Rattle.fields.specs.Closing.{map-kept}
-use Rattle.table.specs.First.{_&_}
-use Rattle.table.specs.Own.{at-kind, same-is, not-unlisted}
-use Rattle.table.specs.Protection.{planChanges, lifted-spared, changer-stopped, spared-unchanged, plan-changes, stopped-succeeds, succeeds-none}
+use Rattle.table.specs.Own.{same-is, not-unlisted}
+use Rattle.table.specs.Protection.{changesKind, by-kind, reads-listed, planChanges, lifted-spared, changer-stopped, spared-unchanged, plan-changes, stopped-succeeds, succeeds-none}
 use Rattle.table.specs.Facts.{Reads, Ready, ready-lifted}
 use Rattle.table.specs.Accept.{reads-of, passes}
 use Rattle.table.specs.Accepted.{acceptedAnswer, carried-says}
@@ -70,19 +69,17 @@ nothing-changed l n o q = record { image = ap (λ (d : Drive). d .image) q; map 
 
 module _ (G : Geometry) (asked : Asked) (l : Lent) (s : Session) (p : protected s ≡ true) (c : CarriedOut G asked l s) where
   -- no call that changes the disk is carried out
-  none-changes : {A : Type 0} → oneOf (asked .number) changers ≡ true → A
-  none-changes w = not-both (protectionHolds G asked l s) (changer-stopped G asked l s p w) (c .facts .spared)
+  none-changes : {A : Type 0} (k : Kind) → changesKind k ≡ true → kindOf (asked .number) ≡ k → A
+  none-changes k t q =
+      not-both (protectionHolds G asked l s) (changer-stopped G asked l s p (sym (by-kind (asked .number) k q) ∙ t)) (c .facts .spared)
 
   -- and a read that is changes no entry
   module _ (reads : kindOf (asked .number) ≡ Read) where
-    reader : oneOf (asked .number) readers ≡ true
-    reader = at-kind (λ (n : ℕ). oneOf n readers ≡ true) Read (asked .number) refl (refl & refl & tt) reads
-
     of-read : Reads G l s (asked .number)
     of-read = reads-of G asked l s (c .facts .none) (c .facts .ready .image-right) (c .facts .ready .fits .user-low) reads
 
     unmoved : planChanges G l (plan G (asked .number) (s .user) l) ≡ false
-    unmoved = sym (plan-changes G asked l s) ∙ spared-unchanged G asked l s p reader (c .facts .none) (c .facts .spared)
+    unmoved = sym (plan-changes G asked l s) ∙ spared-unchanged G asked l s p (reads-listed (asked .number) reads) (c .facts .none) (c .facts .spared)
 
     read-leaves : (q : Plan) → Planned G (asked .number) (s .user) l (There G (asked .number) (s .user) l) q → planChanges G l q ≡ false
         → (reading G s l (asked .number) q .lent .drive ≡ l .drive) × (moveStamps G asked l s q ≡ [])
@@ -109,12 +106,12 @@ module _ (G : Geometry) (asked : Asked) (l : Lent) (s : Session) (p : protected 
   rule-leaves Search q z = (refl, refl)
   rule-leaves User q z = (cond-either (λ (o : Outcome). o .lent .drive ≡ l .drive) (eqb (asked .argument) 255) (λ t. refl) (λ f. refl), refl)
   rule-leaves Settle q z = clash z
-  rule-leaves Close q z = none-changes (at-kind (λ (n : ℕ). oneOf n changers ≡ true) Close (asked .number) refl (refl & tt) q)
-  rule-leaves Delete q z = none-changes (at-kind (λ (n : ℕ). oneOf n changers ≡ true) Delete (asked .number) refl (refl & tt) q)
-  rule-leaves Create q z = none-changes (at-kind (λ (n : ℕ). oneOf n changers ≡ true) Create (asked .number) refl (refl & tt) q)
-  rule-leaves Rename q z = none-changes (at-kind (λ (n : ℕ). oneOf n changers ≡ true) Rename (asked .number) refl (refl & tt) q)
+  rule-leaves Close q z = none-changes Close refl q
+  rule-leaves Delete q z = none-changes Delete refl q
+  rule-leaves Create q z = none-changes Create refl q
+  rule-leaves Rename q z = none-changes Rename refl q
   rule-leaves Read q z = read-unchanged q
-  rule-leaves Write q z = none-changes (at-kind (λ (n : ℕ). oneOf n changers ≡ true) Write (asked .number) refl (refl & refl & tt) q)
+  rule-leaves Write q z = none-changes Write refl q
 
   unsettled-leaves : (k : Kind) → kindOf (asked .number) ≡ k → same k Settle ≡ false → Unchanged l (asked .number) (step G asked l s)
   unsettled-leaves k q z =

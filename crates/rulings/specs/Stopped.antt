@@ -20,7 +20,7 @@ use Rattle.model.specs.Target.{plan}
 use Rattle.model.specs.Table.{readers, firstRow, ownRows, moveChanges, protectionHolds}
 use Rattle.table.specs.First.{_&_, passed-none, refused-decides}
 use Rattle.table.specs.Own.{calling, at-kind}
-use Rattle.table.specs.Protection.{planChanges, lifted-spared, read-stopped, none-succeeds, unchanged-spared, failing-spared, plan-changes}
+use Rattle.table.specs.Protection.{reads-listed, planChanges, lifted-spared, read-stopped, none-succeeds, unchanged-spared, failing-spared, plan-changes}
 use Rattle.rulings.specs.declared.Ruling.the-variants.{Refuse, Follow}
 use Rattle.rulings.specs.Ruling.{rulingOf, rulingRows, ruling}
 use Rattle.rulings.specs.Own.{rows-20, rows-33}
@@ -36,7 +36,7 @@ ruling-passed (Refused d) q p h = absurd (let z : _≡_ {A = ℕ} 0 1 = cc in om
 
 module _ (G : Geometry) (asked : Asked) (l : Lent) (s : Session) (only : protected s ≡ true → kindOf (asked .number) ≡ Read) where
   reader : protected s ≡ true → oneOf (asked .number) readers ≡ true
-  reader t = at-kind (λ (n : ℕ). oneOf n readers ≡ true) Read (asked .number) refl (refl & refl & tt) (only t)
+  reader t = reads-listed (asked .number) (only t)
 
   -- the rows of a read decide as its chain does
   rows-read : protected s ≡ true → firstRow (ownRows G asked l s) ≡ firstRow (rulingRows G (asked .number) (s .user) l)

@@ -1,10 +1,10 @@
 -- The row of 255, 2: of which calls and sessions it can hold at all, and of which it does.
-use mathlib.Core.Path.{_≡_, refl, sym, ap, _∙_}
+use mathlib.Core.Path.{_≡_, refl, sym, ap, subst, _∙_}
 use mathlib.Core.Bool.{Bool, true, false, not}
 use mathlib.Core.List.{List, _++_}
 use Prim.Native.Nat.{ℕ}
-use Rattle.lists.specs.Cases.{split, bool-cases, clash, not-both, refute}
-use Rattle.lists.specs.Tests.{and-left, and-right, and-both, and-fails-left, and-fails-right, and-then, or-left, or-right, or-then, or-cases}
+use Rattle.lists.specs.Cases.{split, bool-cases, clash, not-both, refute, bool-ext}
+use Rattle.lists.specs.Tests.{_and_, and-left, and-right, and-both, and-fails-left, and-fails-right, and-then, or-left, or-right, or-then, or-cases}
 use Rattle.format.specs.Diskette.{Geometry}
 use Rattle.format.specs.Found.{numberOf}
 use Rattle.format.specs.declared.Found.{Found}
@@ -17,7 +17,7 @@ use Rattle.model.specs.declared.Code.{Code}
 use Rattle.model.specs.declared.Verdict.{Verdict}
 use Rattle.model.specs.declared.Verdict.the-variants.{Passed, Refused}
 use Rattle.model.specs.declared.Kind.{Kind}
-use Rattle.model.specs.declared.Kind.the-variants.{Read, Write}
+use Rattle.model.specs.declared.Kind.the-variants.{Unlisted, Quiet, Search, User, Settle, Close, Delete, Create, Rename, Read, Write}
 use Rattle.model.specs.Kinds.{kindOf, same, ofRecord, oneOf}
 use Rattle.model.specs.Lent.{Lent, rowsOf, protected}
 use Rattle.model.specs.Closing.{closeChanges}
@@ -36,7 +36,46 @@ changer-listed n h = at-one (λ (m : ℕ). oneOf m stoppedCalls ≡ true) n chan
 reader-listed : (n : ℕ) → oneOf n readers ≡ true → oneOf n stoppedCalls ≡ true
 reader-listed n h = at-one (λ (m : ℕ). oneOf m stoppedCalls ≡ true) n readers h (refl & refl & tt)
 
+-- ---- by the kind
+-- the kinds whose calls change the disk
+abbrev pub changesKind : Kind → Bool
+changesKind Unlisted = false
+changesKind Quiet = false
+changesKind Search = false
+changesKind User = false
+changesKind Settle = false
+changesKind Close = true
+changesKind Delete = true
+changesKind Create = true
+changesKind Rename = true
+changesKind Read = false
+changesKind Write = true
+
+module _ (n : ℕ) where
+  among : (k : Kind) → changesKind k ≡ true → kindOf n ≡ k → oneOf n changers ≡ true
+  among Unlisted h q = clash (sym h)
+  among Quiet h q = clash (sym h)
+  among Search h q = clash (sym h)
+  among User h q = clash (sym h)
+  among Settle h q = clash (sym h)
+  among Close h q = at-kind (λ (m : ℕ). oneOf m changers ≡ true) Close n refl (refl & tt) q
+  among Delete h q = at-kind (λ (m : ℕ). oneOf m changers ≡ true) Delete n refl (refl & tt) q
+  among Create h q = at-kind (λ (m : ℕ). oneOf m changers ≡ true) Create n refl (refl & tt) q
+  among Rename h q = at-kind (λ (m : ℕ). oneOf m changers ≡ true) Rename n refl (refl & tt) q
+  among Read h q = clash (sym h)
+  among Write h q = at-kind (λ (m : ℕ). oneOf m changers ≡ true) Write n refl (refl & refl & tt) q
+
+  of-kind : oneOf n changers ≡ true → changesKind (kindOf n) ≡ true
+  unfolding kindOf
+  of-kind t = at-one (λ (m : ℕ). changesKind (kindOf m) ≡ true) n changers t (refl & refl & refl & refl & refl & refl & tt)
+
+  pub by-kind : (k : Kind) → kindOf n ≡ k → changesKind k ≡ oneOf n changers
+  by-kind k q = bool-ext _ _ (λ t. among k t q) (λ t. subst (λ (j : Kind). changesKind j ≡ true) q (of-kind t))
+
 -- 20 and 33 are the reads
+pub reads-listed : (n : ℕ) → kindOf n ≡ Read → oneOf n readers ≡ true
+reads-listed n q = at-kind (λ (m : ℕ). oneOf m readers ≡ true) Read n refl (refl & refl & tt) q
+
 pub not-reader : (n : ℕ) (k : Kind) → kindOf n ≡ k → same k Read ≡ false → oneOf n readers ≡ false
 unfolding kindOf
 not-reader n k q f =
@@ -46,8 +85,7 @@ not-reader n k q f =
 pub record-reads : (n : ℕ) → ofRecord (kindOf n) ≡ true → oneOf n changers ≡ false → kindOf n ≡ Read
 record-reads n h f =
     split (bool-cases (same (kindOf n) Read)) (λ t. same-is (kindOf n) Read t)
-    (λ g. not-both (oneOf n changers)
-    (at-kind (λ (m : ℕ). oneOf m changers ≡ true) Write n refl (refl & refl & tt) (same-is (kindOf n) Write (rw g at h))) f)
+    (λ g. not-both (oneOf n changers) (sym (by-kind n Write (same-is (kindOf n) Write (rw g at h)))) f)
 
 passed-verdict : (v : Verdict) → isPassed v ≡ true → v ≡ Passed
 passed-verdict Passed h = refl
@@ -111,21 +149,20 @@ module _ (G : Geometry) (asked : Asked) (l : Lent) (s : Session) where
       → moveChanges G asked l s ≡ false
   spared-unchanged p r n o = sym (refute _ (λ m. not-both (protectionHolds G asked l s) (read-stopped p r (none-succeeds n) m) o))
 
-  -- a read that moves nowhere, or whose close changes nothing, is not refused so
-  pub unchanged-spared : oneOf (asked .number) readers ≡ true → moveChanges G asked l s ≡ false → protectionHolds G asked l s ≡ false
+  -- a read is refused so only where both hold
+  reader-spared : oneOf (asked .number) readers ≡ true → (wouldSucceed G asked l s and moveChanges G asked l s) ≡ false → protectionHolds G asked l s ≡ false
   unfolding protectionHolds
-  unchanged-spared r m =
-      and-fails-right _ _
-      (or-then _ _ (at-one (λ (n : ℕ). oneOf n changers ≡ false) (asked .number) readers r (refl & refl & tt))
-      ∙ and-fails-right _ _ (and-fails-right _ _ m))
+  reader-spared r f =
+      and-fails-right _ _ (or-then _ _ (at-one (λ (n : ℕ). oneOf n changers ≡ false) (asked .number) readers r (refl & refl & tt)) ∙ and-fails-right _ _ f)
+
+  -- one that moves nowhere, or whose close changes nothing, is not
+  pub unchanged-spared : oneOf (asked .number) readers ≡ true → moveChanges G asked l s ≡ false → protectionHolds G asked l s ≡ false
+  unchanged-spared r m = reader-spared r (and-fails-right _ _ m)
 
   -- nor is one that a row of its own refuses: that row then decides
   pub failing-spared : oneOf (asked .number) readers ≡ true → (code : Code) → Decides code (ownRows G asked l s) → protectionHolds G asked l s ≡ false
-  unfolding protectionHolds wouldSucceed
-  failing-spared r code d =
-      and-fails-right _ _
-      (or-then _ _ (at-one (λ (n : ℕ). oneOf n changers ≡ false) (asked .number) readers r (refl & refl & tt))
-      ∙ and-fails-right _ _ (and-fails-left _ _ (ap isPassed (decides-refused code (ownRows G asked l s) d))))
+  unfolding wouldSucceed
+  failing-spared r code d = reader-spared r (and-fails-left _ _ (ap isPassed (decides-refused code (ownRows G asked l s) d)))
 
   pub stay-unchanged : stays (asked .number) (l .fcb) ≡ true → moveChanges G asked l s ≡ false
   unfolding moveChanges

@@ -2,7 +2,7 @@
 use mathlib.Core.Path.{_∙_}
 use borrow.Author.Needs.{needs}
 use Rattle.model.specs.declared.Kind.the-variants.{Unlisted, Quiet, Search, User, Settle, Close, Delete, Create, Rename, Read, Write}
-use Rattle.protection.specs.Changing.{by-kind}
+use Rattle.table.specs.Protection.{by-kind}
 use Rattle.protection.proofs.kind_changes.Statement.{statement}
 use Rattle.protection.proofs.kind_changes.Tie as tie
 
