@@ -21,6 +21,10 @@ pub record Disk : Type 0 where
   pub drive : Drive
   pub session : Session
 
+-- of an image, a map and a session
+abbrev pub diskOf : Bytes → Bytes → Session → Disk
+diskOf image map s = record { drive = record { image = image; map = map }; session = s }
+
 abbrev pub lentTo : Disk → Request → Lent
 lentTo d q = record { drive = d .drive; fcb = q .fcb; buffer = q .buffer }
 

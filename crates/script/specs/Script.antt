@@ -15,7 +15,7 @@ use Rattle.model.specs.declared.Asked.{Asked}
 use Rattle.model.specs.declared.Session.{Session}
 use Rattle.model.specs.Lent.{lend, Outcome, lift, protect}
 use Rattle.model.specs.Step.{step}
-use Rattle.demands.specs.Runs.{Request, Disk, outcomeOf, left, after, Act, one-call, lifts, protects, afterAct, run}
+use Rattle.demands.specs.Runs.{Request, Disk, diskOf, outcomeOf, left, after, Act, one-call, lifts, protects, afterAct, run}
 use Rattle.script.specs.declared.Point.{Point}
 
 abbrev pub request : Asked → Bytes → Bytes → Request
@@ -46,9 +46,6 @@ actsOf (n ∷ a ∷ d ∷ []) fcbs buffers = []
 actsOf (n ∷ a ∷ d ∷ h ∷ []) fcbs buffers = []
 actsOf (n ∷ a ∷ d ∷ h ∷ m ∷ []) fcbs buffers = []
 actsOf (n ∷ a ∷ d ∷ h ∷ m ∷ f ∷ []) fcbs buffers = []
-
-abbrev pub diskOf : Bytes → Bytes → Session → Disk
-diskOf image map s = record { drive = record { image = image; map = map }; session = s }
 
 -- every run whose numbers are in range is that of a script
 abbrev numbersOf : List Act → List ℕ

@@ -4,8 +4,8 @@ ghost use mathlib.Core.Path.{_≡_};
 ghost use Prim.Native.Nat.{_+_, _≤_};
 ghost use lib.ListN.{length};
 ghost use Rattle.format.specs.Diskette.{eightInch};
-ghost use Rattle.demands.specs.Runs.{afterAct, run};
-ghost use Rattle.script.specs.Script.{askedAt, request, actBy, actsOf, actsLeft, Ends, diskOf};
+ghost use Rattle.demands.specs.Runs.{diskOf, afterAct, run};
+ghost use Rattle.script.specs.Script.{askedAt, request, actBy, actsOf, actsLeft, Ends};
 use model::Asked;
 use model::Session;
 

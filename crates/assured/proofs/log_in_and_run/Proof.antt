@@ -5,8 +5,7 @@ use borrow.Author.Needs.{needs}
 use borrow.Author.Tests.{not-true, not-false}
 use Rattle.model.specs.Lent.{Outcome}
 use Rattle.table.specs.Accepted.{acceptedAnswer}
-use Rattle.demands.specs.Runs.{Request, Disk}
-use Rattle.script.specs.Script.{diskOf}
+use Rattle.demands.specs.Runs.{Request, Disk, diskOf}
 use Rattle.assured.specs.Demands.{logIn, met, met-after, met-says, met-run, login-refused, logged-in}
 use Rattle.assured.proofs.log_in_and_run.Statement.{statement}
 use Rattle.assured.proofs.log_in_and_run.Tie as tie

@@ -3,8 +3,8 @@ use mathlib.Core.Path.{ap, _∙_}
 use borrow.Author.Needs.{needs}
 use Rattle.format.specs.Diskette.{eightInch}
 use Rattle.model.specs.declared.Session.{Session}
-use Rattle.demands.specs.Runs.{run}
-use Rattle.script.specs.Script.{actsOf, diskOf}
+use Rattle.demands.specs.Runs.{diskOf, run}
+use Rattle.script.specs.Script.{actsOf}
 use Rattle.assured.specs.Demands.{untouched}
 use Rattle.assured.proofs.run_protected.Statement.{statement}
 use Rattle.assured.proofs.run_protected.Tie as tie

@@ -5,8 +5,8 @@ use mathlib.Core.Bool.{true, false}
 use borrow.Author.Needs.{needs}
 use borrow.Author.Tests.{not-true, not-false}
 use Rattle.model.specs.Lent.{Outcome}
-use Rattle.demands.specs.Runs.{Request, Disk}
-use Rattle.script.specs.Script.{request, diskOf}
+use Rattle.demands.specs.Runs.{Request, Disk, diskOf}
+use Rattle.script.specs.Script.{request}
 use Rattle.assured.specs.Demands.{writesAnswer, writesTo, met, met-says, met-run, not-written, write-read, fcb-long, extent-low, record-low, read-last, reads-again}
 use Rattle.assured.proofs.write_and_read.Statement.{statement}
 use Rattle.assured.proofs.write_and_read.Tie as tie
