@@ -1,0 +1,4 @@
+pub mod Bytes
+pub mod Calls
+pub mod Deciding
+pub mod Table
