@@ -30,7 +30,7 @@ use Rattle.model.specs.Target.{plan, moved, haveRead}
 use Rattle.model.specs.Calls.{loggedIn, freed, userSet, openedAt, opened, closedAt, closed, foundAt, searched, deletes, deleted, createdAt, created, renamed, readAt, reading, read, writtenAt, writing, written, sized, positioned, space}
 use Rattle.model.specs.Stamps.{Stamp, accessStamps, closeStamps, newStamps, createStamps, moveStamps, stampsBy, stampedOutcome, whereDated}
 use Rattle.model.specs.Step.{refused, told, pattern, place, settled, does, effect, carriedOut, stampsMade, step}
-use Rattle.model.specs.Table.{changers, parametersRight, diskRight, when, firstRow, ownRows, protectionHolds, table, verdict}
+use Rattle.model.specs.Table.{changers, parametersRight, diskRight, when, firstRow, ownRows, moveChanges, protectionHolds, table, verdict}
 use Rattle.fields.specs.Closing.{map-kept}
 use Rattle.table.specs.Own.{same-is, not-unlisted}
 use Rattle.table.specs.Protection.{changesKind, by-kind, reads-listed, planChanges, lifted-spared, changer-stopped, spared-unchanged, plan-changes, stopped-succeeds, succeeds-none}
@@ -67,6 +67,21 @@ pub record Unchanged (l : Lent) (n : ℕ) (o : Outcome) : Type 0 where
 nothing-changed : (l : Lent) (n : ℕ) (o : Outcome) → o .lent .drive ≡ l .drive → Unchanged l n o
 nothing-changed l n o q = record { image = ap (λ (d : Drive). d .image) q; map = λ z. ap (λ (d : Drive). d .map) q }
 
+-- a read whose move changes no entry leaves the drive, and makes no stamp
+module _ (G : Geometry) (asked : Asked) (l : Lent) (s : Session) (r : Reads G l s (asked .number)) where
+  read-leaves : (q : Plan) → Planned G (asked .number) (s .user) l (There G (asked .number) (s .user) l) q → planChanges G l q ≡ false
+      → (reading G s l (asked .number) q .lent .drive ≡ l .drive) × (moveStamps G asked l s q ≡ [])
+  unfolding readAt haveRead moved closedImage closeStamps
+  read-leaves q (stay e b at t target w) f = (refl, refl)
+  read-leaves q (move e t b at go target w) f =
+      (rw (f, map-kept G (rowsOf G l e) (l .fcb) f (l .drive .map)), rw (and-fails-right (asks G (rowsOf G l) asksUpdate) _ f))
+  read-leaves q (make e t b at go none room w) f = absurd (at-not-nothing (r .target .place) (sym (r .target .is) ∙ none))
+
+  pub read-unchanged : moveChanges G asked l s ≡ false → (does G asked l s Read .lent .drive ≡ l .drive) × (stampsBy G asked l s Read ≡ [])
+  unfolding read
+  read-unchanged f =
+      read-leaves (plan G (asked .number) (s .user) l) (planned-read G (asked .number) l s r) (sym (plan-changes G asked l s) ∙ f)
+
 module _ (G : Geometry) (asked : Asked) (l : Lent) (s : Session) (p : protected s ≡ true) (c : CarriedOut G asked l s) where
   -- no call that changes the disk is carried out
   none-changes : {A : Type 0} (k : Kind) → changesKind k ≡ true → kindOf (asked .number) ≡ k → A
@@ -74,24 +89,10 @@ module _ (G : Geometry) (asked : Asked) (l : Lent) (s : Session) (p : protected 
       not-both (protectionHolds G asked l s) (changer-stopped G asked l s p (sym (by-kind (asked .number) k q) ∙ t)) (c .facts .spared)
 
   -- and a read that is changes no entry
-  module _ (reads : kindOf (asked .number) ≡ Read) where
-    of-read : Reads G l s (asked .number)
-    of-read = reads-of G asked l s (c .facts .none) (c .facts .ready .image-right) (c .facts .ready .fits .user-low) reads
-
-    unmoved : planChanges G l (plan G (asked .number) (s .user) l) ≡ false
-    unmoved = sym (plan-changes G asked l s) ∙ spared-unchanged G asked l s p (reads-listed (asked .number) reads) (c .facts .none) (c .facts .spared)
-
-    read-leaves : (q : Plan) → Planned G (asked .number) (s .user) l (There G (asked .number) (s .user) l) q → planChanges G l q ≡ false
-        → (reading G s l (asked .number) q .lent .drive ≡ l .drive) × (moveStamps G asked l s q ≡ [])
-    unfolding readAt haveRead moved closedImage closeStamps
-    read-leaves q (stay e b at t target w) f = (refl, refl)
-    read-leaves q (move e t b at go target w) f =
-        (rw (f, map-kept G (rowsOf G l e) (l .fcb) f (l .drive .map)), rw (and-fails-right (asks G (rowsOf G l) asksUpdate) _ f))
-    read-leaves q (make e t b at go none room w) f = absurd (at-not-nothing (of-read .target .place) (sym (of-read .target .is) ∙ none))
-
-    read-unchanged : (does G asked l s Read .lent .drive ≡ l .drive) × (stampsBy G asked l s Read ≡ [])
-    unfolding read
-    read-unchanged = read-leaves (plan G (asked .number) (s .user) l) (planned-read G (asked .number) l s of-read) unmoved
+  spared-read : kindOf (asked .number) ≡ Read → (does G asked l s Read .lent .drive ≡ l .drive) × (stampsBy G asked l s Read ≡ [])
+  spared-read q =
+      read-unchanged G asked l s (reads-of G asked l s (c .facts .none) (c .facts .ready .image-right) (c .facts .ready .fits .user-low) q)
+      (spared-unchanged G asked l s p (reads-listed (asked .number) q) (c .facts .none) (c .facts .spared))
 
   -- an open stamps no date
   quiet-stamps : stampsBy G asked l s Quiet ≡ []
@@ -110,7 +111,7 @@ module _ (G : Geometry) (asked : Asked) (l : Lent) (s : Session) (p : protected 
   rule-leaves Delete q z = none-changes Delete refl q
   rule-leaves Create q z = none-changes Create refl q
   rule-leaves Rename q z = none-changes Rename refl q
-  rule-leaves Read q z = read-unchanged q
+  rule-leaves Read q z = spared-read q
   rule-leaves Write q z = none-changes Write refl q
 
   unsettled-leaves : (k : Kind) → kindOf (asked .number) ≡ k → same k Settle ≡ false → Unchanged l (asked .number) (step G asked l s)

@@ -1,0 +1,233 @@
+-- Calls that change image and map by no more than access stamps: refused ones, quiet ones, and 33 through a fresh FCB, such as an accepted 15
+-- hands back.
+use mathlib.Core.Path.{_≡_, refl, ap, sym, _∙_, subst}
+use mathlib.Core.Logic.{_⊎_, inl, inr}
+use mathlib.Core.Bool.{Bool, true, false, not}
+use mathlib.Core.List.{List, []}
+use Prim.Native.Nat.{ℕ, _≤_, _<_}
+use native.Mathlib.Omega.{arith}
+use lib.Dec.{eqb}
+use lib.ListN.{length, getD}
+use borrow.Author.Tests.{eq-eqb, ne-eqb, le-ltb, ltb-false}
+use Rattle.lists.specs.Cases.{split, bool-cases, not-both}
+use Rattle.lists.specs.Tests.{_and_, and-not, and-fails-right, or-neither}
+use Rattle.lists.specs.Below.{anyBelow, any-empty}
+use Rattle.format.specs.Diskette.{Bytes, Geometry, Sound, recordBytes, slotCount, extents}
+use Rattle.format.specs.Entries.{entryAt, exOf, slotOf, slotsOf, extentOf, runOf, endOf, named}
+use Rattle.format.specs.Dates.{dated, asks, asksAccess}
+use Rattle.format.specs.Fcb.{fcbBytes, fcbEnd}
+use Rattle.format.specs.Found.{numberOf}
+use Rattle.format.specs.declared.Found.{Found}
+use Rattle.format.specs.declared.Found.the-variants.{At}
+use Rattle.facts.specs.Found.{FirstAt}
+use Rattle.facts.specs.Find.{fileTest, file-says}
+use Rattle.facts.specs.Naming.{file-named, file-user, file-run}
+use Rattle.consistency.specs.Naming.{file-used}
+use Rattle.rows.specs.Entries.{length-entryAt}
+use Rattle.model.specs.declared.Asked.{Asked}
+use Rattle.model.specs.declared.Session.{Session}
+use Rattle.model.specs.declared.Kind.{Kind}
+use Rattle.model.specs.declared.Kind.the-variants.{Quiet, User, Read}
+use Rattle.model.specs.Kinds.{kindOf, usesFcb, same}
+use Rattle.model.specs.Lent.{Drive, Lent, Outcome, rowsOf, protected, ended}
+use Rattle.model.specs.Closing.{takesSlot, endsLater, closeChanges}
+use Rattle.model.specs.Entering.{entered}
+use Rattle.model.specs.Target.{presentEntry}
+use Rattle.model.specs.Calls.{openedAt, opened}
+use Rattle.model.specs.Stamps.{Stamp, first, timeStamp, accessStamps, stampsBy, stampedOutcome, whereDated}
+use Rattle.model.specs.Step.{told, does}
+use Rattle.model.specs.Table.{timeRight, askedEntry, moveChanges}
+use Rattle.fields.specs.Agree.{count-cong}
+use Rattle.fields.specs.Closing.{keeps-intro}
+use Rattle.fields.specs.Entering.{length-entered, first-entered, slot-entered}
+use Rattle.fields.specs.OpenClose.{opened-keeps}
+use Rattle.table.specs.Own.{calling, kinds-apart}
+use Rattle.table.specs.Facts.{Fits, Opens, Ready}
+use Rattle.table.specs.Accept.{own-at, reads-of}
+use Rattle.table.specs.Accepted.{carried-says, accepted-carried}
+use Rattle.table.specs.Carried.{Leaves, over, on, sets}
+use Rattle.table.specs.Total.{CarriedOut, InRange, total, step-range}
+use Rattle.invariant.specs.Good.{Good, good-consistent, good-right}
+use Rattle.invariant.specs.Stamps.{Each, each-only, Placed, placed, where-cases}
+use Rattle.effects.specs.Cur.{cur-current}
+use Rattle.effects.specs.Entered.{entered-cur}
+use Rattle.demands.specs.StepOk.{ready-good}
+use Rattle.demands.specs.Stamped.{stamped-as}
+use Rattle.demands.specs.Protected.{lifted-stays, read-unchanged}
+use Rattle.demands.specs.Runs.{Request, Disk, lentTo, outcomeOf, left, accepts, after}
+use Rattle.demands.specs.ReadBack.{user-stays}
+use Rattle.demands.specs.Reading.{atRecord, length-atRecord, rest-atRecord, extent-atRecord, slot-atRecord, cur-atRecord}
+use Rattle.stored.specs.Closed.{Sane, seenOn, Begins, Fresh, Access, Restamped}
+use Rattle.stored.specs.Restamped.{restamped-none, fresh-restamped}
+
+-- ---- what every call but 32 leaves of the session
+module _ (G : Geometry) (d : Disk) (q : Request) (other : kindOf (q .asked .number) ≡ User → ⊥) where
+  user-left : left (outcomeOf G d q) .session .user ≡ d .session .user
+  unfolding after
+  user-left = user-stays G d q other
+
+  lifted-left : left (outcomeOf G d q) .session .lifted ≡ d .session .lifted
+  unfolding outcomeOf
+  lifted-left = lifted-stays G (q .asked) (lentTo d q) (d .session)
+
+  range-left : InRange G (d .session) → InRange G (left (outcomeOf G d q) .session)
+  unfolding outcomeOf
+  range-left = step-range G (q .asked) (lentTo d q) (d .session)
+
+  -- a call that leaves image and map
+  drive-same : (P : Stamp → Type 0) → outcomeOf G d q .lent .drive ≡ d .drive → Restamped G P d (left (outcomeOf G d q))
+  drive-same P e = restamped-none G P d (left (outcomeOf G d q)) e user-left lifted-left range-left
+
+-- ---- refused calls, of whatever number
+pub refused-same : (G : Geometry) (P : Stamp → Type 0) (d : Disk) (q : Request) → accepts G d q ≡ false → Restamped G P d (left (outcomeOf G d q))
+unfolding outcomeOf
+refused-same G P d q f =
+    split (total G (q .asked) (lentTo d q) (d .session))
+    (λ r. let w = r .1 in restamped-none G P d (left (outcomeOf G d q)) (ap (λ (l : Lent). l .drive) (w .kept))
+    (split (w .session) (λ e. ap (λ (x : Session). x .user) (e .1)) (λ e. ap (λ (x : Session). x .user) (e .1)))
+    (lifted-stays G (q .asked) (lentTo d q) (d .session)) (step-range G (q .asked) (lentTo d q) (d .session)))
+    (λ c. not-both _ (carried-says G (q .asked) (lentTo d q) (d .session) c) f)
+
+-- what an accepted call of kind k did
+module _ (G : Geometry) (d : Disk) (q : Request) (accepted : accepts G d q ≡ true) where
+  carried : CarriedOut G (q .asked) (lentTo d q) (d .session)
+  unfolding outcomeOf
+  carried = accepted-carried G (q .asked) (lentTo d q) (d .session) accepted
+
+  pub carried-is : (k : Kind) → kindOf (q .asked .number) ≡ k
+      → outcomeOf G d q
+      ≡ stampedOutcome G (whereDated (dated (entryAt G (d .drive .image))) (stampsBy G (q .asked) (lentTo d q) (d .session) k)) (does G (q .asked) (lentTo d q) (d .session) k)
+  unfolding outcomeOf
+  carried-is k e = carried .is ∙ stamped-as G (q .asked) (lentTo d q) (d .session) k e
+
+  pub sane-accepted : (q .asked .number ≡ 13 → ⊥) → Sane G d
+  sane-accepted n =
+      let c = carried in
+      record { good = ready-good (c .facts .ready) n; range = record { user = c .facts .ready .fits .user-low; place = c .facts .ready .fits .place-low } }
+
+  -- a call without stamps whose rule leaves image and map
+  unstamped-same : (k : Kind) → kindOf (q .asked .number) ≡ k → does G (q .asked) (lentTo d q) (d .session) k .lent .drive ≡ d .drive
+      → stampsBy G (q .asked) (lentTo d q) (d .session) k ≡ [] → outcomeOf G d q .lent .drive ≡ d .drive
+  unstamped-same k e same none =
+      ap (λ (o : Outcome). o .lent .drive) (carried-is k e
+      ∙ ap (λ (xs : List Stamp). stampedOutcome G (whereDated (dated (entryAt G (d .drive .image))) xs) (does G (q .asked) (lentTo d q) (d .session) k)) none) ∙ same
+
+-- ---- 35, 36 and 46
+quiet-other : (n : ℕ) → kindOf n ≡ Quiet → kindOf n ≡ User → ⊥
+quiet-other n k z = kinds-apart Quiet User refl (sym k ∙ z)
+
+pub quiet-same : (G : Geometry) (P : Stamp → Type 0) (d : Disk) (q : Request) → kindOf (q .asked .number) ≡ Quiet → (q .asked .number ≡ 15 → ⊥)
+    → Restamped G P d (left (outcomeOf G d q))
+quiet-same G P d q k n =
+    split (bool-cases (accepts G d q))
+    (λ a. drive-same G d q (quiet-other (q .asked .number) k) P (unstamped-same G d q a Quiet k refl (rw (ne-eqb (q .asked .number) 15 n))))
+    (λ f. refused-same G P d q f)
+
+-- a quiet call that is accepted ends a search, as every call but 17 and 18 does
+pub quiet-ended : (G : Geometry) (d : Disk) (q : Request) → kindOf (q .asked .number) ≡ Quiet → accepts G d q ≡ true → left (outcomeOf G d q) .session ≡ ended (d .session)
+quiet-ended G d q k a = ap (λ (o : Outcome). o .answer .session) (carried-is G d q a Quiet k)
+
+-- ---- FCBs that say no more than their entry
+-- an FCB that has the entry's slots, and ends no later than one whose close changes nothing
+keeps-like : (G : Geometry) (row f g : Bytes) → ((j : ℕ) → j < slotCount → slotOf G g j ≡ slotOf G row j) → fcbEnd g ≡ fcbEnd f
+    → closeChanges G row f ≡ false → closeChanges G row g ≡ false
+unfolding closeChanges endsLater takesSlot slotOf
+keeps-like G row f g slots end h =
+    keeps-intro G row g (any-empty (takesSlot G (slotsOf row) (slotsOf g)) slotCount (λ j l. rw (slots j l) (and-not (eqb (slotOf G row j) 0))))
+    (rw end (or-neither _ _ h .1))
+
+end-atRecord : (f : Bytes) (r : ℕ) → length f ≡ fcbBytes → fcbEnd (atRecord f r) ≡ fcbEnd f
+unfolding fcbEnd endOf
+end-atRecord f r hf =
+    rw (count-cong (atRecord f r) f (λ i a b. rest-atRecord f r hf i (omega arith) (omega arith)), extent-atRecord f r hf)
+
+module _ (G : Geometry) (d : Disk) (f : Bytes) (e : ℕ) (k : Fresh G d f e) where
+  -- it is fresh at any record
+  pub fresh-record : (r : ℕ) → Fresh G d (atRecord f r) e
+  fresh-record r =
+      let slots : (j : ℕ) → j < slotCount → slotOf G (atRecord f r) j ≡ slotOf G (entryAt G (d .drive .image) e) j =
+      λ j l. slot-atRecord f r (k .long) G j ∙ k .slots j l in
+      record {
+        sane = k .sane;
+        long = length-atRecord f r (k .long);
+        drive = rw (rest-atRecord f r (k .long) 0 (omega arith) (omega arith)) (k .drive);
+        cur = cur-atRecord f r (k .long) G (seenOn G d) (d .session .user) e (k .cur);
+        slots = slots;
+        same = keeps-like G (entryAt G (d .drive .image) e) f (atRecord f r) slots (end-atRecord f r (k .long)) (k .same);
+      }
+
+  -- what a call through it meets
+  pub fresh-fits : (buffer : Bytes) → length buffer ≡ recordBytes → Fits G (record { drive = d .drive; fcb = f; buffer = buffer }) (d .session)
+  fresh-fits buffer hb = record {
+    image-long = k .sane .good .image-long;
+    map-long = k .sane .good .map-long;
+    fcb-long = k .long;
+    buffer-long = hb;
+    user-low = k .sane .range .user;
+    place-low = k .sane .range .place;
+  }
+
+  pub fresh-ready : (a : Asked) → timeRight a ≡ true → (buffer : Bytes) → length buffer ≡ recordBytes
+      → Ready G a (record { drive = d .drive; fcb = f; buffer = buffer }) (d .session)
+  fresh-ready a time buffer hb = record {
+    fits = fresh-fits buffer hb;
+    time = time;
+    drive = λ u. k .drive;
+    image-right = good-consistent G (d .drive .image) (d .drive .map) (k .sane .good);
+    map-right = λ z. good-right G (d .drive .image) (d .drive .map) (k .sane .good);
+  }
+
+  pub fresh-present : (buffer : Bytes) → presentEntry G (d .session .user) (record { drive = d .drive; fcb = f; buffer = buffer }) ≡ At e
+  unfolding presentEntry
+  fresh-present buffer =
+      cur-current G (d .drive .image) (d .drive .map) (d .session .user) f e (k .sane .good .inv .dir) (k .sane .range .user) (k .cur)
+
+  -- its moves change no entry
+  pub fresh-unmoved : (a : Asked) (buffer : Bytes) → moveChanges G a (record { drive = d .drive; fcb = f; buffer = buffer }) (d .session) ≡ false
+  unfolding moveChanges
+  fresh-unmoved a buffer = rw (fresh-present buffer) (and-fails-right _ _ (k .same))
+
+-- ---- 15: what it stamps, and what it hands back
+pub record OpenedAt (G : Geometry) (d : Disk) (q : Request) : Type 0 where
+  pub entry : ℕ
+  pub asked : askedEntry G (lentTo d q) (d .session .user) ≡ At entry
+  pub fcb : outcomeOf G d q .lent .fcb ≡ entered (q .fcb) (entryAt G (d .drive .image) entry) (exOf (q .fcb))
+  pub fresh : Fresh G (left (outcomeOf G d q)) (outcomeOf G d q .lent .fcb) entry
+
+module _ {G : Geometry} (S : Sound G) (d : Disk) (q : Request) (number : q .asked .number ≡ 15) where
+  open-kind : kindOf (q .asked .number) ≡ Quiet
+  unfolding kindOf
+  open-kind = ap kindOf number
+
+  pub opened-ended : accepts G d q ≡ true → left (outcomeOf G d q) .session ≡ ended (d .session)
+  opened-ended = quiet-ended G d q open-kind
+
+  module _ (accepted : accepts G d q ≡ true) where
+    c : CarriedOut G (q .asked) (lentTo d q) (d .session)
+    c = carried G d q accepted
+
+    sane : Sane G d
+    sane = sane-accepted G d q accepted (λ z. let w : 15 ≡ 13 = sym number ∙ z in omega arith)
+
+    opens : Opens G (lentTo d q) (d .session)
+    opens = own-at G (q .asked) (lentTo d q) (d .session) (c .facts) open-kind .0 number
+
+    e : ℕ
+    e = opens .entry .place
+
+    abbrev row : Bytes
+    row = entryAt G (d .drive .image) e
+
+    found : FirstAt (fileTest G (entryAt G (d .drive .image)) (d .session .user) (q .fcb) 1 (exOf (q .fcb))) 0 (G .entries) e
+    unfolding askedEntry e
+    found = file-says G (entryAt G (d .drive .image)) (d .session .user) (q .fcb) 1 (exOf (q .fcb)) (opens .entry .place) (opens .entry .is)
+
+    abbrev Here : Stamp → Type 0
+    Here = Access G (q .asked) (d .drive .image) (d .session .user) (q .fcb)
+
+    own-stamps : Each Here (stampsBy G (q .asked) (lentTo d q) (d .session) Quiet)
+    unfolding accessStamps e
+    own-stamps =
+        rw (eq-eqb (q .asked .number) 15 number, opens .entry .is)
+        (each-only Here (not (protected (d .session)) and asks G (entryAt G (d .drive .image)) asksAccess) (first (opens .entry .place) (timeStamp (q .asked)))
+        record { first = refl; time = refl; low = found .below; file = file-named G (d .session .user) (q .fcb) 1 (exOf (q .fcb)) row (found .holds) })
