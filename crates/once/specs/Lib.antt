@@ -1,4 +1,5 @@
 pub mod Bytes
 pub mod Calls
 pub mod Deciding
+pub mod Records
 pub mod Table
