@@ -8,11 +8,11 @@ use Rattle.format.specs.Diskette.{Geometry}
 use Rattle.model.specs.declared.Code.{Code}
 use Rattle.model.specs.Codes.{aOf, hOf}
 use Rattle.model.specs.Kinds.{isCall}
-use Rattle.model.specs.Table.{Row, firstRow, ownRows, protectionHolds, table, verdict}
-use Rattle.table.specs.First.{NoneHolds, Decides, here, later, none-passed, passed-none}
+use Rattle.model.specs.Table.{Row, ownRows, protectionHolds}
+use Rattle.table.specs.First.{NoneHolds, Decides, here, later, none-passed, decides-refused}
+use Rattle.table.specs.Own.{rowsFor, verdict-rows}
 use Rattle.table.specs.Facts.{Ready}
-use Rattle.table.specs.Accept.{passes}
-use Rattle.table.specs.Refuse.{refused-own}
+use Rattle.table.specs.Reflect.{parameters-right, disk-right}
 use Rattle.table.specs.Accepted.{refused-says, carried-says}
 use Rattle.table.specs.Total.{RefusedBy, total-refused, total-accepted}
 use Rattle.demands.specs.Runs.{Request, Disk, lentTo, outcomeOf, accepts}
@@ -47,13 +47,25 @@ module _ {A : Type 0} (went : A) (not-so : ℕ → ℕ → A) (G : Geometry) (d 
   unfolding outcomeOf
   answered-refused c r = rw (refused-says G (q .asked) (lentTo d q) (d .session) c r, r .is-a, r .is-h)
 
-  -- a call that the first three rows and the protection have passed is told by its own rows
+  -- a call of the list is told by its rows
+  pub answered-rows : isCall (q .asked .number) ≡ true → answered went not-so G d q ≡ decided went not-so (rowsFor G (q .asked) (lentTo d q) (d .session))
+  unfolding outcomeOf
+  answered-rows t =
+      rows-cases (rowsFor G (q .asked) (lentTo d q) (d .session))
+      (λ n. rw (carried-says G (q .asked) (lentTo d q) (d .session)
+      (total-accepted G (q .asked) (lentTo d q) (d .session) (verdict-rows G (q .asked) (lentTo d q) (d .session) t ∙ none-passed (rowsFor G (q .asked) (lentTo d q) (d .session)) n)))
+      (sym (decided-none went not-so (rowsFor G (q .asked) (lentTo d q) (d .session)) n)))
+      (λ c n. answered-refused c (total-refused G (q .asked) (lentTo d q) (d .session) c
+      (verdict-rows G (q .asked) (lentTo d q) (d .session) t ∙ decides-refused c (rowsFor G (q .asked) (lentTo d q) (d .session)) n))
+      ∙ sym (decided-by went not-so c (rowsFor G (q .asked) (lentTo d q) (d .session)) n))
+
+  -- and by its own, once the first three rows and the protection have passed it
   pub answered-own : isCall (q .asked .number) ≡ true → Ready G (q .asked) (lentTo d q) (d .session) → protectionHolds G (q .asked) (lentTo d q) (d .session) ≡ false
       → answered went not-so G d q ≡ decided went not-so (ownRows G (q .asked) (lentTo d q) (d .session))
-  unfolding outcomeOf
   answered-own t r p =
-      rows-cases (ownRows G (q .asked) (lentTo d q) (d .session))
-      (λ n. rw (carried-says G (q .asked) (lentTo d q) (d .session) (total-accepted G (q .asked) (lentTo d q) (d .session) (passes G (q .asked) (lentTo d q) (d .session) t r p n)))
-      (sym (decided-none went not-so (ownRows G (q .asked) (lentTo d q) (d .session)) n)))
-      (λ c n. answered-refused c (total-refused G (q .asked) (lentTo d q) (d .session) c (refused-own G (q .asked) (lentTo d q) (d .session) c t r p n))
-      ∙ sym (decided-by went not-so c (ownRows G (q .asked) (lentTo d q) (d .session)) n))
+      answered-rows t
+      ∙ rw (
+        parameters-right G (q .asked) (lentTo d q) (d .session) (r .fits) (r .time) (r .drive),
+        disk-right G (q .asked) (lentTo d q) (d .session) (r .image-right) (r .map-right),
+        p,
+      )

@@ -2,4 +2,5 @@ pub mod Bytes
 pub mod Calls
 pub mod Deciding
 pub mod Records
+pub mod Right
 pub mod Table
