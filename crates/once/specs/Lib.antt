@@ -3,4 +3,5 @@ pub mod Calls
 pub mod Deciding
 pub mod Records
 pub mod Right
+pub mod Same
 pub mod Table
