@@ -5,4 +5,5 @@ pub mod Lifting
 pub mod Records
 pub mod Right
 pub mod Same
+pub mod Search
 pub mod Table

@@ -2,22 +2,20 @@
 -- hands back.
 use mathlib.Core.Path.{_≡_, refl, ap, sym, _∙_, subst}
 use mathlib.Core.Logic.{_⊎_, inl, inr}
-use mathlib.Core.Bool.{Bool, true, false, not}
+use mathlib.Core.Bool.{true, false, not}
 use mathlib.Core.List.{List, []}
 use Prim.Native.Nat.{ℕ, _≤_, _<_}
 use native.Mathlib.Omega.{arith}
 use lib.Dec.{eqb}
-use lib.ListN.{length, getD}
-use borrow.Author.Tests.{eq-eqb, ne-eqb, le-ltb, ltb-false}
+use lib.ListN.{length}
+use borrow.Author.Tests.{eq-eqb, ne-eqb}
 use Rattle.lists.specs.Cases.{split, bool-cases, not-both}
 use Rattle.lists.specs.Tests.{_and_, and-not, and-fails-right, or-neither}
-use Rattle.lists.specs.Below.{anyBelow, any-empty}
-use Rattle.format.specs.Diskette.{Bytes, Geometry, Sound, recordBytes, slotCount, extents}
-use Rattle.format.specs.Entries.{entryAt, exOf, slotOf, slotsOf, extentOf, runOf, endOf, named}
+use Rattle.lists.specs.Below.{any-empty}
+use Rattle.format.specs.Diskette.{Bytes, Geometry, Sound, recordBytes, slotCount}
+use Rattle.format.specs.Entries.{entryAt, exOf, slotOf, slotsOf, endOf}
 use Rattle.format.specs.Dates.{dated, asks, asksAccess}
 use Rattle.format.specs.Fcb.{fcbBytes, fcbEnd}
-use Rattle.format.specs.Found.{numberOf}
-use Rattle.format.specs.declared.Found.{Found}
 use Rattle.format.specs.declared.Found.the-variants.{At}
 use Rattle.facts.specs.Found.{FirstAt}
 use Rattle.facts.specs.Find.{fileTest, file-says}
@@ -28,26 +26,27 @@ use Rattle.model.specs.declared.Asked.{Asked}
 use Rattle.model.specs.declared.Session.{Session}
 use Rattle.model.specs.declared.Kind.{Kind}
 use Rattle.model.specs.declared.Kind.the-variants.{Quiet, User, Read}
-use Rattle.model.specs.Kinds.{kindOf, usesFcb, same}
-use Rattle.model.specs.Lent.{Drive, Lent, Outcome, rowsOf, protected, ended}
+use Rattle.model.specs.Kinds.{kindOf, isCall}
+use Rattle.model.specs.Lent.{Drive, Lent, Outcome, protected, ended}
 use Rattle.model.specs.Closing.{takesSlot, endsLater, closeChanges}
 use Rattle.model.specs.Entering.{entered}
 use Rattle.model.specs.Target.{presentEntry}
 use Rattle.model.specs.Calls.{openedAt, opened}
 use Rattle.model.specs.Stamps.{Stamp, first, timeStamp, accessStamps, stampsBy, stampedOutcome, whereDated}
 use Rattle.model.specs.Step.{told, does}
-use Rattle.model.specs.Table.{timeRight, askedEntry, moveChanges}
+use Rattle.model.specs.Table.{timeRight, askedEntry, ownRows, moveChanges, protectionHolds}
 use Rattle.fields.specs.Agree.{count-cong}
 use Rattle.fields.specs.Closing.{keeps-intro}
 use Rattle.fields.specs.Entering.{length-entered, first-entered, slot-entered}
 use Rattle.fields.specs.OpenClose.{opened-keeps}
-use Rattle.table.specs.Own.{calling, kinds-apart}
+use Rattle.table.specs.Own.{kinds-apart}
 use Rattle.table.specs.Facts.{Fits, Opens, Ready}
-use Rattle.table.specs.Accept.{own-at, reads-of}
+use Rattle.table.specs.First.{NoneHolds}
+use Rattle.table.specs.Accept.{own-at, passes}
 use Rattle.table.specs.Accepted.{carried-says, accepted-carried}
-use Rattle.table.specs.Carried.{Leaves, over, on, sets}
-use Rattle.table.specs.Total.{CarriedOut, InRange, total, step-range}
-use Rattle.invariant.specs.Good.{Good, good-consistent, good-right}
+use Rattle.table.specs.Carried.{read-answered}
+use Rattle.table.specs.Total.{CarriedOut, InRange, total, total-accepted, step-range}
+use Rattle.invariant.specs.Good.{good-consistent, good-right}
 use Rattle.invariant.specs.Stamps.{Each, each-only, Placed, placed, where-cases}
 use Rattle.effects.specs.Cur.{cur-current}
 use Rattle.effects.specs.Entered.{entered-cur}
@@ -88,9 +87,18 @@ refused-same G P d q f =
     (lifted-stays G (q .asked) (lentTo d q) (d .session)) (step-range G (q .asked) (lentTo d q) (d .session)))
     (λ c. not-both _ (carried-says G (q .asked) (lentTo d q) (d .session) c) f)
 
+-- ---- accepted calls
+-- a call is accepted where the first three rows pass it, and neither the protection's nor one of its own holds
+pub passed-accepts : (G : Geometry) (d : Disk) (q : Request) → isCall (q .asked .number) ≡ true → Ready G (q .asked) (lentTo d q) (d .session)
+    → protectionHolds G (q .asked) (lentTo d q) (d .session) ≡ false → NoneHolds (ownRows G (q .asked) (lentTo d q) (d .session)) → accepts G d q ≡ true
+unfolding outcomeOf
+passed-accepts G d q t r p o =
+    carried-says G (q .asked) (lentTo d q) (d .session)
+    (total-accepted G (q .asked) (lentTo d q) (d .session) (passes G (q .asked) (lentTo d q) (d .session) t r p o))
+
 -- what an accepted call of kind k did
 module _ (G : Geometry) (d : Disk) (q : Request) (accepted : accepts G d q ≡ true) where
-  carried : CarriedOut G (q .asked) (lentTo d q) (d .session)
+  pub carried : CarriedOut G (q .asked) (lentTo d q) (d .session)
   unfolding outcomeOf
   carried = accepted-carried G (q .asked) (lentTo d q) (d .session) accepted
 
@@ -231,3 +239,93 @@ module _ {G : Geometry} (S : Sound G) (d : Disk) (q : Request) (number : q .aske
         rw (eq-eqb (q .asked .number) 15 number, opens .entry .is)
         (each-only Here (not (protected (d .session)) and asks G (entryAt G (d .drive .image)) asksAccess) (first (opens .entry .place) (timeStamp (q .asked)))
         record { first = refl; time = refl; low = found .below; file = file-named G (d .session .user) (q .fcb) 1 (exOf (q .fcb)) row (found .holds) })
+
+    abbrev made : List Stamp
+    made = whereDated (dated (entryAt G (d .drive .image))) (stampsBy G (q .asked) (lentTo d q) (d .session) Quiet)
+
+    made-stamps : Each Here made × Each (Placed G) made × ((made ≡ []) ⊎ (dated (entryAt G (d .drive .image)) ≡ true))
+    made-stamps =
+        where-cases (λ (xs : List Stamp). Each Here xs × Each (Placed G) xs × ((xs ≡ []) ⊎ (dated (entryAt G (d .drive .image)) ≡ true)))
+        (dated (entryAt G (d .drive .image))) (stampsBy G (q .asked) (lentTo d q) (d .session) Quiet)
+        (λ y. (own-stamps, placed S (q .asked) (lentTo d q) (d .session) (c .facts) (sane .good) y Quiet open-kind, inr y)) (tt, tt, inl refl)
+
+    opened-same : Restamped G Here d (left (outcomeOf G d q))
+    opened-same =
+        let other = quiet-other (q .asked .number) open-kind in
+        record {
+          stamps = made;
+          each = made-stamps .0;
+          placed = made-stamps .1;
+          dates = made-stamps .2;
+          image = ap (λ (o : Outcome). o .lent .drive .image) (carried-is G d q accepted Quiet open-kind);
+          map = ap (λ (o : Outcome). o .lent .drive .map) (carried-is G d q accepted Quiet open-kind);
+          user = user-left G d q other;
+          lifted = lifted-left G d q other;
+          range = range-left G d q other;
+        }
+
+    opened-fcb : outcomeOf G d q .lent .fcb ≡ entered (q .fcb) row (exOf (q .fcb))
+    unfolding told opened openedAt e
+    opened-fcb =
+        ap (λ (o : Outcome). o .lent .fcb) (carried-is G d q accepted Quiet open-kind) ∙ rw (eq-eqb (q .asked .number) 15 number, opens .entry .is)
+
+    module _ (begins : Begins (q .fcb)) where
+      entered-fresh : Fresh G d (entered (q .fcb) row (exOf (q .fcb))) e
+      entered-fresh =
+          let hf : 32 ≤ length (q .fcb) = omega (arith, begins .long) in
+          let hr : length row ≡ 32 = length-entryAt S (d .drive .image) (sane .good .image-long) e (found .below) in
+          record {
+            sane = sane;
+            long = length-entered (q .fcb) row (exOf (q .fcb)) hf ∙ begins .long;
+            drive = rw (first-entered (q .fcb) row (exOf (q .fcb)) hf) (begins .drive);
+            cur = entered-cur G (seenOn G d) (d .session .user) (q .fcb) row (exOf (q .fcb)) e (found .below) refl
+                (file-user G (d .session .user) (q .fcb) 1 (exOf (q .fcb)) row (found .holds)) (begins .long) hr
+                (sane .good .inv .dir .fine e (found .below) (file-used G (d .session .user) (q .fcb) 1 (exOf (q .fcb)) row (found .holds) (sane .range .user)))
+                (file-run G (d .session .user) (q .fcb) 1 (exOf (q .fcb)) row (found .holds)) (omega (arith, begins .ex)) (begins .cr);
+            slots = λ j l. slot-entered (q .fcb) row (exOf (q .fcb)) hf G j;
+            same = opened-keeps G (q .fcb) row (exOf (q .fcb)) hf hr;
+          }
+
+      pub opened-at : OpenedAt G d q
+      unfolding e
+      opened-at = record {
+        entry = opens .entry .place;
+        asked = opens .entry .is;
+        fcb = opened-fcb;
+        fresh = subst (λ (f : Bytes). Fresh G (left (outcomeOf G d q)) f (opens .entry .place)) (sym opened-fcb)
+            (fresh-restamped S Here d (left (outcomeOf G d q)) opened-same (entered (q .fcb) row (exOf (q .fcb))) (opens .entry .place) entered-fresh);
+      }
+
+  pub open-same : Restamped G (Access G (q .asked) (d .drive .image) (d .session .user) (q .fcb)) d (left (outcomeOf G d q))
+  open-same = split (bool-cases (accepts G d q)) (λ a. opened-same a) (λ f. refused-same G _ d q f)
+
+-- ---- 33 through a fresh FCB, accepted or refused: it leaves image and map, and where no search is on the whole disk
+same-disk : (d t : Disk) → t .drive ≡ d .drive → t .session ≡ d .session → t ≡ d
+same-disk d t p q = ap (λ (x : Drive). record { drive = x; session = t .session }) p ∙ ap (λ (x : Session). record { drive = d .drive; session = x }) q
+
+module _ (G : Geometry) (d : Disk) (q : Request) (e : ℕ) (number : q .asked .number ≡ 33) (k : Fresh G d (q .fcb) e) where
+  read-kind : kindOf (q .asked .number) ≡ Read
+  unfolding kindOf
+  read-kind = ap kindOf number
+
+  accepted-drive : accepts G d q ≡ true → outcomeOf G d q .lent .drive ≡ d .drive
+  accepted-drive a =
+      let c = carried G d q a in
+      let w = read-unchanged G (q .asked) (lentTo d q) (d .session) (own-at G (q .asked) (lentTo d q) (d .session) (c .facts) read-kind)
+      (fresh-unmoved G d (q .fcb) e k (q .asked) (q .buffer)) in
+      unstamped-same G d q a Read read-kind (w .0) (w .1)
+
+  pub fresh-read-same : (P : Stamp → Type 0) → Restamped G P d (left (outcomeOf G d q))
+  fresh-read-same P =
+      split (bool-cases (accepts G d q)) (λ a. drive-same G d q (λ z. kinds-apart Read User refl (sym read-kind ∙ z)) P (accepted-drive a))
+      (λ f. refused-same G P d q f)
+
+  pub fresh-read-disk : d .session ≡ ended (d .session) → left (outcomeOf G d q) ≡ d
+  unfolding outcomeOf
+  fresh-read-disk h =
+      split (total G (q .asked) (lentTo d q) (d .session))
+      (λ r. same-disk d (left (outcomeOf G d q)) (ap (λ (l : Lent). l .drive) (r .1 .kept)) (split (r .1 .session) (λ x. x .1 ∙ sym h) (λ x. x .1)))
+      (λ c. let a = carried-says G (q .asked) (lentTo d q) (d .session) c in
+      same-disk d (left (outcomeOf G d q)) (accepted-drive a)
+      (ap (λ (o : Outcome). o .answer .session) (carried-is G d q a Read read-kind)
+      ∙ read-answered G (q .asked) (lentTo d q) (d .session) (q .asked .number) .is-session ∙ sym h))
