@@ -1,6 +1,9 @@
+pub mod Accepting
 pub mod Closed
+pub mod Grown
 pub mod Kept
 pub mod Meeting
+pub mod OneEntry
 pub mod Quiet
 pub mod Reading
 pub mod Restamped
