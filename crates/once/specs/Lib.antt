@@ -7,3 +7,4 @@ pub mod Right
 pub mod Same
 pub mod Search
 pub mod Table
+pub mod Writing
