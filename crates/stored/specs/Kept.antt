@@ -71,6 +71,12 @@ module _ {G : Geometry} (S : Sound G) (s t : View) (N : Names) (user : ℕ) (hu 
         real = subst (λ (x : Bytes). slotOf G x (slotFor G (r / extentRecords) (r % extentRecords)) ≡ 0 → ⊥) (sym row) (h .real);
         dat = ap (λ (x : Bytes). t .recs (placeIn G (slotOf G x (slotFor G (r / extentRecords) (r % extentRecords))) (r % extentRecords))) row
             ∙ w .dat b (r % extentRecords % G .perBlock) (h .entry) (mod-lt (r % extentRecords) (S .some-record))
-            (listed j record { entry = h .low; place = slot-for-low S (r / extentRecords) (r % extentRecords) (omega arith); uses = o .uses; is = refl; real = h .real }) o
+            (listed j record {
+              entry = h .low;
+              place = slot-for-low S (r / extentRecords) (r % extentRecords) (omega arith);
+              uses = o .uses;
+              is = refl;
+              real = h .real;
+            }) o
             ∙ h .dat;
       }

@@ -1,7 +1,9 @@
 pub mod Accepting
 pub mod Closed
+pub mod Growing
 pub mod Grown
 pub mod Kept
+pub mod Looking
 pub mod Meeting
 pub mod OneEntry
 pub mod Quiet

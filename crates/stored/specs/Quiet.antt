@@ -7,7 +7,7 @@ use mathlib.Core.List.{List, []}
 use Prim.Native.Nat.{ℕ, _≤_, _<_}
 use native.Mathlib.Omega.{arith}
 use lib.Dec.{eqb}
-use lib.ListN.{length}
+use lib.ListN.{length, getD}
 use borrow.Author.Tests.{eq-eqb, ne-eqb}
 use Rattle.lists.specs.Cases.{split, bool-cases, not-both}
 use Rattle.lists.specs.Tests.{_and_, and-not, and-fails-right, or-neither}
@@ -96,6 +96,28 @@ passed-accepts G d q t r p o =
     carried-says G (q .asked) (lentTo d q) (d .session)
     (total-accepted G (q .asked) (lentTo d q) (d .session) (passes G (q .asked) (lentTo d q) (d .session) t r p o))
 
+-- a disk that is right passes the first three rows, where the FCB, the buffer and the time do
+module _ (G : Geometry) (d : Disk) (sane : Sane G d) (f : Bytes) (hf : length f ≡ fcbBytes) where
+  pub sane-fits : (buffer : Bytes) → length buffer ≡ recordBytes → Fits G (record { drive = d .drive; fcb = f; buffer = buffer }) (d .session)
+  sane-fits buffer hb = record {
+    image-long = sane .good .image-long;
+    map-long = sane .good .map-long;
+    fcb-long = hf;
+    buffer-long = hb;
+    user-low = sane .range .user;
+    place-low = sane .range .place;
+  }
+
+  pub sane-ready : getD f 0 0 ≤ 1 → (a : Asked) → timeRight a ≡ true → (buffer : Bytes) → length buffer ≡ recordBytes
+      → Ready G a (record { drive = d .drive; fcb = f; buffer = buffer }) (d .session)
+  sane-ready drive a time buffer hb = record {
+    fits = sane-fits buffer hb;
+    time = time;
+    drive = λ u. drive;
+    image-right = good-consistent G (d .drive .image) (d .drive .map) (sane .good);
+    map-right = λ z. good-right G (d .drive .image) (d .drive .map) (sane .good);
+  }
+
 -- what an accepted call of kind k did
 module _ (G : Geometry) (d : Disk) (q : Request) (accepted : accepts G d q ≡ true) where
   pub carried : CarriedOut G (q .asked) (lentTo d q) (d .session)
@@ -104,7 +126,8 @@ module _ (G : Geometry) (d : Disk) (q : Request) (accepted : accepts G d q ≡ t
 
   pub carried-is : (k : Kind) → kindOf (q .asked .number) ≡ k
       → outcomeOf G d q
-      ≡ stampedOutcome G (whereDated (dated (entryAt G (d .drive .image))) (stampsBy G (q .asked) (lentTo d q) (d .session) k)) (does G (q .asked) (lentTo d q) (d .session) k)
+      ≡ stampedOutcome G (whereDated (dated (entryAt G (d .drive .image))) (stampsBy G (q .asked) (lentTo d q) (d .session) k))
+      (does G (q .asked) (lentTo d q) (d .session) k)
   unfolding outcomeOf
   carried-is k e = carried .is ∙ stamped-as G (q .asked) (lentTo d q) (d .session) k e
 
@@ -132,7 +155,8 @@ quiet-same G P d q k n =
     (λ f. refused-same G P d q f)
 
 -- a quiet call that is accepted ends a search, as every call but 17 and 18 does
-pub quiet-ended : (G : Geometry) (d : Disk) (q : Request) → kindOf (q .asked .number) ≡ Quiet → accepts G d q ≡ true → left (outcomeOf G d q) .session ≡ ended (d .session)
+pub quiet-ended : (G : Geometry) (d : Disk) (q : Request) → kindOf (q .asked .number) ≡ Quiet → accepts G d q ≡ true
+    → left (outcomeOf G d q) .session ≡ ended (d .session)
 quiet-ended G d q k a = ap (λ (o : Outcome). o .answer .session) (carried-is G d q a Quiet k)
 
 -- ---- FCBs that say no more than their entry
@@ -166,24 +190,11 @@ module _ (G : Geometry) (d : Disk) (f : Bytes) (e : ℕ) (k : Fresh G d f e) whe
 
   -- what a call through it meets
   pub fresh-fits : (buffer : Bytes) → length buffer ≡ recordBytes → Fits G (record { drive = d .drive; fcb = f; buffer = buffer }) (d .session)
-  fresh-fits buffer hb = record {
-    image-long = k .sane .good .image-long;
-    map-long = k .sane .good .map-long;
-    fcb-long = k .long;
-    buffer-long = hb;
-    user-low = k .sane .range .user;
-    place-low = k .sane .range .place;
-  }
+  fresh-fits buffer hb = sane-fits G d (k .sane) f (k .long) buffer hb
 
   pub fresh-ready : (a : Asked) → timeRight a ≡ true → (buffer : Bytes) → length buffer ≡ recordBytes
       → Ready G a (record { drive = d .drive; fcb = f; buffer = buffer }) (d .session)
-  fresh-ready a time buffer hb = record {
-    fits = fresh-fits buffer hb;
-    time = time;
-    drive = λ u. k .drive;
-    image-right = good-consistent G (d .drive .image) (d .drive .map) (k .sane .good);
-    map-right = λ z. good-right G (d .drive .image) (d .drive .map) (k .sane .good);
-  }
+  fresh-ready a time buffer hb = sane-ready G d (k .sane) f (k .long) (k .drive) a time buffer hb
 
   pub fresh-present : (buffer : Bytes) → presentEntry G (d .session .user) (record { drive = d .drive; fcb = f; buffer = buffer }) ≡ At e
   unfolding presentEntry
