@@ -20,7 +20,7 @@ use Rattle.model.specs.Kinds.{isRandom}
 use Rattle.model.specs.Lent.{Lent, lend}
 use Rattle.model.specs.Closing.{closeChanges, endsLater}
 use Rattle.model.specs.Target.{targetExtent, targetRecord, targetSlot, presentEntry, within, readOnlyIn, targetEntry, rowSlot, blockThere, countAt, countThere, recordThere, readOnlyThere}
-use Rattle.fields.specs.Agree.{SameName, name-cong, isFile-asked}
+use Rattle.fields.specs.Agree.{SameName, name-cong}
 use Rattle.fields.specs.Target.{extent-random, record-random}
 use Rattle.table.specs.Present.{target-present, within-block, make-beyond}
 use Rattle.effects.specs.Cur.{cur-current}
@@ -28,8 +28,7 @@ use Rattle.demands.specs.Runs.{Disk}
 use Rattle.demands.specs.Reading.{atRecord, rest-atRecord, random-atRecord}
 use Rattle.stored.specs.Closed.{Fresh, seenOn}
 use Rattle.stored.specs.Quiet.{fresh-record, fresh-present}
-use Rattle.stored.specs.Restamped.{find-cong}
-use Rattle.stored.specs.Told.{blockIn, countedIn, extentEntry, isStored, storedBy}
+use Rattle.stored.specs.Told.{blockIn, countedIn, extentEntry, isStored, entry-named}
 
 -- an FCB whose close changes nothing counts no more than its entry, in any extent
 pub fresh-count : (G : Geometry) (row f : Bytes) → closeChanges G row f ≡ false → (ext : ℕ) → max (fcbCountIn f ext) (countIn row ext) ≡ countIn row ext
@@ -81,12 +80,8 @@ module _ {G : Geometry} (S : Sound G) (n : ℕ) (random : isRandom n ≡ true) (
 
   -- the entry of the record's extent
   pub met-entry : targetEntry G n user l ≡ there
-  unfolding targetEntry findFile extentEntry
-  met-entry =
-      ap (findFile G (entryAt G (d .drive .image)) user g 1) met-extent
-      ∙ find-cong (G .entries) (λ (x : ℕ). isFile G user g 1 (r / extentRecords) (entryAt G (d .drive .image) x))
-      (λ (x : ℕ). isFile G user f 1 (r / extentRecords) (entryAt G (d .drive .image) x))
-      (λ x b. isFile-asked g 1 f 1 same-name G user (r / extentRecords) (entryAt G (d .drive .image) x))
+  unfolding targetEntry extentEntry
+  met-entry = ap (findFile G (entryAt G (d .drive .image)) user g 1) met-extent ∙ entry-named G (seenOn G d) user f g same-name r
 
   -- which is the FCB's own where that covers the extent
   met-within : within G n g ≡ true → there ≡ At e

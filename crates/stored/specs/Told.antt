@@ -7,15 +7,17 @@ use borrow.Author.Tests.{ltb-true, lt-ltb, ne-eqb, eqb-false, not-true}
 use Rattle.lists.specs.Cases.{clash}
 use Rattle.lists.specs.Tests.{_and_, and-left, and-right, and-both}
 use Rattle.format.specs.Diskette.{Bytes, Geometry, extentRecords}
-use Rattle.format.specs.Entries.{Rows, slotOf, slotFor, countIn, findFile}
+use Rattle.format.specs.Entries.{Rows, slotOf, slotFor, countIn, isFile, findFile}
 use Rattle.format.specs.declared.Found.{Found}
 use Rattle.format.specs.declared.Found.the-variants.{At, Nothing}
 use Rattle.facts.specs.Find.{file-says}
 use Rattle.consistency.specs.Facts.{Consistent}
 use Rattle.consistency.specs.Naming.{file-found}
 use Rattle.model.specs.Target.{placeIn}
+use Rattle.fields.specs.Agree.{SameName, isFile-asked}
 use Rattle.effects.specs.View.{View}
 use Rattle.stored.specs.Closed.{Stored}
+use Rattle.stored.specs.Restamped.{find-cong}
 
 module _ (G : Geometry) (d : Rows) (r : ℕ) where
   -- the block that the entry has for record r, 0 being none, and the records of its extent that the entry counts
@@ -76,3 +78,19 @@ module _ (G : Geometry) (s : View) (user : ℕ) (f : Bytes) (r : ℕ) where
   pub is-stored : isStored ≡ true → Stored G s user f r bytesStored
   unfolding isStored bytesStored
   is-stored t = stored-by extentEntry refl t
+
+-- ---- an FCB of the same name is told the same
+module _ (G : Geometry) (s : View) (user : ℕ) (f g : Bytes) (same : SameName g 1 f 1) (r : ℕ) where
+  pub entry-named : extentEntry G s user g r ≡ extentEntry G s user f r
+  unfolding extentEntry findFile
+  entry-named =
+      find-cong (G .entries) (λ (e : ℕ). isFile G user g 1 (r / extentRecords) (s .rows e)) (λ (e : ℕ). isFile G user f 1 (r / extentRecords) (s .rows e))
+      (λ e b. isFile-asked g 1 f 1 same G user (r / extentRecords) (s .rows e))
+
+  pub told-named : isStored G s user g r ≡ isStored G s user f r
+  unfolding isStored
+  told-named = ap (storedBy G (s .rows) r) entry-named
+
+  pub bytes-named : bytesStored G s user g r ≡ bytesStored G s user f r
+  unfolding bytesStored
+  bytes-named = ap (λ (x : Found). s .recs (placeIn G (blockIn G (s .rows) r x) (r % extentRecords))) entry-named
