@@ -18,13 +18,24 @@ use Rattle.model.specs.Table.{timeRight, anyNamed, askedEntry}
 use Rattle.table.specs.Facts.{Ready}
 use Rattle.table.specs.Protection.{lifted-spared, other-spared}
 use Rattle.invariant.specs.Good.{good-consistent, good-right}
-use Rattle.demands.specs.Runs.{Request, Disk, lentTo}
+use Rattle.demands.specs.Runs.{Disk, lentTo, accepts}
 use Rattle.stored.specs.Closed.{Sane, Begins}
 use Rattle.picking.specs.declared.Time.{Time}
 use Rattle.picking.specs.Picker.{fcbOf, blank, asking, opening, sizing, spacing, making}
 use Rattle.once.specs.Bytes.{length-blank, ex-fcbOf, begins-fcbOf}
 use Rattle.once.specs.Deciding.{answered, decided, answered-own}
 use Rattle.once.specs.Table.{nameIs, hasEntry, extentAt, someEmpty}
+
+-- an answer as a test
+as-test : (b : Bool) → b ≡ cond b true false
+as-test true = refl
+as-test false = refl
+
+both : (a b : Bool) → cond (not a) false (cond (not b) false true) ≡ (a and b)
+unfolding _and_
+both true true = refl
+both true false = refl
+both false b = refl
 
 -- the time is in BCD
 abbrev pub Timed : Time → Type 0
@@ -89,3 +100,15 @@ module _ {G : Geometry} (d : Disk) (sane : Sane G d) (t : Time) (timed : Timed t
       make-by p =
           answered-own went not-so G d (making t name) refl (ready-name 22) (lifted-spared G _ _ _ p)
           ∙ rw (first-row, asked-first 22)
+
+    -- ---- so they are accepted
+    pub open-accepts : accepts G d (opening t name) ≡ (nameIs name and isFound (extentAt G d name 0))
+    unfolding _and_
+    open-accepts = as-test (accepts G d (opening t name)) ∙ open-by true (λ a h. false) ∙ both (nameIs name) (isFound (extentAt G d name 0))
+
+    pub size-accepts : accepts G d (sizing t name) ≡ (nameIs name and hasEntry G d name)
+    unfolding _and_
+    size-accepts = as-test (accepts G d (sizing t name)) ∙ size-by true (λ a h. false) ∙ both (nameIs name) (hasEntry G d name)
+
+    pub space-accepts : accepts G d (spacing t name) ≡ true
+    space-accepts = as-test (accepts G d (spacing t name)) ∙ space-by true (λ a h. false)

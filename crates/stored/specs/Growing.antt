@@ -10,6 +10,7 @@ use Rattle.lists.specs.Cases.{split, bool-cases, eq-or-ne}
 use Rattle.format.specs.Diskette.{Bytes, Geometry, Sound, imageBytes, Long, recordBytes, entryBytes, slotCount, slotsOn, extentRecords, extents, recordAt, withRecord}
 use Rattle.format.specs.Entries.{entryAt, withEntry, slotOf, slotFor, extentOf, runOf, countOf, countIn, endOf, isFile, used, empty, findEmpty}
 use Rattle.format.specs.Dates.{isDates}
+use Rattle.format.specs.Names.{sevenBits}
 use Rattle.format.specs.Notes.{noteAt, freeNote, recordedNote, withNote, pendingFor}
 use Rattle.format.specs.Fcb.{fcbEnd, fcbRight, crOf, current}
 use Rattle.format.specs.Found.{numberOf}
@@ -37,19 +38,24 @@ use Rattle.model.specs.Closing.{closeChanges, closedRow, closedImage, closedMap
 use Rattle.model.specs.Entering.{entered, nextRow}
 use Rattle.model.specs.Target.{targetExtent, targetRecord, targetSlot, crAfter, presentEntry, targetEntry, stays, blockThere, plan, moved, made, placeIn, haveWritten, writtenCount, writtenFcb, writtenMap}
 use Rattle.model.specs.Calls.{writtenAt, writing, written, closedAt, closed}
-use Rattle.fields.specs.Agree.{SameName, isFile-asked, isFile-cong}
+use Rattle.model.specs.Table.{timeRight}
+use Rattle.fields.specs.Agree.{SameName, same-name, named-cong, isFile-asked, isFile-cong}
 use Rattle.fields.specs.Closing.{length-closedRow, end-closed, slot-closed-old, slot-closed-new, file-closed, map-kept, note-closed-cases}
 use Rattle.fields.specs.Images.{row-closedImage, row-closedImage-other, record-closedImage}
 use Rattle.fields.specs.Entering.{length-entered, slot-entered, extent-entered, count-entered}
 use Rattle.fields.specs.OpenClose.{opened-keeps}
 use Rattle.fields.specs.Making.{length-nextRow, zero-next, slot-next, extent-next}
 use Rattle.fields.specs.Target.{extent-random, record-random, record-below, crAfter-high, targetSlot-below, place-below, extent-written, slot-written, rc-written, count-written-high, map-written-kept, note-written-other}
-use Rattle.table.specs.Facts.{Fits, Writes}
+use Rattle.table.specs.Facts.{Fits, Writes, AcceptedCall}
+use Rattle.table.specs.Accept.{writes-by}
+use Rattle.table.specs.Accepted.{accepted-carried}
+use Rattle.table.specs.Own.{kinds-apart}
+use Rattle.table.specs.Total.{InRange, step-range}
 use Rattle.table.specs.Plans.{Block, Planned, stay, move, make, planned-write}
 use Rattle.table.specs.Plans as Plans
 use Rattle.invariant.specs.Good.{Good}
 use Rattle.effects.specs.View.{View, viewOf, mine-high}
-use Rattle.effects.specs.Cur.{Cur, cur-current, cur-mine, cur-uses}
+use Rattle.effects.specs.Cur.{Cur, cur-current, cur-mine, cur-uses, cur-named}
 use Rattle.effects.specs.Effect.{NamesStay}
 use Rattle.effects.specs.Book.{Book}
 use Rattle.effects.specs.Where.{WritesNone}
@@ -58,10 +64,17 @@ use Rattle.effects.specs.Put.{ForSlot, put-rows, put-low, put-cur}
 use Rattle.effects.specs.Entered.{right-written}
 use Rattle.effects.specs.Came.{CameTo, stay-came, move-came, make-came}
 use Rattle.current.specs.Current.{fcb-says}
+use Rattle.demands.specs.Runs.{Request, Disk, lentTo, outcomeOf, left, accepts, after}
+use Rattle.demands.specs.Stamped.{stampedAs, cur-on, step-good}
+use Rattle.demands.specs.ReadBack.{user-stays, wrote}
+use Rattle.demands.specs.Protected.{lifted-stays}
+use Rattle.demands.specs.Reading.{atRecord, rest-atRecord, random-atRecord}
+use Rattle.stored.specs.Closed.{asks, Sane, seenOn, Fresh}
+use Rattle.stored.specs.Quiet.{carried-is, fresh-record, fresh-present}
 use Rattle.stored.specs.Restamped.{Alike, dates-alike, used-row}
-use Rattle.stored.specs.OneEntry.{OneEntry, by-used}
+use Rattle.stored.specs.OneEntry.{stamps-alike, OneEntry, one-stamped, one-named, one-names, by-used}
 use Rattle.stored.specs.Accepting.{unchanged-end, close-accepted}
-use Rattle.stored.specs.Grown.{slotAtRecord, Grown}
+use Rattle.stored.specs.Grown.{slotAtRecord, Grown, grown-named, grown-stamped, grown-one}
 
 -- an FCB says what its entry says: its blocks are the entry's, and its end is no later
 record Says (G : Geometry) (row fcb : Bytes) : Type 0 where
@@ -464,3 +477,202 @@ module _ {G : Geometry} (S : Sound G) (n : ℕ) (l : Lent) (s : Session) (g : Go
   written-closable : Writes G l s n → Closable G (s .user) x l (written G s l n .lent)
   unfolding written
   written-closable w = plan-close (plan G n (s .user) l) (planned-write G n l s w)
+
+-- ---- a close changes one entry
+closed-one : {G : Geometry} (S : Sound G) (img map map′ : Bytes) → Long G img → (user : ℕ) → user ≤ 15 → (fcb : Bytes) (e : ℕ) → Cur G (viewOf G img map) user fcb e
+    → OneEntry G (byName user fcb) (viewOf G img map) (viewOf G (closedImage G img e fcb) map′)
+closed-one {G} S img map map′ long user hu fcb e c =
+    let row : Bytes = entryAt G img e in
+    let new = row-closedImage S img long e (c .low) fcb in
+    let same = file-closed G row fcb (length-entryAt S img long e (c .low)) (file-run G user fcb 1 (extentOf fcb) row (c .file)) in
+    let is : byName user fcb (closedRow G row fcb) ≡ true =
+    named-cong false user fcb 1 (closedRow G row fcb) row (same .user) (same-name G (closedRow G row fcb) row same) ∙ cur-named G (viewOf G img map) user hu fcb e c in
+    record {
+      entry = e;
+      low = c .low;
+      was = inl (cur-named G (viewOf G img map) user hu fcb e c);
+      is = ap (byName user fcb) new ∙ is;
+      others = λ i h n q. row-closedImage-other S img long e (c .low) fcb i h q;
+      dates = λ i h. split (eq-or-ne i e)
+          (λ q. ap (λ (y : ℕ). isDates (entryAt G (closedImage G img e fcb) y)) q ∙ ap isDates new ∙ used-no-dates (closedRow G row fcb) (by-used user fcb hu (closedRow G row fcb) is)
+          ∙ sym (used-no-dates row (cur-uses G (viewOf G img map) user hu fcb e c)) ∙ ap (λ (y : ℕ). isDates (entryAt G img y)) (sym q))
+          (λ q. ap isDates (row-closedImage-other S img long e (c .low) fcb i h q));
+    }
+
+-- ---- the two calls: a write of record x through a fresh FCB, and the close through the FCB that it hands back
+-- what the write left
+record WroteOne (G : Geometry) (d : Disk) (f : Bytes) (x : ℕ) (v : Bytes) (o : Outcome) : Type 0 where
+  entry : ℕ
+  cur : Cur G (seenOn G (left o)) (d .session .user) (o .lent .fcb) entry
+  one : OneEntry G (byName (d .session .user) f) (seenOn G d) (seenOn G (left o))
+  grown : Grown G (seenOn G d)
+      (viewOf G (closedImage G (o .lent .drive .image) entry (o .lent .fcb)) (closedMap G (entryAt G (o .lent .drive .image) entry) (o .lent .fcb) (o .lent .drive .map)))
+      (d .session .user) f x v
+
+module _ {G : Geometry} (S : Sound G) (d : Disk) (f : Bytes) (e : ℕ) (k : Fresh G d f e) (x : ℕ) (small : x < 262144) (a : Asked) (buffer : Bytes)
+    (accepted : accepts G d (asks a 34 (atRecord f x) buffer) ≡ true) where
+  abbrev q : Request
+  q = asks a 34 (atRecord f x) buffer
+
+  abbrev lw : Lent
+  lw = lentTo d q
+
+  abbrev mid : Disk
+  mid = left (outcomeOf G d q)
+
+  abbrev user : ℕ
+  user = d .session .user
+
+  hu : user ≤ 15
+  hu = k .sane .range .user
+
+  kx : Fresh G d (atRecord f x) e
+  kx = fresh-record G d f e k x
+
+  facts : AcceptedCall G (q .asked) lw (d .session)
+  unfolding outcomeOf
+  facts = accepted-carried G (q .asked) (lentTo d q) (d .session) accepted .facts
+
+  writes : kindOf 34 ≡ Write
+  unfolding kindOf
+  writes = refl
+
+  wrote-is : outcomeOf G d q ≡ stampedAs G (q .asked) lw (d .session) Write
+  wrote-is = carried-is G d q accepted Write writes
+
+  to-extent : targetExtent 34 (atRecord f x) ≡ x / extentRecords
+  unfolding isRandom
+  to-extent = extent-random 34 (atRecord f x) refl ∙ ap (λ (y : ℕ). y / 128) (random-atRecord f x (k .long) (omega arith))
+
+  to-record : targetRecord 34 (atRecord f x) ≡ x % extentRecords
+  unfolding isRandom
+  to-record = record-random 34 (atRecord f x) refl ∙ ap (λ (y : ℕ). y % 128) (random-atRecord f x (k .long) (omega arith))
+
+  closable : Closable G user x lw (written G (d .session) lw 34 .lent)
+  closable =
+      written-closable S 34 lw (d .session) (k .sane .good) (facts .ready .fits) e (fresh-present G d (atRecord f x) e kx buffer) (k .cur .low)
+      (fcb-says (atRecord f x) (kx .cur .right) .cr)
+      record { slots = kx .slots; end = unchanged-end G (entryAt G (d .drive .image) e) (atRecord f x) (kx .same) }
+      (kx .same) (rw to-extent (omega arith)) x to-extent to-record (writes-by G (q .asked) lw (d .session) (facts .none) writes)
+
+  -- r0 to r2 are no part of the name
+  same-name-as : SameName f 1 (atRecord f x) 1
+  same-name-as i h = ap sevenBits (sym (rest-atRecord f x (k .long) (1 + i) (omega arith) (omega arith)))
+
+  mid-good : Good G (mid .drive .image) (mid .drive .map)
+  unfolding outcomeOf
+  mid-good = step-good S (q .asked) (lentTo d q) (d .session) (k .sane .good)
+
+  alike : Alike G (written G (d .session) lw 34 .lent .drive .image) (stampedAs G (q .asked) lw (d .session) Write .lent .drive .image)
+  alike = stamps-alike S (q .asked) lw (d .session) facts (k .sane .good) Write writes refl
+
+  wrote-one : WroteOne G d f x buffer (outcomeOf G d q)
+  wrote-one =
+      subst (WroteOne G d f x buffer) (sym wrote-is)
+      record {
+        entry = closable .entry;
+        cur = cur-on S (q .asked) lw (d .session) facts (k .sane .good) Write writes refl _ (closable .entry) (closable .cur);
+        one = one-stamped (by-used user f hu) (written G (d .session) lw 34 .lent .drive .map) (one-named user (atRecord f x) f same-name-as (closable .one)) alike;
+        grown = grown-named (atRecord f x) f same-name-as
+            (closable .grown (stampedAs G (q .asked) lw (d .session) Write .lent .drive .image) alike
+            (subst (λ (o : Outcome). Long G (o .lent .drive .image)) wrote-is (mid-good .image-long)));
+      }
+
+  -- the FCB handed back has the name
+  handed-back : SameName f 1 (outcomeOf G d q .lent .fcb) 1
+  handed-back i h = same-name-as i h ∙ sym (wrote S d q writes accepted .fcb .name i h)
+
+  -- the write changes one entry
+  pub write-one : OneEntry G (byName (d .session .user) f) (seenOn G d) (seenOn G (left (outcomeOf G d (asks a 34 (atRecord f x) buffer))))
+  write-one = wrote-one .one
+
+  -- ---- the close
+  module _ (b : Asked) (time : timeRight b ≡ true) (cb : Bytes) (whole : length cb ≡ recordBytes) where
+    abbrev c : Request
+    c = asks b 16 (outcomeOf G d q .lent .fcb) cb
+
+    abbrev lc : Lent
+    lc = lentTo mid c
+
+    abbrev t : ℕ
+    t = wrote-one .entry
+
+    pub closes : accepts G (left (outcomeOf G d (asks a 34 (atRecord f x) buffer))) (asks b 16 (outcomeOf G d (asks a 34 (atRecord f x) buffer) .lent .fcb) cb) ≡ true
+    closes = close-accepted S d q writes accepted b time cb whole
+
+    abbrev end : Disk
+    end = left (outcomeOf G mid c)
+
+    shuts : kindOf 16 ≡ Close
+    unfolding kindOf
+    shuts = refl
+
+    close-facts : AcceptedCall G (c .asked) lc (mid .session)
+    unfolding outcomeOf
+    close-facts = accepted-carried G (c .asked) (lentTo mid c) (mid .session) closes .facts
+
+    mid-user : mid .session .user ≡ d .session .user
+    unfolding after
+    mid-user = user-stays G d q (λ z. kinds-apart Write User refl (sym writes ∙ z))
+
+    present : presentEntry G (mid .session .user) lc ≡ At t
+    unfolding presentEntry
+    present =
+        ap (λ (u : ℕ). current G (entryAt G (mid .drive .image)) (mid .drive .map) u (outcomeOf G d q .lent .fcb)) mid-user
+        ∙ cur-current G (mid .drive .image) (mid .drive .map) user (outcomeOf G d q .lent .fcb) t (mid-good .inv .dir) hu (wrote-one .cur)
+
+    own-is : closed G (mid .session) lc ≡ closedAt G (mid .session) lc t
+    unfolding closed
+    own-is = ap (λ (r : Found). closedAt G (mid .session) lc (numberOf (G .entries) r)) present
+
+    end-is : outcomeOf G mid c ≡ stampedAs G (c .asked) lc (mid .session) Close
+    end-is = carried-is G mid c closes Close shuts
+
+    -- what its own rule left, and then its stamps
+    end-alike : Alike G (closed G (mid .session) lc .lent .drive .image) (stampedAs G (c .asked) lc (mid .session) Close .lent .drive .image)
+    end-alike = stamps-alike S (c .asked) lc (mid .session) close-facts mid-good Close shuts refl
+
+    -- the file gained the record
+    pub write-close-grown : Grown G (seenOn G d)
+        (seenOn G (left (outcomeOf G (left (outcomeOf G d (asks a 34 (atRecord f x) buffer))) (asks b 16 (outcomeOf G d (asks a 34 (atRecord f x) buffer) .lent .fcb) cb))))
+        (d .session .user) f x buffer
+    unfolding closedAt
+    write-close-grown =
+        subst (λ (o : Outcome). Grown G (seenOn G d) (seenOn G (left o)) user f x buffer) (sym end-is)
+        (grown-stamped S (closed G (mid .session) lc .lent .drive .map) hu
+        (subst (λ (o : Outcome). Grown G (seenOn G d) (seenOn G (left o)) user f x buffer) (sym own-is) (wrote-one .grown)) end-alike)
+
+    -- the close changes one entry
+    pub close-one : OneEntry G (byName (d .session .user) f) (seenOn G (left (outcomeOf G d (asks a 34 (atRecord f x) buffer))))
+        (seenOn G (left (outcomeOf G (left (outcomeOf G d (asks a 34 (atRecord f x) buffer))) (asks b 16 (outcomeOf G d (asks a 34 (atRecord f x) buffer) .lent .fcb) cb))))
+    unfolding closedAt
+    close-one =
+        subst (λ (o : Outcome). OneEntry G (byName user f) (seenOn G mid) (seenOn G (left o))) (sym end-is)
+        (one-stamped (by-used user f hu) (closed G (mid .session) lc .lent .drive .map)
+        (subst (λ (o : Outcome). OneEntry G (byName user f) (seenOn G mid) (seenOn G (left o))) (sym own-is)
+        (one-named user (outcomeOf G d q .lent .fcb) f handed-back
+        (closed-one S (mid .drive .image) (mid .drive .map) (closedAt G (mid .session) lc t .lent .drive .map) (mid-good .image-long) user hu (outcomeOf G d q .lent .fcb) t (wrote-one .cur)))) end-alike)
+
+    -- names stay, over the write, over the close, and over both
+    module _ (u : ℕ) (low : u ≤ 15) (h : Bytes) where
+      pub close-names : NamesStay G (seenOn G mid) (seenOn G end) (byName u h)
+      close-names = one-names user f close-one u low h
+
+      pub write-close-names : NamesStay G (seenOn G d) (seenOn G end) (byName u h)
+      write-close-names = one-names user f (grown-one f write-close-grown) u low h
+
+    -- ---- the disk afterwards
+    pub end-sane : Sane G (left (outcomeOf G (left (outcomeOf G d (asks a 34 (atRecord f x) buffer))) (asks b 16 (outcomeOf G d (asks a 34 (atRecord f x) buffer) .lent .fcb) cb)))
+    unfolding outcomeOf
+    end-sane = record {
+      good = step-good S (c .asked) (lentTo mid c) (mid .session) mid-good;
+      range = step-range G (c .asked) (lentTo mid c) (mid .session) (step-range G (q .asked) (lentTo d q) (d .session) (k .sane .range));
+    }
+
+    pub end-user : end .session .user ≡ d .session .user
+    unfolding after
+    end-user = user-stays G mid c (λ z. kinds-apart Close User refl (sym shuts ∙ z)) ∙ mid-user
+
+    pub end-lifted : end .session .lifted ≡ d .session .lifted
+    unfolding outcomeOf
+    end-lifted = lifted-stays G (c .asked) (lentTo mid c) (mid .session) ∙ lifted-stays G (q .asked) (lentTo d q) (d .session)

@@ -22,7 +22,7 @@ use Rattle.model.specs.Kinds.{kindOf, same}
 use Rattle.model.specs.Lent.{Lent, rowsOf}
 use Rattle.model.specs.Stamps.{Stamp, stampsBy, stampedWith}
 use Rattle.model.specs.Step.{does}
-use Rattle.fields.specs.Agree.{SameName, named-cong}
+use Rattle.fields.specs.Agree.{SameName, named-cong, named-asked}
 use Rattle.table.specs.Facts.{AcceptedCall}
 use Rattle.invariant.specs.Good.{Good}
 use Rattle.invariant.specs.Stamps.{where-cases, stamped-still, placed}
@@ -83,6 +83,19 @@ one-stamped {G} {N} sure {s} {img} {img′} map one w = record {
   others = λ e l n q. w .row e l (one .dates e l ∙ n) ∙ one .others e l n q;
   dates = λ e l. dates-alike G img img′ w e l ∙ one .dates e l;
 }
+
+-- by another FCB of the same name
+pub one-named : {G : Geometry} (user : ℕ) (f h : Bytes) → SameName h 1 f 1 → {s t : View} → OneEntry G (byName user f) s t → OneEntry G (byName user h) s t
+one-named {G} user f h same {s} {t} one =
+    let asked : (r : Bytes) → byName user h r ≡ byName user f r = named-asked h 1 f 1 same false user in
+    record {
+      entry = one .entry;
+      low = one .low;
+      was = split (one .was) (λ n. inl (asked (s .rows (one .entry)) ∙ n)) (λ z. inr z);
+      is = asked (t .rows (one .entry)) ∙ one .is;
+      others = one .others;
+      dates = one .dates;
+    }
 
 -- of one file: whatever name an entry of it had, it keeps
 pub by-used : (user : ℕ) (f : Bytes) → user ≤ 15 → (r : Bytes) → byName user f r ≡ true → used r ≡ true
