@@ -2,6 +2,7 @@ pub mod Bytes
 pub mod Calls
 pub mod Deciding
 pub mod Grew
+pub mod Growth
 pub mod Lifting
 pub mod Records
 pub mod Right
