@@ -4,6 +4,7 @@ pub mod Deciding
 pub mod Grew
 pub mod Growth
 pub mod Lifting
+pub mod Logs
 pub mod Records
 pub mod Right
 pub mod Same

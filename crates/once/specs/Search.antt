@@ -23,6 +23,11 @@ use Rattle.picking.specs.Picker.{Search, blank, callAt, reading, hasStamp, acce
 use Rattle.once.specs.Bytes.{length-blank}
 use Rattle.once.specs.Calls.{Timed}
 
+-- record r of the file that f names is there and has the year and day
+abbrev pub hasAt : Geometry → Disk → Bytes → Wanted → ℕ → Bool
+hasAt G d f w r =
+    isStored G (seenOn G d) (d .session .user) f r and hasStamp (w .year) (w .day) (bytesStored G (seenOn G d) (d .session .user) f r)
+
 module _ {G : Geometry} (S : Sound G) (d : Disk) (f : Bytes) (e : ℕ) (k : Fresh G d f e) (t : Time) (timed : Timed t) where
   abbrev user : ℕ
   user = d .session .user
@@ -47,15 +52,14 @@ module _ {G : Geometry} (S : Sound G) (d : Disk) (f : Bytes) (e : ℕ) (k : Fres
 
   -- ---- the search
   module _ (w : Wanted) (over : d .session ≡ ended (d .session)) where
-    -- record r is there and has the year and day
-    abbrev pub hasAt : ℕ → Bool
-    hasAt r = isStored G (seenOn G d) user f r and hasStamp (w .year) (w .day) (bytesStored G (seenOn G d) user f r)
+    abbrev has : ℕ → Bool
+    has r = hasAt G d f w r
 
-    one-told : (r : ℕ) → r < 16777216 → tells G t w (outcomeOf G d (reading t f r blank)) ≡ record { found = hasAt r; disk = d }
+    one-told : (r : ℕ) → r < 16777216 → tells G t w (outcomeOf G d (reading t f r blank)) ≡ record { found = has r; disk = d }
     one-told r small =
         let o : Outcome = outcomeOf G d (reading t f r blank) in
         let same : left (outcomeOf G d (reading t f r blank)) ≡ d = fresh-read-disk G d (reading t f r blank) e refl (fresh-record G d f e k r) over in
-        let hit : (accepted 33 o and hasStamp (w .year) (w .day) (o .lent .buffer)) ≡ hasAt r =
+        let hit : (accepted 33 o and hasStamp (w .year) (w .day) (o .lent .buffer)) ≡ has r =
         bool-ext _ _
         (λ h. let b : isStored G (seenOn G d) user f r ≡ true = sym (read-accepted r small blank length-blank) ∙ and-left _ _ h in
         and-both _ _ b (ap (hasStamp (w .year) (w .day)) (sym (read-gives r small blank length-blank b)) ∙ and-right _ _ h))
@@ -66,18 +70,18 @@ module _ {G : Geometry} (S : Sound G) (d : Disk) (f : Bytes) (e : ℕ) (k : Fres
 
     -- what it has come to after the records below n
     abbrev state : ℕ → Search
-    state n = record { found = anyBelow hasAt n; disk = d }
+    state n = record { found = anyBelow has n; disk = d }
 
     turn : (n : ℕ) → n < 16777216 → look G t w f (state n) n ≡ state (n + 1)
     unfolding look
     turn n small =
-        split (bool-cases (anyBelow hasAt n))
-        (λ h. rw h (ap (λ (b : Bool). record { found = b; disk = d }) (sym (any-next hasAt n ∙ or-left _ _ h))))
-        (λ h. rw h (one-told n small ∙ ap (λ (b : Bool). record { found = b; disk = d }) (sym (any-next hasAt n ∙ or-then _ _ h))))
+        split (bool-cases (anyBelow has n))
+        (λ h. rw h (ap (λ (b : Bool). record { found = b; disk = d }) (sym (any-next has n ∙ or-left _ _ h))))
+        (λ h. rw h (one-told n small ∙ ap (λ (b : Bool). record { found = b; disk = d }) (sym (any-next has n ∙ or-then _ _ h))))
 
     pub searched-is : (n : ℕ) → n ≤ 16777216 → searched G t w d f n ≡ state n
     unfolding searched
     searched-is n high =
         fold-builds (λ (i : ℕ) (s : Search). s ≡ state i) (look G t w f) record { found = false; disk = d } n
-        (ap (λ (b : Bool). record { found = b; disk = d }) (sym (any-none hasAt)))
+        (ap (λ (b : Bool). record { found = b; disk = d }) (sym (any-none has)))
         (λ i s h q. ap (λ (x : Search). look G t w f x i) q ∙ turn i (omega arith))
