@@ -27,7 +27,7 @@ use Rattle.once.specs.Deciding.{answered, decided, answered-own}
 use Rattle.once.specs.Table.{nameIs, hasEntry, extentAt, someEmpty}
 
 -- an answer as a test
-as-test : (b : Bool) → b ≡ cond b true false
+pub as-test : (b : Bool) → b ≡ cond b true false
 as-test true = refl
 as-test false = refl
 

@@ -23,7 +23,7 @@ use Rattle.stored.specs.Grown.{Grown, grown-file}
 empty-no-dates : (r : Bytes) → empty r ≡ true → isDates r ≡ false
 empty-no-dates r h = split (bool-cases (isDates r)) (λ t. not-both (empty r) h (dates-full r t)) (λ t. t)
 
-used-no-dates : (r : Bytes) → used r ≡ true → isDates r ≡ false
+pub used-no-dates : (r : Bytes) → used r ≡ true → isDates r ≡ false
 used-no-dates r h = split (bool-cases (isDates r)) (λ t. not-both (used r) h (dates-unused r t)) (λ t. t)
 
 -- ---- before stamps that were put

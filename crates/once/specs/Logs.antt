@@ -170,7 +170,7 @@ module _ {G : Geometry} (S : Sound G) (t : Time) (timed : Timed t) (w : Wanted) 
     restamped : Restamped G (LogAccess G t w d) d m
     restamped = opened-restamped S (callAt t 0) d log blank
 
-    found-run : isFound (extentAt G d (w .log) 0) ≡ true → LogRun G t w d (extended G t w d (sizeIs G d (w .log)))
+    pub found-run : isFound (extentAt G d (w .log) 0) ≡ true → LogRun G t w d (extended G t w d (sizeIs G d (w .log)))
     unfolding extended
     found-run h =
         let a : accepts G d (opening t (w .log)) ≡ true = open-accepts d sane t timed (w .log) (nm .log) ∙ and-both _ _ name h in
@@ -187,7 +187,7 @@ module _ {G : Geometry} (S : Sound G) (t : Time) (timed : Timed t) (w : Wanted) 
         over : accepts G d (opening t (w .log)) ≡ true → m .session ≡ ended (m .session)
         over a = let q = opened-ended S d (opening t (w .log)) refl a in q ∙ ap ended (sym q)
 
-    missed-run : isFound (extentAt G d (w .log) 0) ≡ false → (n : ℕ) → LogRun G t w d (extended G t w d n)
+    pub missed-run : isFound (extentAt G d (w .log) 0) ≡ false → (n : ℕ) → LogRun G t w d (extended G t w d n)
     unfolding extended isCode logAnswer _and_
     missed-run h n =
         let a : accepts G d (opening t (w .log)) ≡ false = open-accepts d sane t timed (w .log) (nm .log) ∙ and-fails-right (nameIs (w .log)) (isFound (extentAt G d (w .log) 0)) h in
