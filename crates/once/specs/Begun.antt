@@ -5,7 +5,7 @@ use Prim.Native.Nat.{ℕ, _*_, _/_, _≤_, _<_}
 use native.Mathlib.Omega.{arith}
 use lib.Dec.{eqb}
 use borrow.Author.Tests.{eqb-true, eqb-false}
-use Rattle.lists.specs.Cases.{split, bool-cases, eq-or-ne, not-both}
+use Rattle.lists.specs.Cases.{split, bool-cases, eq-or-ne, not-both, clash}
 use Rattle.lists.specs.Tests.{_and_, and-both, and-fails-left, and-fails-right}
 use Rattle.format.specs.Diskette.{Bytes, Geometry, Sound}
 use Rattle.format.specs.Entries.{entryAt, named, used, isFile, endOf, findNamed}
@@ -45,7 +45,7 @@ use Rattle.once.specs.Grew.{used-no-dates, grown-made}
 use Rattle.once.specs.Growth.{LogGrew, write-grew}
 use Rattle.once.specs.Lifting.{openByte, openedUp, open-unprotected, lifted-is}
 use Rattle.once.specs.Logs.{isLogged, LogAccess, LogRun, stayed, grew, run-before, found-run, missed-run}
-use Rattle.once.specs.Same.{entry-same, free-same, empty-same}
+use Rattle.once.specs.Same.{entry-same, free-same, size-same}
 use Rattle.once.specs.Table.{nameIs, hasEntry, extentAt, sizeIs, someEmpty, someFree, beginning, logAnswer}
 use Rattle.once.specs.Writing.{sane-lifted, fresh-lifted, lifted-accepted, lifted-left, lifted-refused, next-open, written-logged, end}
 
@@ -172,3 +172,122 @@ module _ {G : Geometry} (S : Sound G) (countable : G .perBlock * G .blocks < 167
       made-logged =
           rw (lifted-accepted G d q ∙ a)
           (ap (λ (x : Outcome). written G t w (left x) (x .lent .fcb) 0) (lifted-is G d q) ∙ written-logged S t timed w after f 0 wrote)
+
+    made-run : someFree G d ≡ true → LogRun G t w d (made G t w d)
+    unfolding made isCode beginning _and_
+    made-run room =
+        let code : ℕ → ℕ → Pick = λ x y. cond (eqb x 255 and eqb y 0) DirectoryFull (Other x y) in
+        split (bool-cases (someEmpty G d))
+        (λ some. let a : accepts G (openedUp d) q ≡ true = as-test (accepts G (openedUp d) q) ∙ make-told true (λ x y. false) ∙ rw some in
+        let is = made-logged a (found-of (findFree G (d .drive .map)) room) in
+        grew (ap (λ (l : Logging). l .pick) is) (answer-is ∙ rw (room, some))
+        (subst (LogGrew G w d) (sym (ap (λ (l : Logging). l .disk) is)) (made-grew a (found-of (findFree G (d .drive .map)) room))))
+        (λ some. let a : accepts G (openedUp d) q ≡ false = as-test (accepts G (openedUp d) q) ∙ make-told true (λ x y. false) ∙ rw some in
+        let p : cond (eqb (o .answer .a) 255 and eqb (o .answer .h) 0) DirectoryFull (Other (o .answer .a) (o .answer .h)) ≡ DirectoryFull =
+        ap (λ (b : Bool). cond b Logged (cond (eqb (o .answer .a) 255 and eqb (o .answer .h) 0) DirectoryFull (Other (o .answer .a) (o .answer .h)))) (sym a)
+        ∙ make-told Logged (λ x y. cond (eqb x 255 and eqb y 0) DirectoryFull (Other x y)) ∙ rw some in
+        let told : made G t w d .pick ≡ DirectoryFull =
+        rw (lifted-accepted G d q ∙ a) (ap (λ (x : Outcome). cond (eqb (x .answer .a) 255 and eqb (x .answer .h) 0) DirectoryFull (Other (x .answer .a) (x .answer .h))) (lifted-is G d q) ∙ p) in
+        let left-is : made G t w d .disk ≡ left (liftedCall G d q) = rw (lifted-accepted G d q ∙ a) in
+        stayed (told ∙ sym (answer-is ∙ rw (room, some))) (ap isLogged told)
+        (subst (Restamped G (LogAccess G t w d) d) (sym left-is) (lifted-refused G d q (LogAccess G t w d) a)))
+      where
+        found-of : (x : Found) → isFound x ≡ true → FoundAt x
+        found-of (At k) h = record { place = k; is = refl }
+        found-of Nothing h = clash (sym h)
+
+    -- ---- the look at the space
+    abbrev look : Outcome
+    look = outcomeOf G d (spacing t (w .log))
+
+    looked : Restamped G (LogAccess G t w d) d (left look)
+    unfolding kindOf
+    looked = quiet-same G (LogAccess G t w d) d (spacing t (w .log)) refl (λ z. omega arith)
+
+    told-space : accepts G d (spacing t (w .log)) ≡ true
+    told-space = space-accepts d sane t timed (w .log) (nm .log)
+
+    -- 46 tells of space exactly where a block is free
+    space-is : eqb (spaceIn (look .lent .buffer)) 0 ≡ not (someFree G d)
+    unfolding spaceIn
+    space-is =
+        split (bool-cases (eqb (spaceIn (look .lent .buffer)) 0))
+        (λ z. z ∙ sym (ap (λ (x : Found). not (isFound x)) (space-none G d (spacing t (w .log)) refl told-space S countable (eqb-true _ _ z))))
+        (λ z. z ∙ sym (ap (λ (x : Found). not (isFound x)) (space-free G d (spacing t (w .log)) refl told-space (eqb-false _ _ z) .is)))
+
+  pub begun-run : (d : Disk) → Sane G d → nameIs (w .log) ≡ true → hasEntry G d (w .log) ≡ false → LogRun G t w d (begun G t w d)
+  unfolding begun beginning
+  begun-run d sane name missing =
+      let m : Disk = left (look d sane name missing) in
+      let r = looked d sane name missing in
+      split (bool-cases (someFree G d))
+      (λ room. rw (told-space d sane name missing, space-is d sane name missing, room)
+      (run-before S t timed w nm d (left (outcomeOf G d (spacing t (w .log)))) sane r (made G t w (left (outcomeOf G d (spacing t (w .log)))))
+      (made-run (left (outcomeOf G d (spacing t (w .log)))) (sane-restamped S (LogAccess G t w d) d (left (outcomeOf G d (spacing t (w .log)))) sane r) name
+      (entry-same S (LogAccess G t w d) d (left (outcomeOf G d (spacing t (w .log)))) sane r (w .log) ∙ missing)
+      (free-same S (LogAccess G t w d) d (left (outcomeOf G d (spacing t (w .log)))) sane r ∙ room))))
+      (λ room. rw (told-space d sane name missing, space-is d sane name missing, room)
+      (stayed (sym (answer-is d sane name missing ∙ rw room)) refl r))
+
+  -- ---- the second half of a run
+  module _ (d : Disk) (sane : Sane G d) where
+    abbrev sized : Outcome
+    sized = outcomeOf G d (sizing t (w .log))
+
+    asked-size : Restamped G (LogAccess G t w d) d (left sized)
+    unfolding kindOf
+    asked-size = quiet-same G (LogAccess G t w d) d (sizing t (w .log)) refl (λ z. omega arith)
+
+    sane-sized : Sane G (left sized)
+    sane-sized = sane-restamped S (LogAccess G t w d) d (left sized) sane asked-size
+
+    size-coded : {A : Type 0} (not-so : ℕ → ℕ → A) (b : A) → accepts G d (sizing t (w .log)) ≡ false
+        → not-so (sized .answer .a) (sized .answer .h) ≡ cond (not (nameIs (w .log))) (not-so 255 9) (cond (not (hasEntry G d (w .log))) (not-so 255 0) b)
+    size-coded not-so b a =
+        ap (λ (x : Bool). cond x b (not-so (sized .answer .a) (sized .answer .h))) (sym a) ∙ size-by d sane t timed (w .log) (nm .log) b not-so
+
+    told-size : accepts G d (sizing t (w .log)) ≡ true → randomOf (sized .lent .fcb) ≡ sizeIs G d (w .log)
+    unfolding sizeIs
+    told-size a = size-told G d sane log (begins-fcbOf (w .log) (nm .log) .long) (callAt t 0) blank a
+
+    -- it has entries
+    there-run : nameIs (w .log) ≡ true → hasEntry G d (w .log) ≡ true → LogRun G t w d (logged G t w d)
+    unfolding logged
+    there-run name some =
+        let a : accepts G d (sizing t (w .log)) ≡ true = size-accepts d sane t timed (w .log) (nm .log) ∙ and-both _ _ name some in
+        let some′ : hasEntry G (left sized) (w .log) ≡ true = entry-same S (LogAccess G t w d) d (left sized) sane asked-size (w .log) ∙ some in
+        rw (a, size-is a)
+        (run-before S t timed w nm d (left sized) sane asked-size (extended G t w (left sized) (sizeIs G (left sized) (w .log)))
+        (split (bool-cases (isFound (extentAt G (left sized) (w .log) 0)))
+        (λ h. found-run S t timed w nm (left sized) sane-sized name some′ h)
+        (λ h. missed-run S t timed w nm (left sized) sane-sized name some′ h (sizeIs G (left sized) (w .log)))))
+      where
+        size-is : accepts G d (sizing t (w .log)) ≡ true → randomOf (sized .lent .fcb) ≡ sizeIs G (left sized) (w .log)
+        size-is a = told-size a ∙ sym (size-same S (LogAccess G t w d) d (left sized) sane asked-size (w .log))
+
+    -- it has none
+    missing-run : nameIs (w .log) ≡ true → hasEntry G d (w .log) ≡ false → LogRun G t w d (logged G t w d)
+    unfolding logged isCode _and_
+    missing-run name none =
+        let a : accepts G d (sizing t (w .log)) ≡ false =
+        size-accepts d sane t timed (w .log) (nm .log) ∙ and-fails-right (nameIs (w .log)) (hasEntry G d (w .log)) none in
+        let c : (eqb (sized .answer .a) 255 and eqb (sized .answer .h) 0) ≡ true = size-coded (λ x y. eqb x 255 and eqb y 0) true a ∙ rw (name, none) in
+        rw (a, c)
+        (run-before S t timed w nm d (left sized) sane asked-size (begun G t w (left sized))
+        (begun-run (left sized) sane-sized name (entry-same S (LogAccess G t w d) d (left sized) sane asked-size (w .log) ∙ none)))
+
+    -- its name is none
+    unnamed-run : nameIs (w .log) ≡ false → LogRun G t w d (logged G t w d)
+    unfolding logged isCode logAnswer _and_
+    unnamed-run name =
+        let a : accepts G d (sizing t (w .log)) ≡ false =
+        size-accepts d sane t timed (w .log) (nm .log) ∙ and-fails-left (nameIs (w .log)) (hasEntry G d (w .log)) name in
+        let c : (eqb (sized .answer .a) 255 and eqb (sized .answer .h) 0) ≡ false = size-coded (λ x y. eqb x 255 and eqb y 0) true a ∙ rw name in
+        let p : Other (sized .answer .a) (sized .answer .h) ≡ Other 255 9 = size-coded (λ x y. Other x y) Logged a ∙ rw name in
+        rw (a, c, p) (stayed (rw name) refl asked-size)
+
+    pub log-run : LogRun G t w d (logged G t w d)
+    log-run =
+        split (bool-cases (nameIs (w .log)))
+        (λ name. split (bool-cases (hasEntry G d (w .log))) (λ some. there-run name some) (λ none. missing-run name none))
+        (λ name. unnamed-run name)
