@@ -6,6 +6,7 @@ pub mod Grew
 pub mod Growth
 pub mod Lifting
 pub mod Logs
+pub mod Picks
 pub mod Records
 pub mod Right
 pub mod Same

@@ -8,6 +8,7 @@ use Rattle.lists.specs.Cases.{clash}
 use Rattle.lists.specs.Tests.{_and_, and-left, and-right, and-both}
 use Rattle.format.specs.Diskette.{Bytes, Geometry, extentRecords}
 use Rattle.format.specs.Entries.{Rows, slotOf, slotFor, countIn, isFile, findFile}
+use Rattle.format.specs.Found.{isFound}
 use Rattle.format.specs.declared.Found.{Found}
 use Rattle.format.specs.declared.Found.the-variants.{At, Nothing}
 use Rattle.facts.specs.Find.{file-says}
@@ -74,6 +75,15 @@ module _ (G : Geometry) (s : View) (user : ℕ) (f : Bytes) (r : ℕ) where
         dat = refl;
       }
   stored-by Nothing q t = clash (sym (and-right _ _ t))
+
+  -- a record that is there has an entry for its extent
+  found-by : (x : Found) → storedBy G (s .rows) r x ≡ true → isFound x ≡ true
+  found-by (At e) t = refl
+  found-by Nothing t = clash (sym (and-right _ _ t))
+
+  pub stored-found : isStored ≡ true → isFound extentEntry ≡ true
+  unfolding isStored
+  stored-found t = found-by extentEntry t
 
   pub is-stored : isStored ≡ true → Stored G s user f r bytesStored
   unfolding isStored bytesStored
