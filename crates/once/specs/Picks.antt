@@ -242,3 +242,79 @@ module _ {G : Geometry} (S : Sound G) (countable : G .perBlock * G .blocks < 167
         split (bool-cases (eqb (length buffer) recordBytes))
         (λ long. split (bool-cases (recordIs G d (w .book) (w .day))) (λ there. given-run long there) (λ none. missing-run long none))
         (λ short. short-run short)
+
+  -- ---- the book could not be opened
+  abbrev told-open : ℕ → ℕ → Pick
+  told-open x y = cond (eqb x 255 and eqb y 0) NoBook (Other x y)
+
+  closed-run : ltb lastDay (w .day) ≡ false → accepts G d (opening t (w .book)) ≡ false → hasWord G t w d buffer ≡ false → (p : Pick)
+      → told-open (o .answer .a) (o .answer .h) ≡ p → isLogged p ≡ false → answer G w d t buffer ≡ p → PickRun G t w d buffer (picked G t w d buffer)
+  unfolding picked looked isCode
+  closed-run day a none p is unlogged row =
+      rw (day, a, is) record { pick = sym row; given = sym none; word = sym (rw none); left = same unlogged (book-only m opened) }
+
+  opening-is : {A : Type 0} (went : A) (not-so : ℕ → ℕ → A) → accepts G d (opening t (w .book)) ≡ false
+      → not-so (o .answer .a) (o .answer .h)
+      ≡ cond (not (parametersAre G d t)) (not-so 255 4) (cond (not (diskIs G d)) (not-so 255 1)
+      (cond (not (nameIs (w .book))) (not-so 255 9) (cond (not (isFound (extentAt G d (w .book) 0))) (not-so 255 0) went)))
+  opening-is went not-so a =
+      ap (λ (b : Bool). cond b went (not-so (o .answer .a) (o .answer .h))) (sym a) ∙ open-any G d t (w .book) (nm .book) went not-so
+
+  accepts-is-all : accepts G d (opening t (w .book))
+      ≡ cond (not (parametersAre G d t)) false (cond (not (diskIs G d)) false (cond (not (nameIs (w .book))) false (cond (not (isFound (extentAt G d (w .book) 0))) false true)))
+  accepts-is-all = as-test (accepts G d (opening t (w .book))) ∙ open-any G d t (w .book) (nm .book) true (λ x y. false)
+
+  module _ (day : ltb lastDay (w .day) ≡ false) where
+    params-run : parametersAre G d t ≡ false → PickRun G t w d buffer (picked G t w d buffer)
+    unfolding hasWord answer _and_
+    params-run x =
+        let a : accepts G d (opening t (w .book)) ≡ false = accepts-is-all ∙ rw x in
+        closed-run day a (rw (day, x)) (Other 255 4) (opening-is Logged told-open a ∙ rw x) refl (rw (day, x))
+
+    disk-run : parametersAre G d t ≡ true → diskIs G d ≡ false → PickRun G t w d buffer (picked G t w d buffer)
+    unfolding hasWord answer _and_
+    disk-run p x =
+        let a : accepts G d (opening t (w .book)) ≡ false = accepts-is-all ∙ rw (p, x) in
+        closed-run day a (rw (day, p, x)) (Other 255 1) (opening-is Logged told-open a ∙ rw (p, x)) refl (rw (day, p, x))
+
+    name-run : parametersAre G d t ≡ true → diskIs G d ≡ true → nameIs (w .book) ≡ false → PickRun G t w d buffer (picked G t w d buffer)
+    unfolding hasWord answer bookAnswer _and_
+    name-run p q x =
+        let a : accepts G d (opening t (w .book)) ≡ false = accepts-is-all ∙ rw (p, q, x) in
+        closed-run day a (rw (day, p, q, x)) (Other 255 9) (opening-is Logged told-open a ∙ rw (p, q, x)) refl (rw (day, p, q, x))
+
+    book-run : parametersAre G d t ≡ true → diskIs G d ≡ true → nameIs (w .book) ≡ true → isFound (extentAt G d (w .book) 0) ≡ false
+        → PickRun G t w d buffer (picked G t w d buffer)
+    unfolding hasWord answer bookAnswer _and_
+    book-run p q n x =
+        let a : accepts G d (opening t (w .book)) ≡ false = accepts-is-all ∙ rw (p, q, n, x) in
+        closed-run day a (rw (day, p, q, n, x)) NoBook (opening-is Logged told-open a ∙ rw (p, q, n, x)) refl (rw (day, p, q, n, x))
+
+    open-run : parametersAre G d t ≡ true → diskIs G d ≡ true → nameIs (w .book) ≡ true → isFound (extentAt G d (w .book) 0) ≡ true
+        → PickRun G t w d buffer (picked G t w d buffer)
+    unfolding picked looked
+    open-run p q n x = rw (day, accepts-book day p q n x) (fetched-run day p q n x)
+
+    day-run : PickRun G t w d buffer (picked G t w d buffer)
+    day-run =
+        split (bool-cases (parametersAre G d t))
+        (λ p. split (bool-cases (diskIs G d))
+        (λ q. split (bool-cases (nameIs (w .book)))
+        (λ n. split (bool-cases (isFound (extentAt G d (w .book) 0))) (λ x. open-run p q n x) (λ x. book-run p q n x))
+        (λ n. name-run p q n))
+        (λ q. disk-run p q))
+        (λ p. params-run p)
+
+  -- ---- any run
+  over-run : ltb lastDay (w .day) ≡ true → PickRun G t w d buffer (picked G t w d buffer)
+  unfolding picked hasWord answer _and_
+  over-run day =
+      rw day record {
+        pick = sym (rw day);
+        given = sym (rw day);
+        word = sym (rw day);
+        left = same refl (restamped-none G (PickAccess G t w d) d d refl refl refl (λ r. r));
+      }
+
+  pub pick-run : PickRun G t w d buffer (picked G t w d buffer)
+  pick-run = split (bool-cases (ltb lastDay (w .day))) (λ x. over-run x) (λ x. day-run x)
