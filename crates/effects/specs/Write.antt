@@ -62,6 +62,23 @@ pub record ReadOk (G : Geometry) (n user : ℕ) (l left : Lent) (t : ℕ) : Type
   pub mine : byName user (l .fcb) (entryAt G (left .drive .image) t) ≡ true
   pub cur : Cur G (viewOf G (left .drive .image) (left .drive .map)) user (left .fcb) t
 
+-- the block of a write suits the slot that the FCB has once the call has come to its target
+pub came-slot : {G : Geometry} (S : Sound G) (n : ℕ) (l : Lent) (s : Session) → Fits G l s → (there : Lent) (t b : ℕ) (W : ℕ → Type 0) (B : Book → Book)
+    → CameTo G n (s .user) l there t W B → targetSlot G n (l .fcb) < slotCount → Block G n (s .user) l b
+    → ForSlot G (there .drive .map) (slotOf G (there .fcb) (targetSlot G n (l .fcb))) b
+came-slot {G} S n l s f there t b W B came low (Plans.there q real) =
+    let own : slotOf G (there .fcb) (targetSlot G n (l .fcb)) ≡ b = came .slot ∙ q in
+    record {
+      below = rw (← own) (mine-high G (viewOf G (there .drive .image) (there .drive .map)) (came .change .good .inv) (slotOf G (there .fcb) (targetSlot G n (l .fcb))) t
+          (cur-mine G (viewOf G (there .drive .image) (there .drive .map)) (s .user) (f .user-low) (there .fcb) t (came .cur) (targetSlot G n (l .fcb)) low
+          (λ z. real (sym own ∙ z))));
+      free = λ z. absurd (real (sym own ∙ z));
+      own = λ z. own;
+    }
+came-slot {G} S n l s f there t b W B came low (Plans.free z q) =
+    let h = free-is G (l .drive .map) b q in
+    record { below = h .below; free = λ y. came .free b (h .below) (h .free); own = λ y. absurd (y (came .slot ∙ z)) }
+
 module _ {G : Geometry} (S : Sound G) (n : ℕ) (l : Lent) (s : Session) (g : Good G (l .drive .image) (l .drive .map)) (f : Fits G l s) (cr : crOf (l .fcb) ≤ 128) where
   j : ℕ
   j = targetSlot G n (l .fcb)
@@ -100,20 +117,7 @@ module _ {G : Geometry} (S : Sound G) (n : ℕ) (l : Lent) (s : Session) (g : Go
 
     for-slot : ForSlot G (there .drive .map) (slotOf G (there .fcb) j) b
     unfolding j
-    for-slot = go block
-      where
-        go : Block G n (s .user) l b → ForSlot G (there .drive .map) (slotOf G (there .fcb) (targetSlot G n (l .fcb))) b
-        go (Plans.there q real) =
-            let own : slotOf G (there .fcb) (targetSlot G n (l .fcb)) ≡ b = came .slot ∙ q in
-            record {
-              below = rw (← own) (mine-high G (viewOf G (there .drive .image) (there .drive .map)) (here-good .inv) (slotOf G (there .fcb) (targetSlot G n (l .fcb))) t
-                  (cur-mine G (viewOf G (there .drive .image) (there .drive .map)) (s .user) (f .user-low) (there .fcb) t (came .cur) (targetSlot G n (l .fcb)) j-below (λ z. real (sym own ∙ z))));
-              free = λ z. absurd (real (sym own ∙ z));
-              own = λ z. own;
-            }
-        go (Plans.free z q) =
-            let h = free-is G (l .drive .map) b q in
-            record { below = h .below; free = λ y. came .free b (h .below) (h .free); own = λ y. absurd (y (came .slot ∙ z)) }
+    for-slot = came-slot S n l s f there t b _ _ came j-below block
 
     theirs : Theirs G (l .drive .image) (l .drive .map) (byName (s .user) (l .fcb)) b
     theirs = go block

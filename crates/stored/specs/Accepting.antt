@@ -2,8 +2,7 @@
 -- back, and what 46 tells of free blocks.
 use mathlib.Core.Path.{_≡_, refl, ap, sym, _∙_, subst}
 use mathlib.Core.Bool.{true, false}
-use mathlib.Core.List.{[], _∷_}
-use Prim.Native.Nat.{ℕ, _+_, _*_, _/_, _%_, _≤_, _<_}
+use Prim.Native.Nat.{ℕ, _*_, _/_, _%_, _≤_, _<_}
 use native.Mathlib.Omega.{arith}
 use native.Mathlib.Nat.{mul-le-mul-left}
 use lib.Dec.{eqb}
@@ -15,10 +14,10 @@ use Rattle.lists.specs.Below.{any-empty}
 use Rattle.lists.specs.Count.{count-high, count-empty, count-zero}
 use Rattle.lists.specs.Splice.{splice}
 use Rattle.format.specs.Diskette.{Bytes, Geometry, Sound, recordBytes, slotCount, extentRecords, extents}
-use Rattle.format.specs.Entries.{entryAt, withEntry, exOf, slotsOf, slotOf, extentOf, runOf, countOf, countIn, endOf, readOnly, empty, used, isFile}
+use Rattle.format.specs.Entries.{entryAt, withEntry, slotsOf, slotOf, extentOf, runOf, countOf, countIn, endOf, readOnly, empty, used, isFile}
 use Rattle.format.specs.Dates.{isDates}
 use Rattle.format.specs.Notes.{noteAt, freeNote, findFree, freeCount, isFree}
-use Rattle.format.specs.Fcb.{fcbBytes, fcbEnd, fcbRight, randomOf, current}
+use Rattle.format.specs.Fcb.{fcbEnd, fcbRight, current}
 use Rattle.format.specs.Found.{numberOf}
 use Rattle.format.specs.declared.Found.{Found}
 use Rattle.format.specs.declared.Found.the-variants.{At, Nothing}
@@ -33,7 +32,7 @@ use Rattle.notes.specs.Free.{free-is, none-free}
 use Rattle.model.specs.declared.Asked.{Asked}
 use Rattle.model.specs.declared.Session.{Session}
 use Rattle.model.specs.declared.Kind.{Kind}
-use Rattle.model.specs.declared.Kind.the-variants.{Quiet, User, Close, Create, Write}
+use Rattle.model.specs.declared.Kind.the-variants.{Quiet, User, Create, Write}
 use Rattle.model.specs.Kinds.{kindOf, isCall, isRandom}
 use Rattle.model.specs.Lent.{Lent, Outcome, protected}
 use Rattle.model.specs.Closing.{takesSlot, endsLater, closeChanges}
@@ -41,7 +40,7 @@ use Rattle.model.specs.Target.{targetExtent, presentEntry, stays, targetEntry, 
 use Rattle.model.specs.Entering.{copied, madeRow, threeBytes}
 use Rattle.model.specs.Calls.{createdAt, created, space}
 use Rattle.model.specs.Step.{told}
-use Rattle.model.specs.Table.{timeRight, ownRows, verdict}
+use Rattle.model.specs.Table.{timeRight, ownRows}
 use Rattle.fields.specs.Agree.{SameName}
 use Rattle.fields.specs.Closing.{takes-row, takes-fcb, keeps-intro}
 use Rattle.fields.specs.Entering.{length-copied, row-copied, first-copied, name-copied, slot-copied, extent-copied}
@@ -49,15 +48,15 @@ use Rattle.fields.specs.Making.{length-madeRow, user-made, zero-made, slot-made
 use Rattle.fields.specs.Numbers.{threeValue, three-back, three-low, three-middle, three-high}
 use Rattle.fields.specs.Target.{extent-random}
 use Rattle.table.specs.First.{_&_, NoneHolds}
-use Rattle.table.specs.Own.{calling, at-one, kinds-apart}
+use Rattle.table.specs.Own.{calling, kinds-apart}
 use Rattle.table.specs.Reflect.{missed, either-missed}
 use Rattle.table.specs.Facts.{Makes, Writes, AcceptedCall}
 use Rattle.table.specs.Accept.{random-low, makes-of, passes}
 use Rattle.table.specs.Accepted.{carried-says, accepted-carried}
 use Rattle.table.specs.Protection.{changesKind, by-kind, changer-stopped, lifted-spared}
 use Rattle.table.specs.Present.{stays-within, target-present, numbers-extent}
-use Rattle.table.specs.Total.{InRange, CarriedOut, total-accepted, step-range}
-use Rattle.invariant.specs.Good.{Good, good-consistent, good-right}
+use Rattle.table.specs.Total.{InRange, total-accepted, step-range}
+use Rattle.invariant.specs.Good.{good-consistent, good-right}
 use Rattle.effects.specs.View.{viewOf}
 use Rattle.effects.specs.Effect.{RecsStay}
 use Rattle.effects.specs.Cur.{Cur, cur-current}
@@ -66,10 +65,10 @@ use Rattle.demands.specs.Stamped.{stampedAs, cur-on, step-good}
 use Rattle.demands.specs.StillCurrent.{created-cur}
 use Rattle.demands.specs.Protected.{lifted-stays}
 use Rattle.demands.specs.ReadBack.{user-stays, Wrote, wrote}
-use Rattle.demands.specs.Reading.{atRecord, length-atRecord, rest-atRecord, random-atRecord, extent-atRecord, slot-atRecord, cur-atRecord}
+use Rattle.demands.specs.Reading.{atRecord, random-atRecord, extent-atRecord}
 use Rattle.stored.specs.Closed.{asks, Sane, seenOn, Begins, Fresh}
 use Rattle.stored.specs.Restamped.{Alike, dates-alike, used-row}
-use Rattle.stored.specs.OneEntry.{stamps-alike}
+use Rattle.stored.specs.OnlyNamed.{stamps-alike}
 use Rattle.stored.specs.Quiet.{carried-is, sane-accepted, fresh-record, fresh-ready, fresh-present}
 
 -- ---- the session
@@ -111,7 +110,8 @@ module _ {G : Geometry} (S : Sound G) (d : Disk) (w : Request) (writes : kindOf 
   unfolding presentEntry
   found-mid =
       ap (λ (u : ℕ). current G (entryAt G (mid .drive .image)) (mid .drive .map) u (outcomeOf G d w .lent .fcb)) user-left
-      ∙ cur-current G (mid .drive .image) (mid .drive .map) (d .session .user) (outcomeOf G d w .lent .fcb) (k .entry) (k .good .inv .dir) (k .range .user) (k .holds .cur)
+      ∙ cur-current G (mid .drive .image) (mid .drive .map) (d .session .user) (outcomeOf G d w .lent .fcb) (k .entry)
+      (k .good .inv .dir) (k .range .user) (k .holds .cur)
 
   pub close-accepted : accepts G (left (outcomeOf G d w)) (asks a 16 (outcomeOf G d w .lent .fcb) buffer) ≡ true
   unfolding outcomeOf isCall kindOf timeRight
@@ -399,20 +399,22 @@ abbrev pub threeOf : Bytes → ℕ
 threeOf b = threeValue (getD b 0 0) (getD b 1 0) (getD b 2 0)
 
 module _ (G : Geometry) (d : Disk) (q : Request) (number : q .asked .number ≡ 46) (accepted : accepts G d q ≡ true) where
-  space-told : outcomeOf G d q .lent .buffer ≡ splice (q .buffer) 0 (threeBytes (G .perBlock * freeCount G (d .drive .map)))
+  abbrev freeRecords : ℕ
+  freeRecords = G .perBlock * freeCount G (d .drive .map)
+
+  space-told : outcomeOf G d q .lent .buffer ≡ splice (q .buffer) 0 (threeBytes freeRecords)
   unfolding kindOf told space
   space-told =
       ap (λ (o : Outcome). o .lent .buffer) (carried-is G d q accepted Quiet (ap kindOf number))
       ∙ ap (λ (n : ℕ). told G (calling n (q .asked)) (lentTo d q) (d .session) .buffer) number
 
   space-three : threeOf (outcomeOf G d q .lent .buffer)
-      ≡ threeValue (G .perBlock * freeCount G (d .drive .map) % 256) (G .perBlock * freeCount G (d .drive .map) / 256 % 256) (G .perBlock * freeCount G (d .drive .map) / 65536 % 256)
+      ≡ threeValue (freeRecords % 256) (freeRecords / 256 % 256) (freeRecords / 65536 % 256)
   unfolding outcomeOf
   space-three =
       let w : length (q .buffer) ≡ 128 = accepted-carried G (q .asked) (lentTo d q) (d .session) accepted .facts .ready .fits .buffer-long in
       let h : 3 ≤ length (q .buffer) = omega arith in
-      let n : ℕ = G .perBlock * freeCount G (d .drive .map) in
-      rw (space-told, three-low (q .buffer) 0 n h, three-middle (q .buffer) 0 n h, three-high (q .buffer) 0 n h)
+      rw (space-told, three-low (q .buffer) 0 freeRecords h, three-middle (q .buffer) 0 freeRecords h, three-high (q .buffer) 0 freeRecords h)
 
   -- where it tells of some, there is one
   pub space-free : (threeOf (outcomeOf G d q .lent .buffer) ≡ 0 → ⊥) → FoundAt (findFree G (d .drive .map))
@@ -421,7 +423,7 @@ module _ (G : Geometry) (d : Disk) (q : Request) (number : q .asked .number ≡ 
       found-cases (findFree G (d .drive .map)) (λ k e. record { place = k; is = e })
       (λ e. let none : freeCount G (d .drive .map) ≡ 0 =
       count-empty (isFree (d .drive .map)) (G .blocks) (λ k h. ne-eqb (noteAt (d .drive .map) k) freeNote (λ z. none-free G (d .drive .map) e k h z)) in
-      let zero : G .perBlock * freeCount G (d .drive .map) ≡ 0 = ap (λ (x : ℕ). G .perBlock * x) none ∙ omega arith in
+      let zero : freeRecords ≡ 0 = ap (λ (x : ℕ). G .perBlock * x) none ∙ omega arith in
       absurd (n (space-three ∙ omega arith)))
 
   -- and where it tells of none, there is none: on a disk whose records three bytes can count
@@ -430,9 +432,10 @@ module _ (G : Geometry) (d : Disk) (q : Request) (number : q .asked .number ≡ 
   space-none S small z =
       found-cases (findFree G (d .drive .map))
       (λ k e. let f = free-is G (d .drive .map) k e in
-      let most : G .perBlock * freeCount G (d .drive .map) ≤ G .perBlock * G .blocks = mul-le-mul-left (G .perBlock) (count-high (isFree (d .drive .map)) (G .blocks)) in
-      let zero : G .perBlock * freeCount G (d .drive .map) ≡ 0 =
-      sym (three-back (G .perBlock * freeCount G (d .drive .map)) (omega arith)) ∙ sym space-three ∙ z in
+      let most : freeRecords ≤ G .perBlock * G .blocks =
+      mul-le-mul-left (G .perBlock) (count-high (isFree (d .drive .map)) (G .blocks)) in
+      let zero : freeRecords ≡ 0 =
+      sym (three-back freeRecords (omega arith)) ∙ sym space-three ∙ z in
       let none : freeCount G (d .drive .map) ≡ 0 = factor-zero (G .perBlock) (freeCount G (d .drive .map)) (S .some-record) zero in
       not-both (isFree (d .drive .map) k) (eq-eqb (noteAt (d .drive .map) k) freeNote (f .free)) (count-zero (isFree (d .drive .map)) (G .blocks) none k (f .below)))
       (λ e. e)

@@ -1,68 +1,47 @@
 -- An accepted write through a fresh FCB and the close after it: the file gained the record, and nothing else of it changed.
 use mathlib.Core.Path.{_≡_, refl, ap, sym, _∙_, subst}
-use mathlib.Core.Logic.{_⊎_, inl, inr}
-use mathlib.Core.Bool.{Bool, true, false}
-use Prim.Native.Nat.{ℕ, _+_, _-_, _*_, _/_, _%_, _≤_, _<_, min, max}
+use mathlib.Core.Logic.{inl}
+use mathlib.Core.Bool.{true, false}
+use Prim.Native.Nat.{ℕ, _+_, _/_, _%_, _≤_, _<_}
 use native.Mathlib.Omega.{arith}
-use lib.Dec.{eqb}
-use lib.ListN.{length, getD, length-set}
-use Rattle.lists.specs.Cases.{split, bool-cases, eq-or-ne}
-use Rattle.format.specs.Diskette.{Bytes, Geometry, Sound, imageBytes, Long, recordBytes, entryBytes, slotCount, slotsOn, extentRecords, extents, recordAt, withRecord}
-use Rattle.format.specs.Entries.{entryAt, withEntry, slotOf, slotFor, extentOf, runOf, countOf, countIn, endOf, isFile, used, empty, findEmpty}
+use lib.ListN.{length}
+use Rattle.lists.specs.Cases.{split, eq-or-ne}
+use Rattle.format.specs.Diskette.{Bytes, Geometry, Sound, Long, recordBytes, extentRecords}
+use Rattle.format.specs.Entries.{entryAt, extentOf, isFile, used, findFile}
 use Rattle.format.specs.Dates.{isDates}
 use Rattle.format.specs.Names.{sevenBits}
-use Rattle.format.specs.Notes.{noteAt, freeNote, recordedNote, withNote, pendingFor}
-use Rattle.format.specs.Fcb.{fcbEnd, fcbRight, crOf, current}
+use Rattle.format.specs.Fcb.{current}
 use Rattle.format.specs.Found.{numberOf}
 use Rattle.format.specs.declared.Found.{Found}
-use Rattle.format.specs.declared.Found.the-variants.{At, Nothing}
-use Rattle.facts.specs.Counts.{count-is, count-high, count-by-end, end-none, end-some}
+use Rattle.format.specs.declared.Found.the-variants.{At}
 use Rattle.facts.specs.Found.{at-once}
-use Rattle.facts.specs.Find.{empty-says}
-use Rattle.facts.specs.Naming.{file-run, file-named}
-use Rattle.facts.specs.Slots.{slot-place}
-use Rattle.facts.specs.Long.{long-on}
-use Rattle.consistency.specs.Naming.{file-used}
-use Rattle.consistency.specs.Reflect.{used-no-dates, empty-no-dates}
-use Rattle.notes.specs.Free.{free-is}
-use Rattle.disk.specs.Places.{blockRecords}
-use Rattle.disk.specs.Records.{length-withRecord, record-written, record-left}
-use Rattle.rows.specs.Entries.{areaRecords, block-past, entry-left, entry-stored, length-entryAt, record-kept}
+use Rattle.facts.specs.Naming.{file-run}
+use Rattle.consistency.specs.Naming.{file-used, file-found}
+use Rattle.consistency.specs.Reflect.{used-no-dates, empty-no-dates, empty-elsewhere}
+use Rattle.rows.specs.Entries.{length-entryAt}
 use Rattle.model.specs.declared.Asked.{Asked}
-use Rattle.model.specs.declared.Session.{Session}
-use Rattle.model.specs.declared.Plan.{Plan}
 use Rattle.model.specs.declared.Kind.the-variants.{User, Close, Write}
 use Rattle.model.specs.Kinds.{kindOf, isRandom}
-use Rattle.model.specs.Lent.{Lent, rowsOf, Outcome, protected}
-use Rattle.model.specs.Closing.{closeChanges, closedRow, closedImage, closedMap}
-use Rattle.model.specs.Entering.{entered, nextRow}
-use Rattle.model.specs.Target.{targetExtent, targetRecord, targetSlot, crAfter, presentEntry, targetEntry, stays, blockThere, plan, moved, made, placeIn, haveWritten, writtenCount, writtenFcb, writtenMap}
-use Rattle.model.specs.Calls.{writtenAt, writing, written, closedAt, closed}
+use Rattle.model.specs.Lent.{Lent, rowsOf, Outcome}
+use Rattle.model.specs.Closing.{closedRow, closedImage, closedMap}
+use Rattle.model.specs.Target.{targetExtent, targetRecord, presentEntry}
+use Rattle.model.specs.Calls.{written, closedAt, closed}
 use Rattle.model.specs.Table.{timeRight}
-use Rattle.fields.specs.Agree.{SameName, same-name, named-cong, isFile-asked, isFile-cong}
-use Rattle.fields.specs.Closing.{length-closedRow, end-closed, slot-closed-old, slot-closed-new, file-closed, map-kept, note-closed-cases}
-use Rattle.fields.specs.Images.{row-closedImage, row-closedImage-other, record-closedImage}
-use Rattle.fields.specs.Entering.{length-entered, slot-entered, extent-entered, count-entered}
-use Rattle.fields.specs.OpenClose.{opened-keeps}
-use Rattle.fields.specs.Making.{length-nextRow, zero-next, slot-next, extent-next}
-use Rattle.fields.specs.Target.{extent-random, record-random, record-below, crAfter-high, targetSlot-below, place-below, extent-written, slot-written, rc-written, count-written-high, map-written-kept, note-written-other}
-use Rattle.table.specs.Facts.{Fits, Writes, AcceptedCall}
+use Rattle.fields.specs.Agree.{SameName, same-name, named-cong}
+use Rattle.fields.specs.Closing.{file-closed}
+use Rattle.fields.specs.Images.{row-closedImage, row-closedImage-other}
+use Rattle.fields.specs.Target.{extent-random, record-random}
+use Rattle.table.specs.Facts.{AcceptedCall}
 use Rattle.table.specs.Accept.{writes-by}
 use Rattle.table.specs.Accepted.{accepted-carried}
 use Rattle.table.specs.Own.{kinds-apart}
-use Rattle.table.specs.Total.{InRange, step-range}
-use Rattle.table.specs.Plans.{Block, Planned, stay, move, make, planned-write}
+use Rattle.table.specs.Total.{step-range}
 use Rattle.table.specs.Plans as Plans
 use Rattle.invariant.specs.Good.{Good}
-use Rattle.effects.specs.View.{View, viewOf, mine-high}
-use Rattle.effects.specs.Cur.{Cur, cur-current, cur-mine, cur-uses, cur-named}
-use Rattle.effects.specs.Effect.{NamesStay}
-use Rattle.effects.specs.Book.{Book}
-use Rattle.effects.specs.Where.{WritesNone}
+use Rattle.effects.specs.View.{viewOf}
+use Rattle.effects.specs.Cur.{Cur, cur-current, cur-uses, cur-named}
+use Rattle.effects.specs.Effect.{NamesStay, NoneNew}
 use Rattle.effects.specs.Closed.{byName}
-use Rattle.effects.specs.Put.{ForSlot, put-rows, put-low, put-cur}
-use Rattle.effects.specs.Entered.{right-written}
-use Rattle.effects.specs.Came.{CameTo, stay-came, move-came, make-came}
 use Rattle.current.specs.Current.{fcb-says}
 use Rattle.demands.specs.Runs.{Request, Disk, lentTo, outcomeOf, left, accepts, after}
 use Rattle.demands.specs.Stamped.{stampedAs, cur-on, step-good}
@@ -71,448 +50,54 @@ use Rattle.demands.specs.Protected.{lifted-stays}
 use Rattle.demands.specs.Reading.{atRecord, rest-atRecord, random-atRecord}
 use Rattle.stored.specs.Closed.{asks, Sane, seenOn, Fresh}
 use Rattle.stored.specs.Quiet.{carried-is, fresh-record, fresh-present}
-use Rattle.stored.specs.Restamped.{Alike, dates-alike, used-row}
-use Rattle.stored.specs.OneEntry.{stamps-alike, OneEntry, one-stamped, one-named, one-names, by-used}
+use Rattle.stored.specs.Restamped.{Alike}
+use Rattle.stored.specs.OnlyNamed.{stamps-alike, OnlyNamed, only-one, only-then, only-alike, only-named, only-names, by-used}
 use Rattle.stored.specs.Accepting.{unchanged-end, close-accepted}
-use Rattle.stored.specs.Grown.{slotAtRecord, Grown, grown-named, grown-stamped, grown-one}
-
--- an FCB says what its entry says: its blocks are the entry's, and its end is no later
-record Says (G : Geometry) (row fcb : Bytes) : Type 0 where
-  slots : (j : ℕ) → j < slotCount → slotOf G fcb j ≡ slotOf G row j
-  end : fcbEnd fcb ≤ endOf row
-
--- one past record r of an extent, or the end that was there
-later-end : (e ext own count r : ℕ) → count ≡ min 128 (e - 128 * ext) → (own ≡ 0) ⊎ (128 * ext + own ≤ e)
-    → max e (128 * ext + max (max own count) (r + 1)) ≡ max e (128 * ext + r + 1)
-later-end e ext own count r c (inl z) = omega arith
-later-end e ext own count r c (inr h) = omega arith
-
--- ---- the write, wherever the call came to with an FCB that says what its entry says
-module _ {G : Geometry} (S : Sound G) (n : ℕ) (l : Lent) (s : Session) (g : Good G (l .drive .image) (l .drive .map)) (f : Fits G l s) (cr : crOf (l .fcb) ≤ 128)
-    (there : Lent) (t b : ℕ) (W : ℕ → Type 0) (B : Book → Book) (came : CameTo G n (s .user) l there t W B) (block : Block G n (s .user) l b)
-    (says : Says G (entryAt G (there .drive .image) t) (there .fcb)) where
-  abbrev j : ℕ
-  j = targetSlot G n (l .fcb)
-
-  abbrev r : ℕ
-  r = targetRecord n (l .fcb)
-
-  abbrev row : Bytes
-  row = entryAt G (there .drive .image) t
-
-  abbrev count : ℕ
-  count = countIn (entryAt G (there .drive .image) t) (extentOf (there .fcb))
-
-  abbrev put : Bytes
-  put = withRecord G (there .drive .image) (placeIn G b r) (there .buffer)
-
-  abbrev fcb : Bytes
-  fcb = writtenFcb G (there .fcb) count j b r (crAfter n (l .fcb))
-
-  abbrev map : Bytes
-  map = writtenMap G (there .drive .map) (there .fcb) t j b
-
-  r-below : r < extentRecords
-  r-below = record-below n (l .fcb) cr
-
-  j-real : j < slotsOn G
-  j-real = targetSlot-below S n (l .fcb) cr
-
-  j-below : j < slotCount
-  j-below = slot-place G j-real
-
-  slot-is : j ≡ slotFor G (extentOf (there .fcb)) r
-  unfolding targetSlot
-  slot-is = ap (λ (x : ℕ). slotFor G x (targetRecord n (l .fcb))) (sym (came .extent))
-
-  here-good : Good G (there .drive .image) (there .drive .map)
-  here-good = came .change .good
-
-  low : t < G .entries
-  low = came .cur .low
-
-  uses : used row ≡ true
-  uses = cur-uses G (viewOf G (there .drive .image) (there .drive .map)) (s .user) (f .user-low) (there .fcb) t (came .cur)
-
-  hr : length row ≡ 32
-  hr = length-entryAt S (there .drive .image) (here-good .image-long) t low
-
-  for-slot : ForSlot G (there .drive .map) (slotOf G (there .fcb) j) b
-  for-slot = go block
-    where
-      go : Block G n (s .user) l b → ForSlot G (there .drive .map) (slotOf G (there .fcb) (targetSlot G n (l .fcb))) b
-      go (Plans.there q real) =
-          let own : slotOf G (there .fcb) (targetSlot G n (l .fcb)) ≡ b = came .slot ∙ q in
-          record {
-            below = rw (← own) (mine-high G (viewOf G (there .drive .image) (there .drive .map)) (here-good .inv) (slotOf G (there .fcb) (targetSlot G n (l .fcb))) t
-                (cur-mine G (viewOf G (there .drive .image) (there .drive .map)) (s .user) (f .user-low) (there .fcb) t (came .cur) (targetSlot G n (l .fcb)) j-below (λ z. real (sym own ∙ z))));
-            free = λ z. absurd (real (sym own ∙ z));
-            own = λ z. own;
-          }
-      go (Plans.free z q) =
-          let h = free-is G (l .drive .map) b q in
-          record { below = h .below; free = λ y. came .free b (h .below) (h .free); own = λ y. absurd (y (came .slot ∙ z)) }
-
-  -- the block was free, or the slot's
-  origin : (noteAt (l .drive .map) b ≡ freeNote) ⊎ (slotOf G row j ≡ b)
-  origin = go block
-    where
-      go : Block G n (s .user) l b → (noteAt (l .drive .map) b ≡ freeNote) ⊎ (slotOf G row j ≡ b)
-      go (Plans.there q real) = inr (sym (says .slots j j-below) ∙ came .slot ∙ q)
-      go (Plans.free z q) = inl (free-is G (l .drive .map) b q .free)
-
-  full : length (there .buffer) ≡ recordBytes
-  full = ap length (came .buffer) ∙ f .buffer-long
-
-  past : G .area ≤ b
-  past =
-      put-low S (there .drive .image) (there .drive .map) here-good (s .user) (f .user-low) (there .fcb) (came .long) t (came .cur) r r-below j slot-is b for-slot
-      (there .buffer) full
-
-  rows-put : (e : ℕ) → e < G .entries → entryAt G put e ≡ entryAt G (there .drive .image) e
-  rows-put =
-      put-rows S (there .drive .image) (there .drive .map) here-good (s .user) (f .user-low) (there .fcb) (came .long) t (came .cur) r r-below j slot-is b for-slot
-      (there .buffer) full
-
-  in-blocks : placeIn G b r < blockRecords G
-  in-blocks = place-below S b r (for-slot .below)
-
-  -- the FCB after the write is current, with entry t
-  right : fcbRight fcb ≡ true
-  right = right-written G (there .fcb) count j b r (crAfter n (l .fcb)) (came .long) j-real (crAfter-high n (l .fcb) cr) (came .cur .right)
-
-  wrote-cur : Cur G (viewOf G put map) (s .user) fcb t
-  wrote-cur =
-      put-cur S (there .drive .image) (there .drive .map) here-good (s .user) (f .user-low) (there .fcb) (came .long) t (came .cur) r r-below j slot-is b for-slot
-      (there .buffer) full count (crAfter n (l .fcb)) right
-
-  -- ---- the entry as the close will have it
-  new-slot : slotOf G (closedRow G row fcb) j ≡ b
-  new-slot =
-      split (eq-or-ne (slotOf G row j) 0)
-      (λ z. slot-closed-new G row fcb hr j z ∙ slot-written G (there .fcb) count j b r (crAfter n (l .fcb)) j-real (came .long))
-      (λ z. slot-closed-old G row fcb hr j z ∙ sym (says .slots j j-below) ∙ for-slot .own (λ y. z (sym (says .slots j j-below) ∙ y)))
-
-  -- the FCB counts the record
-  fcb-end : fcbEnd fcb ≡ 128 * extentOf (there .fcb) + max (max (countOf (there .fcb)) count) (r + 1)
-  unfolding writtenCount endOf
-  fcb-end =
-      let rc = rc-written G (there .fcb) count j b r (crAfter n (l .fcb)) j-real (came .long) in
-      let high = count-written-high (there .fcb) count r (count-high row (extentOf (there .fcb))) r-below in
-      let c = count-is fcb (omega arith) in
-      let x = extent-written G (there .fcb) count j b r (crAfter n (l .fcb)) j-real in
-      end-some fcb (λ z. omega arith) ∙ omega arith
-
-  new-end : endOf (closedRow G row fcb) ≡ max (endOf row) (128 * targetExtent n (l .fcb) + r + 1)
-  unfolding endOf
-  new-end =
-      end-closed G row fcb hr ∙ ap (max (endOf row)) fcb-end
-      ∙ later-end (endOf row) (extentOf (there .fcb)) (countOf (there .fcb)) count r (count-by-end row (extentOf (there .fcb)))
-      (split (eq-or-ne (countOf (there .fcb)) 0) (λ z. inl z) (λ z. let q = end-some (there .fcb) z in let h = says .end in inr (omega arith)))
-      ∙ ap (λ (x : ℕ). max (endOf row) (128 * x + r + 1)) (came .extent)
-
-  here-file : isFile G (s .user) (l .fcb) 1 (targetExtent n (l .fcb)) row ≡ true
-  here-file =
-      sym (isFile-asked (there .fcb) 1 (l .fcb) 1 (came .name) G (s .user) (targetExtent n (l .fcb)) row)
-      ∙ subst (λ (x : ℕ). isFile G (s .user) (there .fcb) 1 x row ≡ true) (came .extent) (came .cur .file)
-
-  same-run : runOf G (extentOf row) ≡ runOf G (extentOf fcb)
-  same-run =
-      file-run G (s .user) (there .fcb) 1 (extentOf (there .fcb)) row (came .cur .file)
-      ∙ ap (runOf G) (sym (extent-written G (there .fcb) count j b r (crAfter n (l .fcb)) j-real))
-
-  new-file : isFile G (s .user) (l .fcb) 1 (targetExtent n (l .fcb)) (closedRow G row fcb) ≡ true
-  new-file =
-      isFile-cong G (s .user) (l .fcb) 1 (targetExtent n (l .fcb)) (closedRow G row fcb) row (file-closed G row fcb hr same-run) ∙ here-file
-
-  map-long : length map ≡ G .blocks
-  unfolding writtenMap withNote
-  map-long =
-      split (bool-cases (eqb (slotOf G (there .fcb) j) 0)) (λ z. rw z (length-set (there .drive .map) b (pendingFor t j) ∙ here-good .map-long))
-      (λ z. rw z (here-good .map-long))
-
-  new-notes : (y : ℕ) → y < G .blocks → (noteAt (closedMap G row fcb map) y ≡ noteAt (there .drive .map) y) ⊎ (noteAt (closedMap G row fcb map) y ≡ recordedNote)
-  new-notes y h =
-      split (note-closed-cases G row fcb map y (rw map-long h)) (λ k. inr (k .1))
-      (λ k. split (eq-or-ne y b)
-      (λ q. split (eq-or-ne (slotOf G (there .fcb) j) 0)
-      (λ z. absurd (k .0 record {
-        slot = j;
-        below = j-below;
-        was = sym (says .slots j j-below) ∙ z;
-        is = slot-written G (there .fcb) count j b r (crAfter n (l .fcb)) j-real (came .long) ∙ sym q;
-        some = λ e. omega (arith, past, S .area-some, q);
-      }))
-      (λ z. inl (k .1 ∙ ap (λ (x : Bytes). noteAt x y) (map-written-kept G (there .drive .map) (there .fcb) t j b z))))
-      (λ q. inl (k .1 ∙ note-written-other G (there .drive .map) (there .fcb) t j b y q)))
-
-  -- ---- seen from before the call
-  module _ (x : ℕ) (ext-is : targetExtent n (l .fcb) ≡ x / extentRecords) (rec-is : targetRecord n (l .fcb) ≡ x % extentRecords)
-      (rows : (e : ℕ) → e < G .entries → (e ≡ t → ⊥) → entryAt G (there .drive .image) e ≡ entryAt G (l .drive .image) e)
-      (recs : (y : ℕ) → areaRecords G ≤ y → y < blockRecords G → recordAt G (there .drive .image) y ≡ recordAt G (l .drive .image) y)
-      (maps : there .drive .map ≡ l .drive .map)
-      (was : (entryAt G (l .drive .image) t ≡ row)
-      ⊎ ((empty (entryAt G (l .drive .image) t) ≡ true) × ((i : ℕ) → slotOf G row i ≡ 0) × (endOf row ≤ x))) where
-    -- a date entry stays one, and none comes
-    here-dates : isDates row ≡ isDates (entryAt G (l .drive .image) t)
-    here-dates =
-        split was (λ q. ap isDates (sym q)) (λ q. used-no-dates row uses ∙ sym (empty-no-dates (entryAt G (l .drive .image) t) (q .0)))
-
-    put-dates : (e : ℕ) → e < G .entries → isDates (entryAt G put e) ≡ isDates (entryAt G (l .drive .image) e)
-    put-dates e h =
-        ap isDates (rows-put e h)
-        ∙ split (eq-or-ne e t)
-        (λ q. ap (λ (y : ℕ). isDates (entryAt G (there .drive .image) y)) q ∙ here-dates ∙ ap (λ (y : ℕ). isDates (entryAt G (l .drive .image) y)) (sym q))
-        (λ q. ap isDates (rows e h q))
-
-    came-one : OneEntry G (byName (s .user) (l .fcb)) (viewOf G (l .drive .image) (l .drive .map)) (viewOf G put map)
-    came-one = record {
-      entry = t;
-      low = low;
-      was = split was (λ q. inl (ap (byName (s .user) (l .fcb)) q ∙ came .mine)) (λ q. inr (q .0));
-      is = ap (byName (s .user) (l .fcb)) (rows-put t low) ∙ came .mine;
-      others = λ e h n q. rows-put e h ∙ rows e h q;
-      dates = put-dates;
-    }
-
-    slot-at : slotAtRecord G x ≡ j
-    unfolding targetSlot
-    slot-at = sym (ap (λ (y : ℕ). slotFor G y (targetRecord n (l .fcb))) ext-is ∙ ap (slotFor G (x / 128)) rec-is)
-
-    place-at : placeIn G b (x % extentRecords) ≡ placeIn G b r
-    place-at = ap (placeIn G b) (sym rec-is)
-
-    file-at : (y : Bytes) → isFile G (s .user) (l .fcb) 1 (targetExtent n (l .fcb)) y ≡ true → isFile G (s .user) (l .fcb) 1 (x / extentRecords) y ≡ true
-    file-at y h = subst (λ (z : ℕ). isFile G (s .user) (l .fcb) 1 z y ≡ true) ext-is h
-
-    end-at : 128 * targetExtent n (l .fcb) + r + 1 ≡ x + 1
-    end-at = omega arith
-
-    -- ---- the close, after whatever stamps the call put
-    module _ (img : Bytes) (alike : Alike G put img) (long : Long G img) where
-      stamped-row : entryAt G img t ≡ row
-      stamped-row = used-row G put img alike t low (ap used (rows-put t low) ∙ uses) ∙ rows-put t low
-
-      shut : Bytes
-      shut = closedImage G img t fcb
-
-      new-row : entryAt G shut t ≡ closedRow G row fcb
-      unfolding shut
-      new-row = row-closedImage S img long t low fcb ∙ ap (λ (y : Bytes). closedRow G y fcb) stamped-row
-
-      other-rows : (e : ℕ) → e < G .entries → (e ≡ t → ⊥) → entryAt G shut e ≡ entryAt G img e
-      unfolding shut
-      other-rows e h q = row-closedImage-other S img long t low fcb e h q
-
-      new-used : used (closedRow G row fcb) ≡ true
-      new-used = file-used G (s .user) (l .fcb) 1 (targetExtent n (l .fcb)) (closedRow G row fcb) new-file (f .user-low)
-
-      shut-dates : (e : ℕ) → e < G .entries → isDates (entryAt G shut e) ≡ isDates (entryAt G (l .drive .image) e)
-      shut-dates e h =
-          split (eq-or-ne e t)
-          (λ q. ap (λ (y : ℕ). isDates (entryAt G shut y)) q ∙ ap isDates new-row ∙ used-no-dates (closedRow G row fcb) new-used ∙ sym (used-no-dates row uses)
-          ∙ here-dates ∙ ap (λ (y : ℕ). isDates (entryAt G (l .drive .image) y)) (sym q))
-          (λ q. ap isDates (other-rows e h q) ∙ dates-alike G put img alike e h ∙ put-dates e h)
-
-      shut-recs : (y : ℕ) → areaRecords G ≤ y → y < blockRecords G → recordAt G shut y ≡ recordAt G put y
-      unfolding shut
-      shut-recs y a h = record-closedImage S img long t low fcb y a h ∙ alike .recs y a h
-
-      new-record : recordAt G shut (placeIn G b r) ≡ l .buffer
-      unfolding placeIn
-      new-record =
-          shut-recs (placeIn G b r) (block-past G b (r % G .perBlock) past) in-blocks
-          ∙ record-written S (there .drive .image) (here-good .image-long) (placeIn G b r) in-blocks (there .buffer) full ∙ came .buffer
-
-      came-grown : Grown G (viewOf G (l .drive .image) (l .drive .map)) (viewOf G (closedImage G img t fcb) (closedMap G (entryAt G img t) fcb map))
-          (s .user) (l .fcb) x (l .buffer)
-      unfolding shut
-      came-grown = record {
-        entry = t;
-        low = low;
-        base = row;
-        was = split was (λ q. inl (q, file-at row here-file)) (λ q. inr q);
-        file = ap (isFile G (s .user) (l .fcb) 1 (x / 128)) new-row ∙ file-at (closedRow G row fcb) new-file;
-        kept = λ i h z. ap (λ (y : Bytes). slotOf G y i) new-row ∙ slot-closed-old G row fcb hr i z;
-        end = ap endOf new-row ∙ new-end ∙ ap (max (endOf row)) end-at;
-        others = λ e h d q. other-rows e h q ∙ alike .row e h (put-dates e h ∙ d) ∙ rows-put e h ∙ rows e h q;
-        dates = shut-dates;
-        block = b;
-        below = for-slot .below;
-        past = past;
-        slot = ap (slotOf G (entryAt G shut t)) slot-at ∙ ap (λ (y : Bytes). slotOf G y j) new-row ∙ new-slot;
-        origin = split origin (λ z. inl z) (λ z. inr (ap (slotOf G row) slot-at ∙ z));
-        notes = λ y h. let here = ap (λ (z : Bytes). noteAt (closedMap G z fcb map) y) stamped-row in
-            split (new-notes y h) (λ q. inl (here ∙ q ∙ ap (λ (z : Bytes). noteAt z y) maps)) (λ q. inr (here ∙ q));
-        recs = λ y a h q. shut-recs y a h
-            ∙ record-left S (there .drive .image) (here-good .image-long) (placeIn G b r) in-blocks (there .buffer) full y h (λ z. q (sym z ∙ sym place-at)) ∙ recs y a h;
-        new = ap (recordAt G shut) place-at ∙ new-record;
-      }
-
--- ---- what a write leaves: one entry changed, and an FCB that is current, whose close, after whatever stamps, gives the file the record
-record Closable (G : Geometry) (user x : ℕ) (l left : Lent) : Type 0 where
-  entry : ℕ
-  cur : Cur G (viewOf G (left .drive .image) (left .drive .map)) user (left .fcb) entry
-  one : OneEntry G (byName user (l .fcb)) (viewOf G (l .drive .image) (l .drive .map)) (viewOf G (left .drive .image) (left .drive .map))
-  grown : (img : Bytes) → Alike G (left .drive .image) img → Long G img
-      → Grown G (viewOf G (l .drive .image) (l .drive .map))
-      (viewOf G (closedImage G img entry (left .fcb)) (closedMap G (entryAt G img entry) (left .fcb) (left .drive .map))) user (l .fcb) x (l .buffer)
-
-module _ {G : Geometry} (S : Sound G) (n : ℕ) (l : Lent) (s : Session) (g : Good G (l .drive .image) (l .drive .map)) (f : Fits G l s) (e : ℕ)
-    (at : presentEntry G (s .user) l ≡ At e) (low : e < G .entries) (cr : crOf (l .fcb) ≤ 128) (says : Says G (entryAt G (l .drive .image) e) (l .fcb))
-    (same : closeChanges G (entryAt G (l .drive .image) e) (l .fcb) ≡ false) (low-extent : targetExtent n (l .fcb) < extents)
-    (x : ℕ) (ext-is : targetExtent n (l .fcb) ≡ x / extentRecords) (rec-is : targetRecord n (l .fcb) ≡ x % extentRecords) where
-  hf : 32 ≤ length (l .fcb)
-  hf = let w : length (l .fcb) ≡ 36 = f .fcb-long in omega arith
-
-  -- a move closes nothing
-  image-same : closedImage G (l .drive .image) e (l .fcb) ≡ l .drive .image
-  unfolding closedImage
-  image-same = rw same
-
-  map-same : closedMap G (rowsOf G l e) (l .fcb) (l .drive .map) ≡ l .drive .map
-  map-same = map-kept G (rowsOf G l e) (l .fcb) same (l .drive .map)
-
-  says-entered : (row : Bytes) (ext : ℕ) → length row ≡ 32 → Says G row (entered (l .fcb) row ext)
-  says-entered row ext hr = record { slots = λ i h. slot-entered (l .fcb) row ext hf G i; end = unchanged-end G row (entered (l .fcb) row ext) (opened-keeps G (l .fcb) row ext hf hr) }
-
-  staying : (b : ℕ) → stays n (l .fcb) ≡ true → Block G n (s .user) l b → Closable G (s .user) x l (writtenAt G s l n e b l .lent)
-  unfolding writtenAt haveWritten
-  staying b y k =
-      let came = stay-came S n l s g f e at WritesNone y in
-      record {
-        entry = e;
-        cur = wrote-cur S n l s g f cr l e b _ _ came k says;
-        one = came-one S n l s g f cr l e b _ _ came k says x ext-is rec-is (λ i h q. refl) (λ i a h. refl) refl (inl refl);
-        grown = came-grown S n l s g f cr l e b _ _ came k says x ext-is rec-is (λ i h q. refl) (λ i a h. refl) refl (inl refl);
-      }
-
-  moving : (t b : ℕ) → stays n (l .fcb) ≡ false → targetEntry G n (s .user) l ≡ At t → Block G n (s .user) l b
-      → Closable G (s .user) x l (writtenAt G s l n t b (moved G (targetExtent n (l .fcb)) l e t) .lent)
-  unfolding writtenAt haveWritten moved
-  moving t b go target k =
-      let to : Lent = moved G (targetExtent n (l .fcb)) l e t in
-      let came = move-came S n l s g f e at WritesNone go t target low-extent in
-      let img : Bytes = closedImage G (l .drive .image) e (l .fcb) in
-      let rows : (i : ℕ) → entryAt G img i ≡ entryAt G (l .drive .image) i = λ i. ap (λ (y : Bytes). entryAt G y i) image-same in
-      let z = says-entered (entryAt G img t) (targetExtent n (l .fcb)) (length-entryAt S img (came .change .good .image-long) t (came .cur .low)) in
-      record {
-        entry = t;
-        cur = wrote-cur S n l s g f cr to t b _ _ came k z;
-        one = came-one S n l s g f cr to t b _ _ came k z x ext-is rec-is (λ i h q. rows i)
-            (λ i a h. ap (λ (y : Bytes). recordAt G y i) image-same) map-same (inl (sym (rows t)));
-        grown = came-grown S n l s g f cr to t b _ _ came k z x ext-is rec-is (λ i h q. rows i)
-            (λ i a h. ap (λ (y : Bytes). recordAt G y i) image-same) map-same (inl (sym (rows t)));
-      }
-
-  -- the entry that a move makes
-  module _ (t b : ℕ) (go : stays n (l .fcb) ≡ false) (none : targetEntry G n (s .user) l ≡ Nothing) (room : findEmpty G (rowsOf G l) ≡ At t)
-      (k : Block G n (s .user) l b) where
-    abbrev img : Bytes
-    img = closedImage G (l .drive .image) e (l .fcb)
-
-    long : Long G img
-    long = long-on G (ap length image-same) (g .image-long)
-
-    next : Bytes
-    next = nextRow (entryAt G img e) (targetExtent n (l .fcb))
-
-    old-long : length (entryAt G img e) ≡ entryBytes
-    old-long = length-entryAt S img long e low
-
-    whole : length next ≡ entryBytes
-    unfolding next
-    whole = length-nextRow (entryAt G img e) (targetExtent n (l .fcb)) old-long
-
-    below : t < G .entries
-    below = empty-says G (rowsOf G l) t room .below
-
-    here : entryAt G (withEntry G img t next) t ≡ next
-    here = entry-stored S img long t below next whole
-
-    rows-left : (i : ℕ) → i < G .entries → (i ≡ t → ⊥) → entryAt G (withEntry G img t next) i ≡ entryAt G (l .drive .image) i
-    rows-left i h q = entry-left S img long t below next whole i h (λ y. q (sym y)) ∙ ap (λ (y : Bytes). entryAt G y i) image-same
-
-    recs-left : (i : ℕ) → areaRecords G ≤ i → i < blockRecords G → recordAt G (withEntry G img t next) i ≡ recordAt G (l .drive .image) i
-    recs-left i a h = record-kept S img long t below next whole i a h ∙ ap (λ (y : Bytes). recordAt G y i) image-same
-
-    next-end : endOf next ≤ x
-    unfolding next endOf countOf
-    next-end =
-        let q = extent-next (entryAt G img e) (targetExtent n (l .fcb)) old-long in
-        let z = zero-next (entryAt G img e) (targetExtent n (l .fcb)) old-long 15 (omega arith) in omega arith
-
-    new-entry : (entryAt G (l .drive .image) t ≡ entryAt G (withEntry G img t next) t)
-        ⊎ ((empty (entryAt G (l .drive .image) t) ≡ true) × ((i : ℕ) → slotOf G (entryAt G (withEntry G img t next) t) i ≡ 0)
-        × (endOf (entryAt G (withEntry G img t next) t) ≤ x))
-    unfolding next
-    new-entry =
-        inr (
-          empty-says G (rowsOf G l) t room .holds,
-          λ i. ap (λ (y : Bytes). slotOf G y i) here ∙ slot-next (entryAt G img e) (targetExtent n (l .fcb)) old-long G i,
-          rw here next-end,
-        )
-
-    making : Closable G (s .user) x l (writtenAt G s l n t b (made G (targetExtent n (l .fcb)) l e t) .lent)
-    unfolding writtenAt haveWritten made next
-    making =
-        let to : Lent = made G (targetExtent n (l .fcb)) l e t in
-        let came = make-came S n l s g f e at WritesNone go t room none low-extent in
-        let z = subst (λ (y : Bytes). Says G y (entered (l .fcb) next (targetExtent n (l .fcb)))) (sym here) (says-entered next (targetExtent n (l .fcb)) whole) in
-        record {
-          entry = t;
-          cur = wrote-cur S n l s g f cr to t b _ _ came k z;
-          one = came-one S n l s g f cr to t b _ _ came k z x ext-is rec-is rows-left recs-left map-same new-entry;
-          grown = came-grown S n l s g f cr to t b _ _ came k z x ext-is rec-is rows-left recs-left map-same new-entry;
-        }
-
-  plan-close : (p : Plan) → Planned G n (s .user) l (Block G n (s .user) l) p → Closable G (s .user) x l (writing G s l n p .lent)
-  plan-close p (stay i b a y target k) =
-      subst (λ (z : ℕ). Closable G (s .user) x l (writtenAt G s l n z b l .lent)) (at-once e i (sym at ∙ a)) (staying b y k)
-  plan-close p (move i t b a go target k) =
-      subst (λ (z : ℕ). Closable G (s .user) x l (writtenAt G s l n t b (moved G (targetExtent n (l .fcb)) l z t) .lent)) (at-once e i (sym at ∙ a)) (moving t b go target k)
-  plan-close p (make i t b a go none room k) =
-      subst (λ (z : ℕ). Closable G (s .user) x l (writtenAt G s l n t b (made G (targetExtent n (l .fcb)) l z t) .lent)) (at-once e i (sym at ∙ a)) (making t b go none room k)
-
-  written-closable : Writes G l s n → Closable G (s .user) x l (written G s l n .lent)
-  unfolding written
-  written-closable w = plan-close (plan G n (s .user) l) (planned-write G n l s w)
-
--- ---- a close changes one entry
-closed-one : {G : Geometry} (S : Sound G) (img map map′ : Bytes) → Long G img → (user : ℕ) → user ≤ 15 → (fcb : Bytes) (e : ℕ) → Cur G (viewOf G img map) user fcb e
-    → OneEntry G (byName user fcb) (viewOf G img map) (viewOf G (closedImage G img e fcb) map′)
-closed-one {G} S img map map′ long user hu fcb e c =
+use Rattle.stored.specs.Grown.{Grown, grown-named, grown-stamped, grown-only, grown-file}
+use Rattle.stored.specs.Writing.{Closable, written-closable}
+
+-- ---- a close changes the FCB's entry alone
+closed-only : {G : Geometry} (S : Sound G) (img map : Bytes) → Long G img → (user : ℕ) → user ≤ 15 → (fcb : Bytes) (e : ℕ) → Cur G (viewOf G img map) user fcb e
+    → OnlyNamed G (byName user fcb) (entryAt G img) (entryAt G (closedImage G img e fcb))
+closed-only {G} S img map long user hu fcb e c =
     let row : Bytes = entryAt G img e in
     let new = row-closedImage S img long e (c .low) fcb in
     let same = file-closed G row fcb (length-entryAt S img long e (c .low)) (file-run G user fcb 1 (extentOf fcb) row (c .file)) in
     let is : byName user fcb (closedRow G row fcb) ≡ true =
-    named-cong false user fcb 1 (closedRow G row fcb) row (same .user) (same-name G (closedRow G row fcb) row same) ∙ cur-named G (viewOf G img map) user hu fcb e c in
-    record {
-      entry = e;
-      low = c .low;
-      was = inl (cur-named G (viewOf G img map) user hu fcb e c);
-      is = ap (byName user fcb) new ∙ is;
-      others = λ i h n q. row-closedImage-other S img long e (c .low) fcb i h q;
-      dates = λ i h. split (eq-or-ne i e)
-          (λ q. ap (λ (y : ℕ). isDates (entryAt G (closedImage G img e fcb) y)) q ∙ ap isDates new ∙ used-no-dates (closedRow G row fcb) (by-used user fcb hu (closedRow G row fcb) is)
-          ∙ sym (used-no-dates row (cur-uses G (viewOf G img map) user hu fcb e c)) ∙ ap (λ (y : ℕ). isDates (entryAt G img y)) (sym q))
-          (λ q. ap isDates (row-closedImage-other S img long e (c .low) fcb i h q));
-    }
+    named-cong false user fcb 1 (closedRow G row fcb) row (same .user) (same-name G (closedRow G row fcb) row same)
+    ∙ cur-named G (viewOf G img map) user hu fcb e c in
+    only-one e record { was = inl (cur-named G (viewOf G img map) user hu fcb e c); is = ap (byName user fcb) new ∙ is }
+    (λ i h n q. row-closedImage-other S img long e (c .low) fcb i h q)
+    (λ i h. split (eq-or-ne i e)
+    (λ q. ap (λ (y : ℕ). isDates (entryAt G (closedImage G img e fcb) y)) q ∙ ap isDates new
+    ∙ used-no-dates (closedRow G row fcb) (by-used user fcb hu (closedRow G row fcb) is)
+    ∙ sym (used-no-dates row (cur-uses G (viewOf G img map) user hu fcb e c)) ∙ ap (λ (y : ℕ). isDates (entryAt G img y)) (sym q))
+    (λ q. ap isDates (row-closedImage-other S img long e (c .low) fcb i h q)))
 
 -- ---- the two calls: a write of record x through a fresh FCB, and the close through the FCB that it hands back
+abbrev pub writeRecord : Asked → Bytes → ℕ → Bytes → Request
+writeRecord a f x buffer = asks a 34 (atRecord f x) buffer
+
+abbrev pub closeBack : Geometry → Disk → Request → Asked → Bytes → Request
+closeBack G d w b buffer = asks b 16 (outcomeOf G d w .lent .fcb) buffer
+
+-- the disk after a call and that close
+abbrev pub thenClosed : Geometry → Disk → Request → Asked → Bytes → Disk
+thenClosed G d w b buffer = left (outcomeOf G (left (outcomeOf G d w)) (closeBack G d w b buffer))
+
 -- what the write left
 record WroteOne (G : Geometry) (d : Disk) (f : Bytes) (x : ℕ) (v : Bytes) (o : Outcome) : Type 0 where
   entry : ℕ
   cur : Cur G (seenOn G (left o)) (d .session .user) (o .lent .fcb) entry
-  one : OneEntry G (byName (d .session .user) f) (seenOn G d) (seenOn G (left o))
+  only : OnlyNamed G (byName (d .session .user) f) (entryAt G (d .drive .image)) (rowsOf G (o .lent))
   grown : Grown G (seenOn G d)
       (viewOf G (closedImage G (o .lent .drive .image) entry (o .lent .fcb)) (closedMap G (entryAt G (o .lent .drive .image) entry) (o .lent .fcb) (o .lent .drive .map)))
       (d .session .user) f x v
 
 module _ {G : Geometry} (S : Sound G) (d : Disk) (f : Bytes) (e : ℕ) (k : Fresh G d f e) (x : ℕ) (small : x < 262144) (a : Asked) (buffer : Bytes)
-    (accepted : accepts G d (asks a 34 (atRecord f x) buffer) ≡ true) where
+    (accepted : accepts G d (writeRecord a f x buffer) ≡ true) where
   abbrev q : Request
-  q = asks a 34 (atRecord f x) buffer
+  q = writeRecord a f x buffer
 
   abbrev lw : Lent
   lw = lentTo d q
@@ -563,7 +148,14 @@ module _ {G : Geometry} (S : Sound G) (d : Disk) (f : Bytes) (e : ℕ) (k : Fres
   unfolding outcomeOf
   mid-good = step-good S (q .asked) (lentTo d q) (d .session) (k .sane .good)
 
-  alike : Alike G (written G (d .session) lw 34 .lent .drive .image) (stampedAs G (q .asked) lw (d .session) Write .lent .drive .image)
+  -- what the write's own rule left, and then its stamps
+  abbrev own-image : Bytes
+  own-image = written G (d .session) lw 34 .lent .drive .image
+
+  abbrev stamped-image : Bytes
+  stamped-image = stampedAs G (q .asked) lw (d .session) Write .lent .drive .image
+
+  alike : Alike G own-image stamped-image
   alike = stamps-alike S (q .asked) lw (d .session) facts (k .sane .good) Write writes refl
 
   wrote-one : WroteOne G d f x buffer (outcomeOf G d q)
@@ -572,24 +164,28 @@ module _ {G : Geometry} (S : Sound G) (d : Disk) (f : Bytes) (e : ℕ) (k : Fres
       record {
         entry = closable .entry;
         cur = cur-on S (q .asked) lw (d .session) facts (k .sane .good) Write writes refl _ (closable .entry) (closable .cur);
-        one = one-stamped (by-used user f hu) (written G (d .session) lw 34 .lent .drive .map) (one-named user (atRecord f x) f same-name-as (closable .one)) alike;
+        only = only-then (only-named user (atRecord f x) f same-name-as (closable .only)) (only-alike (byName user f) own-image stamped-image alike);
         grown = grown-named (atRecord f x) f same-name-as
-            (closable .grown (stampedAs G (q .asked) lw (d .session) Write .lent .drive .image) alike
+            (closable .grown stamped-image alike
             (subst (λ (o : Outcome). Long G (o .lent .drive .image)) wrote-is (mid-good .image-long)));
       }
 
   -- the FCB handed back has the name
-  handed-back : SameName f 1 (outcomeOf G d q .lent .fcb) 1
+  pub handed-back : SameName f 1 (outcomeOf G d q .lent .fcb) 1
   handed-back i h = same-name-as i h ∙ sym (wrote S d q writes accepted .fcb .name i h)
 
-  -- the write changes one entry
-  pub write-one : OneEntry G (byName (d .session .user) f) (seenOn G d) (seenOn G (left (outcomeOf G d (asks a 34 (atRecord f x) buffer))))
-  write-one = wrote-one .one
+  pub write-user : mid .session .user ≡ d .session .user
+  unfolding after
+  write-user = user-stays G d q (λ z. kinds-apart Write User refl (sym writes ∙ z))
+
+  -- the write changes entries of the file alone
+  pub write-only : OnlyNamed G (byName (d .session .user) f) (entryAt G (d .drive .image)) (entryAt G (mid .drive .image))
+  write-only = wrote-one .only
 
   -- ---- the close
   module _ (b : Asked) (time : timeRight b ≡ true) (cb : Bytes) (whole : length cb ≡ recordBytes) where
     abbrev c : Request
-    c = asks b 16 (outcomeOf G d q .lent .fcb) cb
+    c = closeBack G d q b cb
 
     abbrev lc : Lent
     lc = lentTo mid c
@@ -597,11 +193,11 @@ module _ {G : Geometry} (S : Sound G) (d : Disk) (f : Bytes) (e : ℕ) (k : Fres
     abbrev t : ℕ
     t = wrote-one .entry
 
-    pub closes : accepts G (left (outcomeOf G d (asks a 34 (atRecord f x) buffer))) (asks b 16 (outcomeOf G d (asks a 34 (atRecord f x) buffer) .lent .fcb) cb) ≡ true
-    closes = close-accepted S d q writes accepted b time cb whole
+    pub then-closes : accepts G mid c ≡ true
+    then-closes = close-accepted S d q writes accepted b time cb whole
 
     abbrev end : Disk
-    end = left (outcomeOf G mid c)
+    end = thenClosed G d q b cb
 
     shuts : kindOf 16 ≡ Close
     unfolding kindOf
@@ -609,16 +205,12 @@ module _ {G : Geometry} (S : Sound G) (d : Disk) (f : Bytes) (e : ℕ) (k : Fres
 
     close-facts : AcceptedCall G (c .asked) lc (mid .session)
     unfolding outcomeOf
-    close-facts = accepted-carried G (c .asked) (lentTo mid c) (mid .session) closes .facts
-
-    mid-user : mid .session .user ≡ d .session .user
-    unfolding after
-    mid-user = user-stays G d q (λ z. kinds-apart Write User refl (sym writes ∙ z))
+    close-facts = accepted-carried G (c .asked) (lentTo mid c) (mid .session) then-closes .facts
 
     present : presentEntry G (mid .session .user) lc ≡ At t
     unfolding presentEntry
     present =
-        ap (λ (u : ℕ). current G (entryAt G (mid .drive .image)) (mid .drive .map) u (outcomeOf G d q .lent .fcb)) mid-user
+        ap (λ (u : ℕ). current G (entryAt G (mid .drive .image)) (mid .drive .map) u (outcomeOf G d q .lent .fcb)) write-user
         ∙ cur-current G (mid .drive .image) (mid .drive .map) user (outcomeOf G d q .lent .fcb) t (mid-good .inv .dir) hu (wrote-one .cur)
 
     own-is : closed G (mid .session) lc ≡ closedAt G (mid .session) lc t
@@ -626,52 +218,85 @@ module _ {G : Geometry} (S : Sound G) (d : Disk) (f : Bytes) (e : ℕ) (k : Fres
     own-is = ap (λ (r : Found). closedAt G (mid .session) lc (numberOf (G .entries) r)) present
 
     end-is : outcomeOf G mid c ≡ stampedAs G (c .asked) lc (mid .session) Close
-    end-is = carried-is G mid c closes Close shuts
+    end-is = carried-is G mid c then-closes Close shuts
 
     -- what its own rule left, and then its stamps
-    end-alike : Alike G (closed G (mid .session) lc .lent .drive .image) (stampedAs G (c .asked) lc (mid .session) Close .lent .drive .image)
+    abbrev own-end : Bytes
+    own-end = closed G (mid .session) lc .lent .drive .image
+
+    abbrev stamped-end : Bytes
+    stamped-end = stampedAs G (c .asked) lc (mid .session) Close .lent .drive .image
+
+    end-alike : Alike G own-end stamped-end
     end-alike = stamps-alike S (c .asked) lc (mid .session) close-facts mid-good Close shuts refl
 
-    -- the file gained the record
-    pub write-close-grown : Grown G (seenOn G d)
-        (seenOn G (left (outcomeOf G (left (outcomeOf G d (asks a 34 (atRecord f x) buffer))) (asks b 16 (outcomeOf G d (asks a 34 (atRecord f x) buffer) .lent .fcb) cb))))
-        (d .session .user) f x buffer
-    unfolding closedAt
-    write-close-grown =
-        subst (λ (o : Outcome). Grown G (seenOn G d) (seenOn G (left o)) user f x buffer) (sym end-is)
-        (grown-stamped S (closed G (mid .session) lc .lent .drive .map) hu
-        (subst (λ (o : Outcome). Grown G (seenOn G d) (seenOn G (left o)) user f x buffer) (sym own-is) (wrote-one .grown)) end-alike)
-
-    -- the close changes one entry
-    pub close-one : OneEntry G (byName (d .session .user) f) (seenOn G (left (outcomeOf G d (asks a 34 (atRecord f x) buffer))))
-        (seenOn G (left (outcomeOf G (left (outcomeOf G d (asks a 34 (atRecord f x) buffer))) (asks b 16 (outcomeOf G d (asks a 34 (atRecord f x) buffer) .lent .fcb) cb))))
-    unfolding closedAt
-    close-one =
-        subst (λ (o : Outcome). OneEntry G (byName user f) (seenOn G mid) (seenOn G (left o))) (sym end-is)
-        (one-stamped (by-used user f hu) (closed G (mid .session) lc .lent .drive .map)
-        (subst (λ (o : Outcome). OneEntry G (byName user f) (seenOn G mid) (seenOn G (left o))) (sym own-is)
-        (one-named user (outcomeOf G d q .lent .fcb) f handed-back
-        (closed-one S (mid .drive .image) (mid .drive .map) (closedAt G (mid .session) lc t .lent .drive .map) (mid-good .image-long) user hu (outcomeOf G d q .lent .fcb) t (wrote-one .cur)))) end-alike)
-
-    -- names stay, over the write, over the close, and over both
-    module _ (u : ℕ) (low : u ≤ 15) (h : Bytes) where
-      pub close-names : NamesStay G (seenOn G mid) (seenOn G end) (byName u h)
-      close-names = one-names user f close-one u low h
-
-      pub write-close-names : NamesStay G (seenOn G d) (seenOn G end) (byName u h)
-      write-close-names = one-names user f (grown-one f write-close-grown) u low h
-
-    -- ---- the disk afterwards
-    pub end-sane : Sane G (left (outcomeOf G (left (outcomeOf G d (asks a 34 (atRecord f x) buffer))) (asks b 16 (outcomeOf G d (asks a 34 (atRecord f x) buffer) .lent .fcb) cb)))
+    pub end-sane : Sane G end
     unfolding outcomeOf
     end-sane = record {
       good = step-good S (c .asked) (lentTo mid c) (mid .session) mid-good;
       range = step-range G (c .asked) (lentTo mid c) (mid .session) (step-range G (q .asked) (lentTo d q) (d .session) (k .sane .range));
     }
 
+    -- the file gained the record
+    pub write-close-grown : Grown G (seenOn G d) (seenOn G end) (d .session .user) f x buffer
+    unfolding closedAt
+    write-close-grown =
+        subst (λ (o : Outcome). Grown G (seenOn G d) (seenOn G (left o)) user f x buffer) (sym end-is)
+        (grown-stamped S (closed G (mid .session) lc .lent .drive .map) hu
+        (subst (λ (o : Outcome). Grown G (seenOn G d) (seenOn G (left o)) user f x buffer) (sym own-is) (wrote-one .grown)) end-alike)
+
+    -- the close changes an entry of the file alone, and makes none
+    pub close-only : OnlyNamed G (byName (d .session .user) f) (entryAt G (mid .drive .image)) (entryAt G (end .drive .image))
+    unfolding closedAt
+    close-only =
+        subst (λ (o : Outcome). OnlyNamed G (byName user f) (entryAt G (mid .drive .image)) (rowsOf G (o .lent))) (sym end-is)
+        (only-then
+        (subst (λ (o : Outcome). OnlyNamed G (byName user f) (entryAt G (mid .drive .image)) (rowsOf G (o .lent))) (sym own-is)
+        (only-named user (outcomeOf G d q .lent .fcb) f handed-back
+        (closed-only S (mid .drive .image) (mid .drive .map) (mid-good .image-long) user hu (outcomeOf G d q .lent .fcb) t
+        (wrote-one .cur)))) (only-alike (byName user f) own-end stamped-end end-alike))
+
+    pub close-none : NoneNew G (seenOn G mid) (seenOn G end)
+    unfolding closedAt
+    close-none i h z =
+        let own : entryAt G own-end i ≡ entryAt G (mid .drive .image) i =
+        ap (λ (o : Outcome). entryAt G (o .lent .drive .image) i) own-is
+        ∙ row-closedImage-other S (mid .drive .image) (mid-good .image-long) t (wrote-one .cur .low) (outcomeOf G d q .lent .fcb) i h
+        (empty-elsewhere (entryAt G (mid .drive .image)) i t z (cur-uses G (seenOn G mid) user hu (outcomeOf G d q .lent .fcb) t (wrote-one .cur))) in
+        ap (λ (o : Outcome). entryAt G (o .lent .drive .image) i) end-is
+        ∙ end-alike .row i h (ap isDates own ∙ empty-no-dates (entryAt G (mid .drive .image) i) z) ∙ own
+
+    -- a write in the FCB's own extent makes no entry either
+    pub write-close-none : x / extentRecords ≡ extentOf f → NoneNew G (seenOn G d) (seenOn G end)
+    write-close-none here i h z =
+        split (g .was)
+        (λ w. g .others i h (empty-no-dates (entryAt G (d .drive .image) i) z)
+        (empty-elsewhere (entryAt G (d .drive .image)) i (g .entry) z
+        (ap used (w .0) ∙ file-used G user f 1 (x / 128) (g .base) (w .1) hu)))
+        (λ w. let own : isFile G user f 1 (x / 128) (entryAt G (d .drive .image) e) ≡ true =
+        ap (λ (y : ℕ). isFile G user f 1 y (entryAt G (d .drive .image) e)) here ∙ k .cur .file in
+        let still = grown-file S (seenOn G d) (seenOn G end) (k .sane .good .inv) user hu f x buffer g e (x / 128) (k .cur .low) own in
+        absurd (empty-elsewhere (entryAt G (d .drive .image)) (g .entry) e (w .0) (cur-uses G (seenOn G d) user hu f e (k .cur))
+        (at-once (g .entry) e (sym (found (g .entry) (g .low) (g .file)) ∙ found e (k .cur .low) still))))
+      where
+        g : Grown G (seenOn G d) (seenOn G end) user f x buffer
+        g = write-close-grown
+
+        found : (i : ℕ) → i < G .entries → isFile G user f 1 (x / 128) (entryAt G (end .drive .image) i) ≡ true
+            → findFile G (entryAt G (end .drive .image)) user f 1 (x / 128) ≡ At i
+        found i h w = file-found G (entryAt G (end .drive .image)) user hu f 1 (x / 128) i h w (end-sane .good .inv .dir)
+
+    -- names stay, over the close and over both calls
+    module _ (u : ℕ) (low : u ≤ 15) (h : Bytes) where
+      pub close-names : NamesStay G (seenOn G mid) (seenOn G end) (byName u h)
+      close-names = only-names user f close-only u low h
+
+      pub write-close-names : NamesStay G (seenOn G d) (seenOn G end) (byName u h)
+      write-close-names = only-names user f (grown-only f write-close-grown) u low h
+
     pub end-user : end .session .user ≡ d .session .user
     unfolding after
-    end-user = user-stays G mid c (λ z. kinds-apart Close User refl (sym shuts ∙ z)) ∙ mid-user
+    end-user = user-stays G mid c (λ z. kinds-apart Close User refl (sym shuts ∙ z)) ∙ write-user
 
     pub end-lifted : end .session .lifted ≡ d .session .lifted
     unfolding outcomeOf

@@ -2,7 +2,7 @@
 use mathlib.Core.Path.{_≡_, refl, ap, sym, _∙_, subst}
 use mathlib.Core.Logic.{_⊎_, inl, inr}
 use mathlib.Core.Bool.{true, false}
-use Prim.Native.Nat.{ℕ, _+_, _-_, _*_, _/_, _%_, _≤_, _<_, min, max}
+use Prim.Native.Nat.{ℕ, _+_, _/_, _%_, _≤_, _<_, max}
 use native.Mathlib.Omega.{arith}
 use native.Mathlib.Nat.{mod-lt}
 use Rattle.lists.specs.Product.{same-digits}
@@ -28,7 +28,7 @@ use Rattle.effects.specs.View.{View, viewOf, Right, stands-low, stands-high, st
 use Rattle.effects.specs.Closed.{byName}
 use Rattle.stored.specs.Closed.{Stored}
 use Rattle.stored.specs.Restamped.{Alike, dates-alike, used-row}
-use Rattle.stored.specs.OneEntry.{OneEntry}
+use Rattle.stored.specs.OnlyNamed.{OnlyNamed, only-one}
 
 -- the slot of record r in an entry that covers its extent
 abbrev pub slotAtRecord : Geometry → ℕ → ℕ
@@ -121,19 +121,18 @@ grown-stamped {G} S {s} {img} {img′} map {user} {f} {r} {v} hu g w =
       origin = g .origin;
       notes = g .notes;
       recs = λ x a b q. w .recs x a b ∙ g .recs x a b q;
-      new = w .recs (placeIn G (g .block) (r % 128)) (block-past G (g .block) (r % 128 % G .perBlock) (g .past)) (place-below S (g .block) (r % 128) (g .below)) ∙ g .new;
+      new = w .recs (placeIn G (g .block) (r % 128)) (block-past G (g .block) (r % 128 % G .perBlock) (g .past)) (place-below S (g .block) (r % 128) (g .below))
+          ∙ g .new;
     }
 
--- one entry changed
-pub grown-one : {G : Geometry} {s t : View} {user : ℕ} {r : ℕ} {v : Bytes} (f : Bytes) → Grown G s t user f r v → OneEntry G (byName user f) s t
-grown-one {G} {s} {t} {user} {r} {v} f g = record {
-  entry = g .entry;
-  low = g .low;
-  was = split (g .was) (λ w. inl (ap (byName user f) (w .0) ∙ file-named G user f 1 (r / 128) (g .base) (w .1))) (λ w. inr (w .0));
-  is = file-named G user f 1 (r / 128) (t .rows (g .entry)) (g .file);
-  others = g .others;
-  dates = g .dates;
-}
+-- only entries of the file change
+pub grown-only : {G : Geometry} {s t : View} {user : ℕ} {r : ℕ} {v : Bytes} (f : Bytes) → Grown G s t user f r v → OnlyNamed G (byName user f) (s .rows) (t .rows)
+grown-only {G} {s} {t} {user} {r} {v} f g =
+    only-one (g .entry)
+    record {
+      was = split (g .was) (λ w. inl (ap (byName user f) (w .0) ∙ file-named G user f 1 (r / 128) (g .base) (w .1))) (λ w. inr (w .0));
+      is = file-named G user f 1 (r / 128) (t .rows (g .entry)) (g .file);
+    } (g .others) (g .dates)
 
 module _ {G : Geometry} (S : Sound G) (s t : View) (right : Right G s) (user : ℕ) (hu : user ≤ 15) (f : Bytes) (n : ℕ) (v : Bytes) (g : Grown G s t user f n v) where
   real : g .block ≡ 0 → ⊥
@@ -191,7 +190,8 @@ module _ {G : Geometry} (S : Sound G) (s t : View) (right : Right G s) (user : �
           real = stands-r .real;
         } in
         let same-entry : h .entry ≡ g .entry = right .dir .once-entry block-r (h .entry) (slotAtRecord G r) (g .entry) (slotAtRecord G n) stands-r stands-n in
-        let same-slot : slotAtRecord G r ≡ slotAtRecord G n = right .dir .once-slot block-r (h .entry) (slotAtRecord G r) (g .entry) (slotAtRecord G n) stands-r stands-n in
+        let same-slot : slotAtRecord G r ≡ slotAtRecord G n =
+        right .dir .once-slot block-r (h .entry) (slotAtRecord G r) (g .entry) (slotAtRecord G n) stands-r stands-n in
         let run : runOf G (r / 128) ≡ runOf G (n / 128) =
         sym (file-run G user f 1 (r / 128) (s .rows (h .entry)) (h .file)) ∙ ap (λ (x : ℕ). runOf G (extentOf (s .rows x))) same-entry
         ∙ ap (λ (x : Bytes). runOf G (extentOf x)) (w .0) ∙ file-run G user f 1 (n / 128) (g .base) (w .1) in
@@ -202,7 +202,8 @@ module _ {G : Geometry} (S : Sound G) (s t : View) (right : Right G s) (user : �
     apart : (placeIn G block-r (r % 128) ≡ placeIn G (g .block) (n % 128)) → ⊥
     unfolding placeIn
     apart q =
-        let one = block-once G block-r (r % 128 % G .perBlock) (g .block) (n % 128 % G .perBlock) (mod-lt (r % 128) (S .some-record)) (mod-lt (n % 128) (S .some-record)) q in
+        let one = block-once G block-r (r % 128 % G .perBlock) (g .block) (n % 128 % G .perBlock)
+        (mod-lt (r % 128) (S .some-record)) (mod-lt (n % 128) (S .some-record)) q in
         split (g .origin)
         (λ z. stands-not-spare G s right block-r (h .entry) (slotAtRecord G r) stands-r
         (spare-free G s right block-r (stands-high G s right block-r (h .entry) (slotAtRecord G r) stands-r) (ap (s .notes) (one .0) ∙ z)))

@@ -1,12 +1,14 @@
 pub mod Accepting
 pub mod Closed
+pub mod Frames
 pub mod Growing
 pub mod Grown
 pub mod Kept
 pub mod Looking
 pub mod Meeting
-pub mod OneEntry
+pub mod OnlyNamed
 pub mod Quiet
 pub mod Reading
 pub mod Restamped
 pub mod Told
+pub mod Writing
