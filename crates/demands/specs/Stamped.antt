@@ -207,14 +207,14 @@ module _ {G : Geometry} (S : Sound G) (asked : Asked) (l : Lent) (s : Session) (
     -- the bytes that the rule changed lie where they lay, and the rest are those of stamps
     bytes : Bytewise G (l .drive .image) (end .lent .drive .image) (names (asked .number) (s .user) (l .fcb)) (MayWrite G (asked .number) l s end)
     bytes i =
-        split (stamps-bytes S (own .drive .map) (NamedEver (end .lent .drive .image)) xs (own .drive .image) (w .good) own-dates each (at-end xs each (beside k q)) i)
+        split (stamps-bytes S (own .drive .map) (BesideNamed (end .lent .drive .image)) xs (own .drive .image) (w .good) own-dates each (at-end xs each (beside k q)) i)
         (λ p. split (own-bytes i) (λ r. inl (p ∙ r)) (λ r. inr (by-rule (where-after G (names (asked .number) (s .user) (l .fcb)) (l .drive .image) (l .drive .map) (own .drive .image) (own .drive .map)
         (end .lent .drive .image) (w .effect) (w .aside) (MayWrite G (asked .number) l s end) stay i r))))
         (λ p. inr (out p))
       where
-        out : Lies G (NamedEver (end .lent .drive .image)) i
+        out : Lies G (BesideNamed (end .lent .drive .image)) i
             → Where G (l .drive .image) (end .lent .drive .image) (names (asked .number) (s .user) (l .fcb)) (MayWrite G (asked .number) l s end) i
-        out (lies e which r h) = in-stamp e which r (dates-beside S (l .drive .image) (l .drive .map) g dates e (r .low)) h
+        out (lies x r h) = in-stamp (x .entry) (x .which) r (dates-beside S (l .drive .image) (l .drive .map) g dates (x .entry) (r .low)) h
 
     -- the book is the same: no look-up sees a stamp
     after-same : entryAfter G (asked .number) (s .user) l (end .lent) ≡ entryAfter G (asked .number) (s .user) l own

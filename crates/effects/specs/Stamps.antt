@@ -24,20 +24,20 @@ use Rattle.effects.specs.View.{viewOf, Names}
 use Rattle.effects.specs.Effect.{Effect, NamesStay, NoneNew, none-one, notes-stay, recs-on}
 use Rattle.effects.specs.Cur.{Cur, Holds, cur-kept, holds-kept}
 
--- byte i lies in a stamp beside an entry of which P holds
-pub data Lies (G : Geometry) (P : ℕ → Type 0) (i : ℕ) : Type 0 where
-  lies : (e which : ℕ) → InStamp G e which i → P e → Lies G P i
+-- byte i lies in a stamp of which P holds
+pub data Lies (G : Geometry) (P : Stamp → Type 0) (i : ℕ) : Type 0 where
+  lies : (x : Stamp) → InStamp G (x .entry) (x .which) i → P x → Lies G P i
 
 module _ {G : Geometry} (S : Sound G) (map : Bytes) where
   -- each byte stays, or lies there
-  pub stamps-bytes : (P : ℕ → Type 0) (xs : List Stamp) (img : Bytes) → Good G img map → dated (entryAt G img) ≡ true → Each (Placed G) xs
-      → Each (λ (x : Stamp). P (x .entry)) xs → (i : ℕ) → (getD (stampedWith G xs img) i 0 ≡ getD img i 0) ⊎ Lies G P i
+  pub stamps-bytes : (P : Stamp → Type 0) (xs : List Stamp) (img : Bytes) → Good G img map → dated (entryAt G img) ≡ true → Each (Placed G) xs
+      → Each P xs → (i : ℕ) → (getD (stampedWith G xs img) i 0 ≡ getD img i 0) ⊎ Lies G P i
   stamps-bytes P [] img g dates p n i = inl refl
   stamps-bytes P (x ∷ xs) img g dates p n i =
       let a = stamped-one S map img g dates x (p .0) in
       split (stamps-bytes P xs (withStamp G img (x .entry) (x .which) (x .bytes)) (a .good) (a .dates) (p .1) (n .1) i)
       (λ q. split (stamp-or-same S img (g .image-long) (x .entry) (p .0 .below) (p .0 .beside) (x .which) (p .0 .two) (x .bytes) (p .0 .ok) i)
-      (λ r. inl (q ∙ r)) (λ r. inr (lies (x .entry) (x .which) r (n .0)))) (λ q. inr q)
+      (λ r. inl (q ∙ r)) (λ r. inr (lies x r (n .0)))) (λ q. inr q)
 
   module _ (xs : List Stamp) (img : Bytes) (g : Good G img map) (dates : dated (entryAt G img) ≡ true) (p : Each (Placed G) xs) where
     done : Stamped G img (stampedWith G xs img) map xs

@@ -5,7 +5,7 @@ use mathlib.Core.Logic.{_⊎_, inl, inr}
 use mathlib.Core.Bool.{Bool, true, false}
 use Prim.Native.Nat.{ℕ, _+_, _≤_, _<_}
 use native.Mathlib.Omega.{arith}
-use lib.ListN.{length}
+use lib.ListN.{length, getD}
 use Rattle.lists.specs.Cases.{split, eq-or-ne, not-both}
 use Rattle.lists.specs.Tests.{and-left, and-right, or-cases}
 use Rattle.format.specs.Diskette.{Bytes, Geometry, Sound, recordBytes, slotCount}
@@ -23,20 +23,25 @@ use Rattle.model.specs.declared.Asked.{Asked}
 use Rattle.model.specs.declared.Kind.the-variants.{Close, Create, Rename, Write}
 use Rattle.model.specs.Kinds.{kindOf, same, wild}
 use Rattle.model.specs.Naming.{names}
+use Rattle.model.specs.Stamps.{Stamp}
 use Rattle.model.specs.Table.{timeRight}
 use Rattle.fields.specs.Agree.{SameName, named-asked}
 use Rattle.table.specs.Own.{kinds-apart}
 use Rattle.invariant.specs.Good.{Good}
+use Rattle.invariant.specs.Updates.{dates-beside}
+use Rattle.fields.specs.Stamps.{InStamp}
 use Rattle.effects.specs.View.{viewOf, Names, NewRow, Mine, listed, pending}
-use Rattle.effects.specs.Effect.{Effect, NoneNew, more-effect}
+use Rattle.effects.specs.Effect.{Effect, NoneNew, none-one, more-effect}
 use Rattle.effects.specs.Where.{Ruled, in-entry, in-new, in-record, Where, by-rule, in-stamp, Bytewise, Frame, Theirs, was-free, was-theirs, OneRecord, theirs-more, one-more}
 use Rattle.effects.specs.Closed.{byName}
+use Rattle.effects.specs.Stamps.{Lies, lies, stamps-bytes}
 use Rattle.demands.specs.StepOk.{MayWrite}
 use Rattle.demands.specs.Stamped.{step-ok}
 use Rattle.demands.specs.Runs.{Request, Disk, lentTo, outcomeOf, left, accepts}
 use Rattle.demands.specs.Reading.{rest-atRecord}
-use Rattle.stored.specs.Closed.{seenOn, Begins, Fresh}
-use Rattle.stored.specs.OnlyNamed.{OnlyNamed, only-one, only-stay, only-named, by-used}
+use Rattle.stored.specs.Closed.{Sane, seenOn, Begins, Fresh, Access, Restamped}
+use Rattle.stored.specs.Restamped.{unstamped, used-row, used-restamped, sane-restamped, restamped-alike}
+use Rattle.stored.specs.OnlyNamed.{OnlyNamed, only-one, only-stay, only-alike, none-alike, only-named, by-used}
 use Rattle.stored.specs.Quiet.{sane-accepted}
 use Rattle.stored.specs.Grown.{grown-only}
 use Rattle.stored.specs.Accepting.{MadeAt, made-at}
@@ -85,7 +90,7 @@ module _ {G : Geometry} (S : Sound G) (N : Names) (sure : (r : Bytes) → N r �
   plain : (e : ℕ) → e < G .entries → isDates (entryAt G mid e) ≡ false → isDates (entryAt G img e) ≡ false
   plain e l n = sym (first .dates e l) ∙ n
 
-  touched-second : (i : ℕ) → Where G mid img′ N W i → Where G img img′ N W i
+  pub touched-second : (i : ℕ) → Where G mid img′ N W i → Where G img img′ N W i
   touched-second i (by-rule (in-entry e p n)) =
       split (first .rows e (p .low) (plain e (p .low) (used-no-dates (entryAt G mid e) (sure (entryAt G mid e) n))))
       (λ q. by-rule (in-entry e p (sym (ap N q) ∙ n)))
@@ -315,3 +320,64 @@ module _ {G : Geometry} (S : Sound G) (d : Disk) (m : Request) (number : m .aske
         frame-then S Made (by-used (d .session .user) (m .fcb) hu) Blocks-before
         (d .drive .image) (new .drive .image) (done .drive .image) make-only later-only (d .drive .map) (new .drive .map) (done .drive .map)
         (inr (write-close-none S new f (at .entry) (at .fresh) 0 (omega arith) a buffer accepted b time cb whole (sym (at .extent)))) (make-frame _) later-frame
+
+-- ---- stamps that were put: each byte stays, or lies in one of them
+module _ {G : Geometry} (S : Sound G) (P : Stamp → Type 0) (d t : Disk) (sane : Sane G d) (w : Restamped G P d t) where
+  pub restamped-bytes : (i : ℕ) → (getD (t .drive .image) i 0 ≡ getD (d .drive .image) i 0) ⊎ Lies G P i
+  restamped-bytes i =
+      split (w .dates) (λ z. inl (ap (λ (b : Bytes). getD b i 0) (unstamped G P d t w z)))
+      (λ y. subst (λ (b : Bytes). (getD b i 0 ≡ getD (d .drive .image) i 0) ⊎ Lies G P i) (sym (w .image))
+      (stamps-bytes S (d .drive .map) P (w .stamps) (d .drive .image) (sane .good) y (w .placed) (w .each) i))
+
+  -- beside a stamp lies a date entry
+  pub restamped-beside : (i : ℕ) (x : Stamp) → InStamp G (x .entry) (x .which) i → (getD (t .drive .image) i 0 ≡ getD (d .drive .image) i 0)
+      ⊎ (isDates (entryAt G (d .drive .image) (fourthOf (x .entry))) ≡ true)
+  restamped-beside i x p =
+      split (w .dates) (λ z. inl (ap (λ (b : Bytes). getD b i 0) (unstamped G P d t w z)))
+      (λ y. inr (dates-beside S (d .drive .image) (d .drive .map) (sane .good) y (x .entry) (p .low)))
+
+  pub restamped-only : (N : Names) → OnlyNamed G N (entryAt G (d .drive .image)) (entryAt G (t .drive .image))
+  restamped-only N = only-alike N (d .drive .image) (t .drive .image) (restamped-alike S P d t sane w)
+
+  row-same : (e : ℕ) → e < G .entries → used (entryAt G (t .drive .image) e) ≡ true → entryAt G (t .drive .image) e ≡ entryAt G (d .drive .image) e
+  row-same e l u = used-row G (d .drive .image) (t .drive .image) (restamped-alike S P d t sane w) e l (sym (used-restamped S P d t sane w e l) ∙ u)
+
+  -- whose a block is
+  mine-restamped : (b e : ℕ) → Mine G (seenOn G t) b e → Mine G (seenOn G d) b e × (entryAt G (t .drive .image) e ≡ entryAt G (d .drive .image) e)
+  mine-restamped b e (listed j s) =
+      let row = row-same e (s .entry) (s .uses) in (
+        listed j record {
+          entry = s .entry;
+          place = s .place;
+          uses = sym (ap used row) ∙ s .uses;
+          is = sym (ap (λ (r : Bytes). slotOf G r j) row) ∙ s .is;
+          real = s .real;
+        },
+        row,
+      )
+  mine-restamped b e (pending j l h p) =
+      let q : noteAt (d .drive .map) b ≡ pendingFor e j = sym (ap (λ (z : Bytes). noteAt z b) (w .map)) ∙ p in
+      let u = note-used G (entryAt G (d .drive .image)) b (noteAt (d .drive .map) b) (sane .good .inv .map b h) e j l q in
+      (pending j l h q, used-row G (d .drive .image) (t .drive .image) (restamped-alike S P d t sane w) e (u .0) (u .1))
+
+  pub block-restamped : (user : ℕ) (f : Bytes) (x : ℕ) → FileBlock G (t .drive .image) (t .drive .map) user f x → FileBlock G (d .drive .image) (d .drive .map) user f x
+  block-restamped user f x h = record { block = h .block; place = h .place; one = record { is = h .one .is; below = h .one .below; theirs = go (h .one .theirs) } }
+    where
+      go : Theirs G (t .drive .image) (t .drive .map) (byName user f) (h .block) → Theirs G (d .drive .image) (d .drive .map) (byName user f) (h .block)
+      go (was-free z) = was-free (sym (ap (λ (m : Bytes). noteAt m (h .block)) (w .map)) ∙ z)
+      go (was-theirs e m n) = let o = mine-restamped (h .block) e m in was-theirs e (o .0) (sym (ap (byName user f) (o .1)) ∙ n)
+
+-- access stamps of a file are a frame of it
+pub access-frame : {G : Geometry} (S : Sound G) (a : Asked) (f : Bytes) (d t : Disk) → Sane G d → Restamped G (Access G a (d .drive .image) (d .session .user) f) d t
+    → (W : ℕ → Type 0) → Frame G (d .drive .image) (t .drive .image) (byName (d .session .user) f) W
+access-frame {G} S a f d t sane w W = record {
+  byte = λ i. split (restamped-bytes S P d t sane w i) (λ q. inl q) (λ p. out i p);
+  one-new = none-one G (seenOn G d) (seenOn G t) (none-alike G (d .drive .image) (t .drive .image) (d .drive .map) (t .drive .map) (restamped-alike S P d t sane w));
+  image-length = sane-restamped S P d t sane w .good .image-long ∙ sym (sane .good .image-long);
+}
+  where
+    P : Stamp → Type 0
+    P = Access G a (d .drive .image) (d .session .user) f
+
+    out : (i : ℕ) → Lies G P i → (getD (t .drive .image) i 0 ≡ getD (d .drive .image) i 0) ⊎ Where G (d .drive .image) (t .drive .image) (byName (d .session .user) f) W i
+    out i (lies x p h) = split (restamped-beside S P d t sane w i x p) (λ q. inl q) (λ q. inr (in-stamp (x .entry) (x .which) p q (inl (h .file))))

@@ -72,7 +72,7 @@ module _ (G : Geometry) (P : Stamp → Type 0) (d t : Disk) where
   }
 
   -- without a stamp the image is the same
-  unstamped : (w : Restamped G P d t) → w .stamps ≡ [] → t .drive .image ≡ d .drive .image
+  pub unstamped : (w : Restamped G P d t) → w .stamps ≡ [] → t .drive .image ≡ d .drive .image
   unstamped w z = w .image ∙ ap (λ (xs : List Stamp). stampedWith G xs (d .drive .image)) z
 
   pub restamped-then : (u : Disk) → Restamped G P d t → Restamped G P t u → Restamped G P d u
