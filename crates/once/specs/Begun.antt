@@ -34,12 +34,16 @@ use Rattle.stored.specs.Quiet.{quiet-same}
 use Rattle.stored.specs.Looking.{size-told}
 use Rattle.stored.specs.Accepting.{MadeAt, made-at, fresh-write-accepted, space-free, space-none, threeOf}
 use Rattle.stored.specs.Grown.{Grown}
+use Rattle.stored.specs.Growing.{thenClosed}
+use Rattle.stored.specs.Frames.{FileBlock, make-write-close-frame}
+use Rattle.effects.specs.Where.{Frame}
+use Rattle.effects.specs.Closed.{byName}
 use Rattle.picking.specs.declared.Wanted.{Wanted}
 use Rattle.picking.specs.declared.Time.{Time}
 use Rattle.picking.specs.declared.Pick.{Pick}
 use Rattle.picking.specs.declared.Pick.the-variants.{Logged, DirectoryFull, DiskFull, Other}
 use Rattle.picking.specs.Picker.{Logging, fcbOf, blank, logRecord, spaceIn, callAt, accepted, isCode, sizing, spacing, making, writing, liftedCall, written, made, begun, extended, logged}
-use Rattle.once.specs.Bytes.{Named, begins-fcbOf, length-logRecord}
+use Rattle.once.specs.Bytes.{Named, begins-fcbOf, length-blank, length-logRecord}
 use Rattle.once.specs.Calls.{Timed, size-by, size-accepts, space-accepts, make-by, as-test}
 use Rattle.once.specs.Grew.{used-no-dates, grown-made}
 use Rattle.once.specs.Growth.{LogGrew, write-grew}
@@ -165,6 +169,10 @@ module _ {G : Geometry} (S : Sound G) (countable : G .perBlock * G .blocks < 167
                 (grown-made S (openedUp d) q at (sane-lifted (openByte (d .session)) sane) none last (g .sane) (logRecord (w .year) (w .day))
                 (subst (λ (u : ℕ). Grown G (seenOn G after) (seenOn G last) u log 0 (logRecord (w .year) (w .day))) (at .user)
                 (subst (λ (n : ℕ). Grown G (seenOn G after) (seenOn G last) (after .session .user) log n (logRecord (w .year) (w .day))) size-zero (g .grown))));
+            frame = subst (λ (x : Disk). Frame G (d .drive .image) (thenClosed G x (writing t w f 0) (callAt t 0) blank .drive .image) (byName user log)
+                (FileBlock G (d .drive .image) (d .drive .map) user log)) (sym opens)
+                (make-write-close-frame S (openedUp d) q refl a (begins-fcbOf (w .log) (nm .log)) (callAt t 0) (logRecord (w .year) (w .day))
+                (subst (λ (x : Disk). accepts G x (writing t w f 0) ≡ true) opens wrote) (callAt t 0) time blank length-blank);
           }
 
       made-logged : made G t w d ≡ record { pick = Logged; disk = liftedBy (after .session .lifted) (end S t timed w after f 0) }

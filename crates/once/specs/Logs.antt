@@ -92,7 +92,7 @@ module _ {G : Geometry} (S : Sound G) (t : Time) (timed : Timed t) (w : Wanted) 
   run-before d m sane r l (stayed p n s) =
       stayed (p ∙ log-same S (LogAccess G t w d) d m sane r w) n
       (restamped-then G (LogAccess G t w d) d m (l .disk) r (restamped-more G (LogAccess G t w m) m (l .disk) (LogAccess G t w d) (access-on d m sane r) s))
-  run-before d m sane r l (grew p q g) = grew p (sym (log-same S (LogAccess G t w d) d m sane r w) ∙ q) (grew-restamped S (LogAccess G t w d) w d m sane r (l .disk) g)
+  run-before d m sane r l (grew p q g) = grew p (sym (log-same S (LogAccess G t w d) d m sane r w) ∙ q) (grew-restamped S (callAt t 0) w d m sane r (l .disk) g)
 
   sizes-small : (d : Disk) → Sane G d → sizeIs G d (w .log) ≤ 262144
   unfolding sizeIs
