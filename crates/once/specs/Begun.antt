@@ -5,7 +5,7 @@ use Prim.Native.Nat.{ℕ, _*_, _/_, _≤_, _<_}
 use native.Mathlib.Omega.{arith}
 use lib.Dec.{eqb}
 use borrow.Author.Tests.{eqb-true, eqb-false}
-use Rattle.lists.specs.Cases.{split, bool-cases, eq-or-ne, not-both, clash}
+use Rattle.lists.specs.Cases.{split, bool-cases, eq-or-ne, not-both}
 use Rattle.lists.specs.Tests.{_and_, and-both, and-fails-left, and-fails-right}
 use Rattle.format.specs.Diskette.{Bytes, Geometry, Sound}
 use Rattle.format.specs.Entries.{entryAt, named, used, isFile, endOf, findNamed}
@@ -15,7 +15,7 @@ use Rattle.format.specs.Fcb.{randomOf}
 use Rattle.format.specs.Found.{isFound}
 use Rattle.format.specs.declared.Found.{Found}
 use Rattle.format.specs.declared.Found.the-variants.{At, Nothing}
-use Rattle.facts.specs.Found.{FoundAt, none-says, found-cases}
+use Rattle.facts.specs.Found.{FoundAt, is-found, none-says, found-cases}
 use Rattle.facts.specs.Find.{file-says}
 use Rattle.facts.specs.Naming.{file-named}
 use Rattle.consistency.specs.Naming.{named-used}
@@ -187,9 +187,9 @@ module _ {G : Geometry} (S : Sound G) (countable : G .perBlock * G .blocks < 167
         let code : ℕ → ℕ → Pick = λ x y. cond (eqb x 255 and eqb y 0) DirectoryFull (Other x y) in
         split (bool-cases (someEmpty G d))
         (λ some. let a : accepts G (openedUp d) q ≡ true = as-test (accepts G (openedUp d) q) ∙ make-told true (λ x y. false) ∙ rw some in
-        let is = made-logged a (found-of (findFree G (d .drive .map)) room) in
+        let is = made-logged a (is-found (findFree G (d .drive .map)) room) in
         grew (ap (λ (l : Logging). l .pick) is) (answer-is ∙ rw (room, some))
-        (subst (LogGrew G w d) (sym (ap (λ (l : Logging). l .disk) is)) (made-grew a (found-of (findFree G (d .drive .map)) room))))
+        (subst (LogGrew G w d) (sym (ap (λ (l : Logging). l .disk) is)) (made-grew a (is-found (findFree G (d .drive .map)) room))))
         (λ some. let a : accepts G (openedUp d) q ≡ false = as-test (accepts G (openedUp d) q) ∙ make-told true (λ x y. false) ∙ rw some in
         let p : cond (eqb (o .answer .a) 255 and eqb (o .answer .h) 0) DirectoryFull (Other (o .answer .a) (o .answer .h)) ≡ DirectoryFull =
         ap (λ (b : Bool). cond b Logged (cond (eqb (o .answer .a) 255 and eqb (o .answer .h) 0) DirectoryFull (Other (o .answer .a) (o .answer .h)))) (sym a)
@@ -199,10 +199,6 @@ module _ {G : Geometry} (S : Sound G) (countable : G .perBlock * G .blocks < 167
         let left-is : made G t w d .disk ≡ left (liftedCall G d q) = rw (lifted-accepted G d q ∙ a) in
         stayed (told ∙ sym (answer-is ∙ rw (room, some))) (ap isLogged told)
         (subst (Restamped G (LogAccess G t w d) d) (sym left-is) (lifted-refused G d q (LogAccess G t w d) a)))
-      where
-        found-of : (x : Found) → isFound x ≡ true → FoundAt x
-        found-of (At k) h = record { place = k; is = refl }
-        found-of Nothing h = clash (sym h)
 
     -- ---- the look at the space
     abbrev look : Outcome

@@ -12,4 +12,6 @@ pub mod Right
 pub mod Same
 pub mod Search
 pub mod Table
+pub mod Unharmed
+pub mod Word
 pub mod Writing

@@ -34,7 +34,7 @@ use Rattle.once.specs.Begun.{log-run}
 use Rattle.once.specs.Bytes.{Named, begins-fcbOf}
 use Rattle.once.specs.Calls.{Timed, as-test}
 use Rattle.once.specs.Deciding.{answered-rows}
-use Rattle.once.specs.Growth.{LogGrew, grew-restamped}
+use Rattle.once.specs.Growth.{LogGrew}
 use Rattle.once.specs.Logs.{isLogged, LogAccess, LogRun, stayed, grew}
 use Rattle.once.specs.Records.{read-by}
 use Rattle.once.specs.Right.{timed-of, sane-of, open-any}
