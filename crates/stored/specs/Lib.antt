@@ -1,5 +1,6 @@
 pub mod Accepting
 pub mod Closed
+pub mod Elsewhere
 pub mod Frames
 pub mod Growing
 pub mod Grown
