@@ -1,3 +1,4 @@
+pub mod Again
 pub mod Begun
 pub mod Bytes
 pub mod Calls
