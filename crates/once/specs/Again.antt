@@ -11,6 +11,7 @@ use borrow.Author.Tests.{eq-eqb, le-ltb, not-false}
 use Rattle.lists.specs.Cases.{split, bool-cases, not-both, cond-either}
 use Rattle.lists.specs.Tests.{_and_, and-left, and-right, and-both}
 use Rattle.lists.specs.Below.{any-at, any-some}
+use Rattle.lists.specs.Splice.{length-copies}
 use Rattle.format.specs.Diskette.{Bytes, Geometry, Sound, recordBytes}
 use Rattle.format.specs.Names.{nameBytes}
 use Rattle.format.specs.Entries.{entryAt, named, findNamed}
@@ -25,8 +26,8 @@ use Rattle.model.specs.Stamps.{Stamp}
 use Rattle.model.specs.Table.{timeRight}
 use Rattle.effects.specs.Closed.{byName}
 use Rattle.demands.specs.Runs.{Disk, outcomeOf, accepts}
-use Rattle.stored.specs.Closed.{Sane, seenOn, First, Stored, Restamped, asks}
-use Rattle.stored.specs.Restamped.{sane-restamped, first-restamped, stored-restamped, first-before, stored-before}
+use Rattle.stored.specs.Closed.{Sane, seenOn, Begins, First, Stored, Restamped, asks}
+use Rattle.stored.specs.Restamped.{sane-restamped, first-restamped, stored-restamped, size-restamped}
 use Rattle.stored.specs.Kept.{first-kept, stored-kept}
 use Rattle.stored.specs.Looking.{ReadsAs, blankBuffer, reads-as, as-stored, as-first, size-accepted, size-told, stored-below}
 use Rattle.stored.specs.Grown.{Grown, grown-new, grown-stays, grown-size}
@@ -40,9 +41,10 @@ use Rattle.picking.specs.Picker.{Picked, fcbOf, hasStamp, logRecord, oneFile, l
 use Rattle.once.specs.Bytes.{Named, begins-fcbOf, name-fcbOf, logRecord-has}
 use Rattle.once.specs.Calls.{Timed}
 use Rattle.once.specs.Growth.{LogGrew}
-use Rattle.once.specs.Logs.{first-at}
+use Rattle.once.specs.Logs.{isLogged, first-at}
 use Rattle.once.specs.Picks.{hasWord, PickAccess, PickGrew, Left, same, more, pick-run}
 use Rattle.once.specs.Right.{parameters-of, disk-of}
+use Rattle.once.specs.Same.{size-same}
 use Rattle.once.specs.Table.{parametersAre, diskIs, nameIs, hasEntry, extentAt, sizeIs, recordIs, bytesAre, someEmpty, someFree, hasDay, nextEntry, logLocked, noBlock, growing, beginning, logAnswer, wordAnswer, bookAnswer, answer}
 use Rattle.once.specs.Unharmed.{trouble-unharmed}
 use Rattle.once.specs.Word.{CanRead, can-read, read-can, first-named, first-found}
@@ -195,3 +197,125 @@ module _ {G : Geometry} (S : Sound G) (countable : G .perBlock * G .blocks < 167
         has = is-stored G (seenOn G d) (d .session .user) (fcbOf (w .log)) (k .place) (and-left _ _ (k .holds));
         stamp = and-right _ _ (k .holds);
       }
+
+-- ---- book and log are two files: what is the one's is not the other's
+apart-names : (w : Wanted) → Named w → oneFile w ≡ false → (user : ℕ) (row : Bytes) → named false user (fcbOf (w .book)) 1 row ≡ true
+    → byName user (fcbOf (w .log)) row ≡ false
+unfolding oneFile
+apart-names w nm apart user row h =
+    split (bool-cases (byName user (fcbOf (w .log)) row))
+    (λ y. not-both _ (like-intro (w .book) 0 (w .log) 0
+    (λ i l. ap (λ (x : ℕ). x % 128) (sym (name-fcbOf (w .book) (nm .book) i l))
+    ∙ like-at (fcbOf (w .book)) 1 row 1 (named-like false user (fcbOf (w .book)) 1 row h) i l
+    ∙ sym (like-at (fcbOf (w .log)) 1 row 1 (named-like false user (fcbOf (w .log)) 1 row y) i l) ∙ ap (λ (x : ℕ). x % 128) (name-fcbOf (w .log) (nm .log) i l))) apart)
+    (λ y. y)
+
+-- ---- what a run that answered "picked and logged" left
+module _ {G : Geometry} (S : Sound G) (t : Time) (w : Wanted) (nm : Named w) (d e : Disk) (g : PickGrew G t w d e) where
+  abbrev m : Disk
+  m = g .mid
+
+  abbrev user : ℕ
+  user = d .session .user
+
+  abbrev P : Stamp → Type 0
+  P = PickAccess G t w d
+
+  abbrev log : Bytes
+  log = fcbOf (w .log)
+
+  hu : user ≤ 15
+  hu = g .sane .range .user
+
+  user-is : e .session .user ≡ user
+  user-is = g .log .user ∙ g .before .user
+
+  sane-mid : Sane G m
+  sane-mid = sane-restamped S P d m (g .sane) (g .before)
+
+  size-is : sizeIs G m (w .log) ≡ sizeIs G d (w .log)
+  size-is = size-same S P d m (g .sane) (g .before) (w .log)
+
+  grown : Grown G (seenOn G m) (seenOn G e) user log (sizeIs G d (w .log)) (logRecord (w .year) (w .day))
+  grown =
+      subst (λ (n : ℕ). Grown G (seenOn G m) (seenOn G e) user log n (logRecord (w .year) (w .day))) size-is
+      (subst (λ (u : ℕ). Grown G (seenOn G m) (seenOn G e) u log (sizeIs G m (w .log)) (logRecord (w .year) (w .day))) (g .before .user) (g .log .grown))
+
+  -- the log
+  pub log-first : First G (seenOn G e) (e .session .user) (fcbOf (w .log))
+  log-first = subst (λ (u : ℕ). First G (seenOn G e) u log) (sym (g .log .user)) (g .log .first)
+
+  pub log-new : Stored G (seenOn G e) (e .session .user) (fcbOf (w .log)) (sizeIs G d (w .log)) (logRecord (w .year) (w .day))
+  log-new = rw user-is (grown-new S (seenOn G m) (seenOn G e) (sane-mid .good .inv) user hu log (sizeIs G d (w .log)) (logRecord (w .year) (w .day)) grown)
+
+  pub log-kept : (r : ℕ) (v : Bytes) → Stored G (seenOn G d) (d .session .user) (fcbOf (w .log)) r v → Stored G (seenOn G e) (e .session .user) (fcbOf (w .log)) r v
+  unfolding sizeIs
+  log-kept r v k =
+      rw user-is (grown-stays S (seenOn G m) (seenOn G e) (sane-mid .good .inv) user hu log (sizeIs G d (w .log)) (logRecord (w .year) (w .day)) grown r v
+      (stored-restamped S P d m (g .sane) (g .before) user hu log r v k)
+      (λ z. omega (arith, stored-below G d (g .sane) log r v k, z)))
+
+  pub log-size : sizeIs G e (w .log) ≡ sizeIs G d (w .log) + 1
+  unfolding sizeIs
+  log-size =
+      rw user-is (grown-size S (seenOn G m) (seenOn G e) (sane-mid .good .inv) user hu log (sizeIs G d (w .log)) (logRecord (w .year) (w .day)) grown
+      (sym (size-restamped S P d m (g .sane) (g .before) user hu log)))
+
+  -- the book
+  abbrev book : Bytes
+  book = fcbOf (w .book)
+
+  other : (r : Bytes) → named false user book 1 r ≡ true → byName user log r ≡ false
+  other = apart-names w nm (g .apart) user
+
+  pub book-first : First G (seenOn G d) (d .session .user) (fcbOf (w .book)) → First G (seenOn G e) (e .session .user) (fcbOf (w .book))
+  book-first k =
+      rw user-is (first-kept S (seenOn G m) (seenOn G e) (byName user log) user hu book
+      (grown-effect S (seenOn G m) (seenOn G e) (sane-mid .good .inv) user hu log (sizeIs G d (w .log)) (logRecord (w .year) (w .day)) grown) other
+      (first-restamped S P d m (g .sane) (g .before) user hu book k))
+
+  pub book-kept : (r : ℕ) (v : Bytes) → Stored G (seenOn G d) (d .session .user) (fcbOf (w .book)) r v → Stored G (seenOn G e) (e .session .user) (fcbOf (w .book)) r v
+  book-kept r v k =
+      rw user-is (stored-kept S (seenOn G m) (seenOn G e) (byName user log) user hu book
+      (grown-effect S (seenOn G m) (seenOn G e) (sane-mid .good .inv) user hu log (sizeIs G d (w .log)) (logRecord (w .year) (w .day)) grown) other r v
+      (stored-restamped S P d m (g .sane) (g .before) user hu book r v k))
+
+-- ---- theorem 2
+module _ {G : Geometry} (S : Sound G) (countable : G .perBlock * G .blocks < 16777216) (w : Wanted) (nm : Named w) (a : Asked) (time : timeRight a ≡ true) where
+  -- the log as the calls tell it, at any time: one record more, at the old size, which has the year and day; and every record that was there
+  pub record LoggedOnce (d e : Disk) : Type 0 where
+    pub size : sizeIs G e (w .log) ≡ sizeIs G d (w .log) + 1
+    pub told : accepts G e (asks a 35 (fcbOf (w .log)) blankBuffer) ≡ true
+    pub tells : randomOf (outcomeOf G e (asks a 35 (fcbOf (w .log)) blankBuffer) .lent .fcb) ≡ sizeIs G d (w .log) + 1
+    pub new : ReadsAs G a e (fcbOf (w .log)) (sizeIs G d (w .log)) (logRecord (w .year) (w .day))
+    pub kept : (r : ℕ) (v : Bytes) → r < 16777216 → ReadsAs G a d (fcbOf (w .log)) r v → ReadsAs G a e (fcbOf (w .log)) r v
+
+  module _ (t : Time) (d e : Disk) (g : PickGrew G t w d e) where
+    abbrev begins : Begins (fcbOf (w .log))
+    begins = begins-fcbOf (w .log) (nm .log)
+
+    log-there : accepts G e (asks a 35 (fcbOf (w .log)) blankBuffer) ≡ true
+    log-there =
+        let f = log-first S t w nm d e g in
+        size-accepted G e (g .log .sane) (fcbOf (w .log)) begins a time blankBuffer (length-copies recordBytes 0) (f .entry) (f .low)
+        (file-named G (e .session .user) (fcbOf (w .log)) 1 0 (entryAt G (e .drive .image) (f .entry)) (f .file))
+
+    log-reads : (r : ℕ) (v : Bytes) → Stored G (seenOn G e) (e .session .user) (fcbOf (w .log)) r v → ReadsAs G a e (fcbOf (w .log)) r v
+    log-reads r v k = reads-as S a e (fcbOf (w .log)) begins r v (g .log .sane) time (log-first S t w nm d e g) k
+
+    once : LoggedOnce d e
+    unfolding sizeIs
+    once = record {
+      size = log-size S t w nm d e g;
+      told = log-there;
+      tells = size-told G e (g .log .sane) (fcbOf (w .log)) (begins .long) a blankBuffer log-there ∙ log-size S t w nm d e g;
+      new = log-reads (sizeIs G d (w .log)) (logRecord (w .year) (w .day)) (log-new S t w nm d e g);
+      kept = λ r v small k. log-reads r v (log-kept S t w nm d e g r v (as-stored S a d (fcbOf (w .log)) begins r v small k));
+    }
+
+  pub logged-once : (t : Time) (d : Disk) (buffer : Bytes) → picked G t w d buffer .pick ≡ Logged → LoggedOnce d (picked G t w d buffer .disk)
+  logged-once t d buffer h = go (pick-run S countable t w nm d buffer .left)
+    where
+      go : Left G t w d (picked G t w d buffer) → LoggedOnce d (picked G t w d buffer .disk)
+      go (same f r) = not-both _ (ap isLogged h) f
+      go (more p y g) = once t d (picked G t w d buffer .disk) g

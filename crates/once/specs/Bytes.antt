@@ -58,10 +58,12 @@ module _ (name : Bytes) (h : length name ≡ nameBytes) where
   zero-at i l b =
       getD-splice-out (copies fcbBytes 0) 1 name room i (split b (λ k. inl k) (λ k. inr (omega (arith, h)))) ∙ getD-copies fcbBytes 0 i l
 
-  -- the name's bytes
-  pub name-fcbOf : (i : ℕ) → i < nameBytes → getD (fcbOf name) (1 + i) 0 ≡ getD name i 0
+  -- the name's bytes: from 1 on in the FCB, from 0 on by itself
+  pub name-fcbOf : (i : ℕ) → i < nameBytes → getD (fcbOf name) (1 + i) 0 ≡ getD name (0 + i) 0
   unfolding fcbOf
-  name-fcbOf i b = getD-splice-in (copies fcbBytes 0) 1 name room i (omega (arith, h))
+  name-fcbOf i b =
+      let z : i ≡ 0 + i = omega arith in
+      getD-splice-in (copies fcbBytes 0) 1 name room i (omega (arith, h)) ∙ ap (λ (k : ℕ). getD name k 0) z
 
   pub ex-fcbOf : exOf (fcbOf name) ≡ 0
   ex-fcbOf = zero-at 12 (omega arith) (inr (omega arith))

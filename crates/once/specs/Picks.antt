@@ -66,7 +66,7 @@ pub record PickGrew (G : Geometry) (t : Time) (w : Wanted) (d e : Disk) : Type 0
 
 pub data Left (G : Geometry) (t : Time) (w : Wanted) (d : Disk) (p : Picked) : Type 0 where
   same : isLogged (p .pick) ≡ false → Restamped G (PickAccess G t w d) d (p .disk) → Left G t w d p
-  more : p .pick ≡ Logged → PickGrew G t w d (p .disk) → Left G t w d p
+  more : p .pick ≡ Logged → p .given ≡ true → PickGrew G t w d (p .disk) → Left G t w d p
 
 pub record PickRun (G : Geometry) (t : Time) (w : Wanted) (d : Disk) (buffer : Bytes) (p : Picked) : Type 0 where
   pub pick : p .pick ≡ answer G w d t buffer
@@ -217,7 +217,7 @@ module _ {G : Geometry} (S : Sound G) (countable : G .perBlock * G .blocks < 167
             (restamped-more G (LogAccess G t w (left u)) (left u) (l .disk) (PickAccess G t w d) log-access r)))
         log-left apart l (grew p r g) =
             (p ∙ sym r ∙ log-same S (BookAccess G t w d) d (left u) sane read w,
-            more p (record { sane = sane; apart = apart; mid = left u; before = book-only (left u) read; log = g }))
+            more p refl (record { sane = sane; apart = apart; mid = left u; before = book-only (left u) read; log = g }))
 
         given-run : PickRun G t w d buffer (fetched G t w m f buffer)
         unfolding fetched worded wordAnswer

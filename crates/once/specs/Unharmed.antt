@@ -74,7 +74,7 @@ module _ {G : Geometry} (S : Sound G) (countable : G .perBlock * G .blocks < 167
     where
       go : Left G t w d (picked G t w d buffer) → Restamped G (PickAccess G t w d) d (picked G t w d buffer .disk)
       go (same f r) = r
-      go (more p g) = absurd (n p)
+      go (more p y g) = absurd (n p)
 
   -- ---- theorem 5
   -- byte i lies in an entry of the log, in an empty one that became the log's, in a stamp beside one of these, in a record of a block that was free or
@@ -121,7 +121,7 @@ module _ {G : Geometry} (S : Sound G) (countable : G .perBlock * G .blocks < 167
     where
       go : Left G t w d (picked G t w d buffer) → (getD (picked G t w d buffer .disk .drive .image) i 0 ≡ getD (d .drive .image) i 0) ⊎ Touched i
       go (same f r) = stamped-byte sane e r i
-      go (more p g) = grown-byte g i
+      go (more p y g) = grown-byte g i
 
   -- image and map stay right
   pub map-stays-right : Good G (d .drive .image) (d .drive .map) → Good G (picked G t w d buffer .disk .drive .image) (picked G t w d buffer .disk .drive .map)
@@ -129,7 +129,7 @@ module _ {G : Geometry} (S : Sound G) (countable : G .perBlock * G .blocks < 167
     where
       go : Left G t w d (picked G t w d buffer) → Good G (picked G t w d buffer .disk .drive .image) (picked G t w d buffer .disk .drive .map)
       go (same f r) = good-restamped S (PickAccess G t w d) d e r h
-      go (more p g) = g .log .sane .good
+      go (more p y g) = g .log .sane .good
 
   -- nothing is pending that was not before: each note stays, or becomes recorded
   pub nothing-pending : (b : ℕ) → b < G .blocks → isPending (noteAt (picked G t w d buffer .disk .drive .map) b) ≡ true
@@ -139,7 +139,7 @@ module _ {G : Geometry} (S : Sound G) (countable : G .perBlock * G .blocks < 167
     where
       go : Left G t w d (picked G t w d buffer) → noteAt (picked G t w d buffer .disk .drive .map) b ≡ noteAt (d .drive .map) b
       go (same f r) = ap (λ (m : Bytes). noteAt m b) (r .map)
-      go (more p g) =
+      go (more p y g) =
           split (g .log .grown .notes b low) (λ q. q ∙ ap (λ (m : Bytes). noteAt m b) (g .before .map))
           (λ q. absurd (omega (arith, leb-true 16 (noteAt (e .drive .map) b) h, q)))
 
@@ -149,11 +149,11 @@ module _ {G : Geometry} (S : Sound G) (countable : G .perBlock * G .blocks < 167
     where
       go : Left G t w d (picked G t w d buffer) → picked G t w d buffer .disk .session .user ≡ d .session .user
       go (same f r) = r .user
-      go (more p g) = g .log .user ∙ g .before .user
+      go (more p y g) = g .log .user ∙ g .before .user
 
   pub protection-stays : picked G t w d buffer .disk .session .lifted ≡ d .session .lifted
   protection-stays = go left
     where
       go : Left G t w d (picked G t w d buffer) → picked G t w d buffer .disk .session .lifted ≡ d .session .lifted
       go (same f r) = r .lifted
-      go (more p g) = g .log .lifted ∙ g .before .lifted
+      go (more p y g) = g .log .lifted ∙ g .before .lifted
