@@ -29,7 +29,7 @@ use Rattle.demands.specs.Runs.{Disk, outcomeOf, accepts}
 use Rattle.stored.specs.Closed.{Sane, seenOn, Begins, First, Stored, Restamped, asks}
 use Rattle.stored.specs.Restamped.{sane-restamped, first-restamped, stored-restamped, size-restamped}
 use Rattle.stored.specs.Kept.{first-kept, stored-kept}
-use Rattle.stored.specs.Looking.{ReadsAs, blankBuffer, reads-as, as-stored, as-first, size-accepted, size-told, stored-below}
+use Rattle.stored.specs.Looking.{ReadsAs, blankBuffer, opening-of, reads-as, as-stored, as-first, size-small, size-accepted, size-told, stored-below}
 use Rattle.stored.specs.Grown.{Grown, grown-new, grown-stays, grown-size}
 use Rattle.stored.specs.Elsewhere.{grown-effect}
 use Rattle.stored.specs.Told.{is-stored, stored-is, stored-bytes}
@@ -319,3 +319,128 @@ module _ {G : Geometry} (S : Sound G) (countable : G .perBlock * G .blocks < 167
       go : Left G t w d (picked G t w d buffer) → LoggedOnce d (picked G t w d buffer .disk)
       go (same f r) = not-both _ (ap isLogged h) f
       go (more p y g) = once t d (picked G t w d buffer .disk) g
+
+  -- a log record has the year and day, and nothing comes before that: the day is one of a year, the word can be read, and book and log are two files
+  pub record Repeats (d : Disk) : Type 0 where
+    pub day : w .day ≤ lastDay
+    pub word : Bytes
+    pub reads : ReadsAs G a d (fcbOf (w .book)) (w .day) word
+    pub apart : oneFile w ≡ false
+    pub place : ℕ
+    pub below : place < sizeIs G d (w .log)
+    pub bytes : Bytes
+    pub log : ReadsAs G a d (fcbOf (w .log)) place bytes
+    pub has : hasStamp (w .year) (w .day) bytes ≡ true
+
+  pub again-says : (t : Time) (d : Disk) (buffer : Bytes) → picked G t w d buffer .pick ≡ Again → Repeats d
+  unfolding sizeIs
+  again-says t d buffer h =
+      let x = again-done S countable t w nm d buffer h in
+      record {
+        day = x .day;
+        word = picked G t w d buffer .word;
+        reads = reads-as S a d (fcbOf (w .book)) (begins-fcbOf (w .book) (nm .book)) (w .day) _ (x .sane) time (x .book) (x .stored);
+        apart = x .apart;
+        place = x .place;
+        below = stored-below G d (x .sane) (fcbOf (w .log)) (x .place) (x .bytes) (x .has);
+        bytes = x .bytes;
+        log = reads-as S a d (fcbOf (w .log)) (begins-fcbOf (w .log) (nm .log)) (x .place) (x .bytes) (x .sane) time (x .log) (x .has);
+        has = x .stamp;
+      }
+
+  repeats-done : (d : Disk) (r : Repeats d) → Done G w d (r .word)
+  unfolding sizeIs
+  repeats-done d r =
+      let op = opening-of S a d (fcbOf (w .book)) (begins-fcbOf (w .book) (nm .book)) _ (r .reads .opens) in
+      let small = size-small G d (op .sane) (fcbOf (w .log)) in
+      let day = r .day in
+      record {
+        day = r .day;
+        apart = r .apart;
+        sane = op .sane;
+        book = op .first;
+        stored = as-stored S a d (fcbOf (w .book)) (begins-fcbOf (w .book) (nm .book)) (w .day) (r .word) (omega arith) (r .reads);
+        log = as-first S a d (fcbOf (w .log)) (begins-fcbOf (w .log) (nm .log)) (r .place) (r .bytes) (r .log);
+        place = r .place;
+        bytes = r .bytes;
+        has = as-stored S a d (fcbOf (w .log)) (begins-fcbOf (w .log) (nm .log)) (r .place) (r .bytes) (omega (arith, r .below, small)) (r .log);
+        stamp = r .has;
+      }
+
+  pub repeats-again : (t : Time) → Timed t → (d : Disk) (buffer : Bytes) → length buffer ≡ recordBytes → (r : Repeats d)
+      → (picked G t w d buffer .pick ≡ Again) × (picked G t w d buffer .word ≡ r .word)
+  repeats-again t timed d buffer long r =
+      let x = repeats-done d r in
+      (done-again S countable w nm d (r .word) x t timed buffer long, done-word S countable w nm d (r .word) x t timed buffer long)
+
+-- ---- theorem 3
+module _ {G : Geometry} (S : Sound G) (countable : G .perBlock * G .blocks < 16777216) (w : Wanted) (nm : Named w) (t : Time) (d : Disk) (buffer : Bytes) where
+  abbrev e : Disk
+  e = picked G t w d buffer .disk
+
+  abbrev word : Bytes
+  word = picked G t w d buffer .word
+
+  not-logged : Again ≡ Logged → ⊥
+  not-logged q = let z : true ≡ false = ap isAgain q in not-both true refl z
+
+  again-left : picked G t w d buffer .pick ≡ Again → Done G w (picked G t w d buffer .disk) (picked G t w d buffer .word)
+  again-left h =
+      let x = again-done S countable t w nm d buffer h in
+      let r = trouble-unharmed S countable t w nm d buffer (λ q. not-logged (sym h ∙ q)) in
+      let P : Stamp → Type 0 = PickAccess G t w d in
+      let hu : d .session .user ≤ 15 = x .sane .range .user in
+      record {
+        day = x .day;
+        apart = x .apart;
+        sane = sane-restamped S (PickAccess G t w d) d e (x .sane) r;
+        book = rw (r .user) (first-restamped S (PickAccess G t w d) d e (x .sane) r (d .session .user) hu (fcbOf (w .book)) (x .book));
+        stored = rw (r .user) (stored-restamped S (PickAccess G t w d) d e (x .sane) r (d .session .user) hu (fcbOf (w .book)) (w .day) word (x .stored));
+        log = rw (r .user) (first-restamped S (PickAccess G t w d) d e (x .sane) r (d .session .user) hu (fcbOf (w .log)) (x .log));
+        place = x .place;
+        bytes = x .bytes;
+        has = rw (r .user) (stored-restamped S (PickAccess G t w d) d e (x .sane) r (d .session .user) hu (fcbOf (w .log)) (x .place) (x .bytes) (x .has));
+        stamp = x .stamp;
+      }
+
+  logged-left : picked G t w d buffer .pick ≡ Logged → Done G w (picked G t w d buffer .disk) (picked G t w d buffer .word)
+  logged-left h = go (pick-run S countable t w nm d buffer .left)
+    where
+      go : Left G t w d (picked G t w d buffer) → Done G w (picked G t w d buffer .disk) (picked G t w d buffer .word)
+      go (same f r) = not-both _ (ap isLogged h) f
+      go (more p y g) =
+          let r = pick-run S countable t w nm d buffer in
+          let has : hasWord G t w d buffer ≡ true = sym (r .given) ∙ y in
+          let c = can-read t w d buffer has in
+          record {
+            day = c .day;
+            apart = g .apart;
+            sane = g .log .sane;
+            book = book-first S t w nm d e g (c .first);
+            stored = subst (Stored G (seenOn G e) (e .session .user) (fcbOf (w .book)) (w .day))
+                (sym (r .word ∙ ap (λ (b : Bool). cond b (bytesAre G d (w .book) (w .day)) buffer) has)) (book-kept S t w nm d e g (w .day) _ (c .stored));
+            log = log-first S t w nm d e g;
+            place = sizeIs G d (w .log);
+            bytes = logRecord (w .year) (w .day);
+            has = log-new S t w nm d e g;
+            stamp = logRecord-has (w .year) (w .day);
+          }
+
+  -- what a second run says of the first: again, the same word, and no byte of image or map changed but access stamps
+  pub record SecondRun (again : Time) (p q : Picked) : Type 0 where
+    pub answer : q .pick ≡ Again
+    pub given : q .given ≡ true
+    pub word : q .word ≡ p .word
+    pub unharmed : Restamped G (PickAccess G again w (p .disk)) (p .disk) (q .disk)
+
+  pub second-run : (picked G t w d buffer .pick ≡ Logged) ⊎ (picked G t w d buffer .pick ≡ Again) → (again : Time) → Timed again → (other : Bytes)
+      → length other ≡ recordBytes → SecondRun again (picked G t w d buffer) (picked G again w (picked G t w d buffer .disk) other)
+  second-run success again timed other long =
+      let x : Done G w e word = split success (λ h. logged-left h) (λ h. again-left h) in
+      let told : picked G again w e other .pick ≡ Again = done-again S countable w nm e word x again timed other long in
+      record {
+        answer = told;
+        given = done-given S countable w nm e word x again timed other long;
+        word = done-word S countable w nm e word x again timed other long;
+        unharmed = trouble-unharmed S countable again w nm e other (λ q. not-logged (sym told ∙ q));
+      }
