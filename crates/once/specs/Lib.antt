@@ -12,6 +12,7 @@ pub mod Records
 pub mod Right
 pub mod Same
 pub mod Search
+pub mod Session
 pub mod Table
 pub mod Unharmed
 pub mod Word
