@@ -281,15 +281,27 @@ module _ {G : Geometry} (S : Sound G) (t : Time) (w : Wanted) (nm : Named w) (d 
       (stored-restamped S P d m (g .sane) (g .before) user hu book r v k))
 
 -- ---- theorem 2
-module _ {G : Geometry} (S : Sound G) (countable : G .perBlock * G .blocks < 16777216) (w : Wanted) (nm : Named w) (a : Asked) (time : timeRight a ≡ true) where
-  -- the log as the calls tell it, at any time: one record more, at the old size, which has the year and day; and every record that was there
-  pub record LoggedOnce (d e : Disk) : Type 0 where
-    pub size : sizeIs G e (w .log) ≡ sizeIs G d (w .log) + 1
-    pub told : accepts G e (asks a 35 (fcbOf (w .log)) blankBuffer) ≡ true
-    pub tells : randomOf (outcomeOf G e (asks a 35 (fcbOf (w .log)) blankBuffer) .lent .fcb) ≡ sizeIs G d (w .log) + 1
-    pub new : ReadsAs G a e (fcbOf (w .log)) (sizeIs G d (w .log)) (logRecord (w .year) (w .day))
-    pub kept : (r : ℕ) (v : Bytes) → r < 16777216 → ReadsAs G a d (fcbOf (w .log)) r v → ReadsAs G a e (fcbOf (w .log)) r v
+-- the log as the calls tell it, at any time: one record more, at the old size, which has the year and day; and every record that was there
+pub record LoggedOnce (G : Geometry) (w : Wanted) (a : Asked) (d e : Disk) : Type 0 where
+  pub size : sizeIs G e (w .log) ≡ sizeIs G d (w .log) + 1
+  pub told : accepts G e (asks a 35 (fcbOf (w .log)) blankBuffer) ≡ true
+  pub tells : randomOf (outcomeOf G e (asks a 35 (fcbOf (w .log)) blankBuffer) .lent .fcb) ≡ sizeIs G d (w .log) + 1
+  pub new : ReadsAs G a e (fcbOf (w .log)) (sizeIs G d (w .log)) (logRecord (w .year) (w .day))
+  pub kept : (r : ℕ) (v : Bytes) → r < 16777216 → ReadsAs G a d (fcbOf (w .log)) r v → ReadsAs G a e (fcbOf (w .log)) r v
 
+-- a log record has the year and day, and nothing comes before that: the day is one of a year, the word can be read, and book and log are two files
+pub record Repeats (G : Geometry) (w : Wanted) (a : Asked) (d : Disk) : Type 0 where
+  pub day : w .day ≤ lastDay
+  pub word : Bytes
+  pub reads : ReadsAs G a d (fcbOf (w .book)) (w .day) word
+  pub apart : oneFile w ≡ false
+  pub place : ℕ
+  pub below : place < sizeIs G d (w .log)
+  pub bytes : Bytes
+  pub log : ReadsAs G a d (fcbOf (w .log)) place bytes
+  pub has : hasStamp (w .year) (w .day) bytes ≡ true
+
+module _ {G : Geometry} (S : Sound G) (countable : G .perBlock * G .blocks < 16777216) (w : Wanted) (nm : Named w) (a : Asked) (time : timeRight a ≡ true) where
   module _ (t : Time) (d e : Disk) (g : PickGrew G t w d e) where
     abbrev begins : Begins (fcbOf (w .log))
     begins = begins-fcbOf (w .log) (nm .log)
@@ -303,7 +315,7 @@ module _ {G : Geometry} (S : Sound G) (countable : G .perBlock * G .blocks < 167
     log-reads : (r : ℕ) (v : Bytes) → Stored G (seenOn G e) (e .session .user) (fcbOf (w .log)) r v → ReadsAs G a e (fcbOf (w .log)) r v
     log-reads r v k = reads-as S a e (fcbOf (w .log)) begins r v (g .log .sane) time (log-first S t w nm d e g) k
 
-    once : LoggedOnce d e
+    once : LoggedOnce G w a d e
     unfolding sizeIs
     once = record {
       size = log-size S t w nm d e g;
@@ -313,26 +325,14 @@ module _ {G : Geometry} (S : Sound G) (countable : G .perBlock * G .blocks < 167
       kept = λ r v small k. log-reads r v (log-kept S t w nm d e g r v (as-stored S a d (fcbOf (w .log)) begins r v small k));
     }
 
-  pub logged-once : (t : Time) (d : Disk) (buffer : Bytes) → picked G t w d buffer .pick ≡ Logged → LoggedOnce d (picked G t w d buffer .disk)
+  pub logged-once : (t : Time) (d : Disk) (buffer : Bytes) → picked G t w d buffer .pick ≡ Logged → LoggedOnce G w a d (picked G t w d buffer .disk)
   logged-once t d buffer h = go (pick-run S countable t w nm d buffer .left)
     where
-      go : Left G t w d (picked G t w d buffer) → LoggedOnce d (picked G t w d buffer .disk)
+      go : Left G t w d (picked G t w d buffer) → LoggedOnce G w a d (picked G t w d buffer .disk)
       go (same f r) = not-both _ (ap isLogged h) f
       go (more p y g) = once t d (picked G t w d buffer .disk) g
 
-  -- a log record has the year and day, and nothing comes before that: the day is one of a year, the word can be read, and book and log are two files
-  pub record Repeats (d : Disk) : Type 0 where
-    pub day : w .day ≤ lastDay
-    pub word : Bytes
-    pub reads : ReadsAs G a d (fcbOf (w .book)) (w .day) word
-    pub apart : oneFile w ≡ false
-    pub place : ℕ
-    pub below : place < sizeIs G d (w .log)
-    pub bytes : Bytes
-    pub log : ReadsAs G a d (fcbOf (w .log)) place bytes
-    pub has : hasStamp (w .year) (w .day) bytes ≡ true
-
-  pub again-says : (t : Time) (d : Disk) (buffer : Bytes) → picked G t w d buffer .pick ≡ Again → Repeats d
+  pub again-says : (t : Time) (d : Disk) (buffer : Bytes) → picked G t w d buffer .pick ≡ Again → Repeats G w a d
   unfolding sizeIs
   again-says t d buffer h =
       let x = again-done S countable t w nm d buffer h in
@@ -348,7 +348,7 @@ module _ {G : Geometry} (S : Sound G) (countable : G .perBlock * G .blocks < 167
         has = x .stamp;
       }
 
-  repeats-done : (d : Disk) (r : Repeats d) → Done G w d (r .word)
+  repeats-done : (d : Disk) (r : Repeats G w a d) → Done G w d (r .word)
   unfolding sizeIs
   repeats-done d r =
       let op = opening-of S a d (fcbOf (w .book)) (begins-fcbOf (w .book) (nm .book)) _ (r .reads .opens) in
@@ -367,13 +367,20 @@ module _ {G : Geometry} (S : Sound G) (countable : G .perBlock * G .blocks < 167
         stamp = r .has;
       }
 
-  pub repeats-again : (t : Time) → Timed t → (d : Disk) (buffer : Bytes) → length buffer ≡ recordBytes → (r : Repeats d)
+  pub repeats-again : (t : Time) → Timed t → (d : Disk) (buffer : Bytes) → length buffer ≡ recordBytes → (r : Repeats G w a d)
       → (picked G t w d buffer .pick ≡ Again) × (picked G t w d buffer .word ≡ r .word)
   repeats-again t timed d buffer long r =
       let x = repeats-done d r in
       (done-again S countable w nm d (r .word) x t timed buffer long, done-word S countable w nm d (r .word) x t timed buffer long)
 
 -- ---- theorem 3
+-- what a second run says of the first: again, the same word, and no byte of image or map changed but access stamps
+pub record SecondRun (G : Geometry) (w : Wanted) (again : Time) (p q : Picked) : Type 0 where
+  pub answer : q .pick ≡ Again
+  pub given : q .given ≡ true
+  pub word : q .word ≡ p .word
+  pub unharmed : Restamped G (PickAccess G again w (p .disk)) (p .disk) (q .disk)
+
 module _ {G : Geometry} (S : Sound G) (countable : G .perBlock * G .blocks < 16777216) (w : Wanted) (nm : Named w) (t : Time) (d : Disk) (buffer : Bytes) where
   abbrev e : Disk
   e = picked G t w d buffer .disk
@@ -426,15 +433,8 @@ module _ {G : Geometry} (S : Sound G) (countable : G .perBlock * G .blocks < 167
             stamp = logRecord-has (w .year) (w .day);
           }
 
-  -- what a second run says of the first: again, the same word, and no byte of image or map changed but access stamps
-  pub record SecondRun (again : Time) (p q : Picked) : Type 0 where
-    pub answer : q .pick ≡ Again
-    pub given : q .given ≡ true
-    pub word : q .word ≡ p .word
-    pub unharmed : Restamped G (PickAccess G again w (p .disk)) (p .disk) (q .disk)
-
   pub second-run : (picked G t w d buffer .pick ≡ Logged) ⊎ (picked G t w d buffer .pick ≡ Again) → (again : Time) → Timed again → (other : Bytes)
-      → length other ≡ recordBytes → SecondRun again (picked G t w d buffer) (picked G again w (picked G t w d buffer .disk) other)
+      → length other ≡ recordBytes → SecondRun G w again (picked G t w d buffer) (picked G again w (picked G t w d buffer .disk) other)
   second-run success again timed other long =
       let x : Done G w e word = split success (λ h. logged-left h) (λ h. again-left h) in
       let told : picked G again w e other .pick ≡ Again = done-again S countable w nm e word x again timed other long in

@@ -57,6 +57,14 @@ good-restamped {G} S P d t w g =
     (split (w .dates) (λ z. subst (λ (i : Bytes). Good G i (d .drive .map)) (sym (unstamped G P d t w z)) g)
     (λ y. subst (λ (i : Bytes). Good G i (d .drive .map)) (sym (w .image)) (stamped-all S (d .drive .map) (w .stamps) (d .drive .image) g y (w .placed) .good)))
 
+-- byte i lies in an entry of the log, in an empty one that became the log's, in a stamp beside one of these, in a record of a block that was free or
+-- the log's; or in the access stamp of an entry of the book
+abbrev pub Touched : Geometry → Time → Wanted → Disk → Disk → ℕ → Type 0
+Touched G t w d e i =
+    Where G (d .drive .image) (e .drive .image) (byName (d .session .user) (fcbOf (w .log)))
+    (FileBlock G (d .drive .image) (d .drive .map) (d .session .user) (fcbOf (w .log))) i
+    ⊎ Lies G (BookAccess G t w d) i
+
 module _ {G : Geometry} (S : Sound G) (countable : G .perBlock * G .blocks < 16777216) (t : Time) (w : Wanted) (nm : Named w) (d : Disk) (buffer : Bytes) where
   abbrev e : Disk
   e = picked G t w d buffer .disk
@@ -77,19 +85,11 @@ module _ {G : Geometry} (S : Sound G) (countable : G .perBlock * G .blocks < 167
       go (more p y g) = absurd (n p)
 
   -- ---- theorem 5
-  -- byte i lies in an entry of the log, in an empty one that became the log's, in a stamp beside one of these, in a record of a block that was free or
-  -- the log's; or in the access stamp of an entry of the book
-  abbrev pub Touched : ℕ → Type 0
-  Touched i =
-      Where G (d .drive .image) (picked G t w d buffer .disk .drive .image) (byName (d .session .user) (fcbOf (w .log)))
-      (FileBlock G (d .drive .image) (d .drive .map) (d .session .user) (fcbOf (w .log))) i
-      ⊎ Lies G (BookAccess G t w d) i
-
-  stamped-byte : Sane G d → (m : Disk) → Restamped G (PickAccess G t w d) d m → (i : ℕ) → (getD (m .drive .image) i 0 ≡ getD (d .drive .image) i 0) ⊎ Touched i
+  stamped-byte : Sane G d → (m : Disk) → Restamped G (PickAccess G t w d) d m → (i : ℕ) → (getD (m .drive .image) i 0 ≡ getD (d .drive .image) i 0) ⊎ Touched G t w d (picked G t w d buffer .disk) i
   stamped-byte sane m r i =
       split (restamped-bytes S (PickAccess G t w d) d m sane r i) (λ q. inl q) (λ x. out x)
     where
-      out : Lies G (PickAccess G t w d) i → (getD (m .drive .image) i 0 ≡ getD (d .drive .image) i 0) ⊎ Touched i
+      out : Lies G (PickAccess G t w d) i → (getD (m .drive .image) i 0 ≡ getD (d .drive .image) i 0) ⊎ Touched G t w d (picked G t w d buffer .disk) i
       out (lies x p (inl h)) = inr (inr (lies x p h))
       out (lies x p (inr h)) =
           split (restamped-beside S (PickAccess G t w d) d m sane r i x p) (λ q. inl q)
@@ -100,7 +100,7 @@ module _ {G : Geometry} (S : Sound G) (countable : G .perBlock * G .blocks < 167
       subst (λ (u : ℕ). OnlyNamed G (byName u (fcbOf (w .log))) (entryAt G (g .mid .drive .image)) (entryAt G (e .drive .image))) (g .before .user)
       (grown-only (fcbOf (w .log)) (g .log .grown))
 
-  grown-byte : (g : PickGrew G t w d e) (i : ℕ) → (getD (e .drive .image) i 0 ≡ getD (d .drive .image) i 0) ⊎ Touched i
+  grown-byte : (g : PickGrew G t w d e) (i : ℕ) → (getD (e .drive .image) i 0 ≡ getD (d .drive .image) i 0) ⊎ Touched G t w d (picked G t w d buffer .disk) i
   grown-byte g i =
       let r = g .before in
       let frame = frame-wider G (g .mid .drive .image) (e .drive .image) (byName (g .mid .session .user) (fcbOf (w .log))) (byName user (fcbOf (w .log))) _
@@ -116,10 +116,10 @@ module _ {G : Geometry} (S : Sound G) (countable : G .perBlock * G .blocks < 167
       (only-log g) i p)))
 
   -- a byte that changed lies there
-  pub bytes-unharmed : Sane G d → (i : ℕ) → (getD (picked G t w d buffer .disk .drive .image) i 0 ≡ getD (d .drive .image) i 0) ⊎ Touched i
+  pub bytes-unharmed : Sane G d → (i : ℕ) → (getD (picked G t w d buffer .disk .drive .image) i 0 ≡ getD (d .drive .image) i 0) ⊎ Touched G t w d (picked G t w d buffer .disk) i
   bytes-unharmed sane i = go left
     where
-      go : Left G t w d (picked G t w d buffer) → (getD (picked G t w d buffer .disk .drive .image) i 0 ≡ getD (d .drive .image) i 0) ⊎ Touched i
+      go : Left G t w d (picked G t w d buffer) → (getD (picked G t w d buffer .disk .drive .image) i 0 ≡ getD (d .drive .image) i 0) ⊎ Touched G t w d (picked G t w d buffer .disk) i
       go (same f r) = stamped-byte sane e r i
       go (more p y g) = grown-byte g i
 
