@@ -5,9 +5,10 @@ use Rattle.lists.specs.Tests.{_or_}
 use Rattle.model.specs.declared.Answer.{Answer}
 use Rattle.model.specs.Kinds.{kindOf, ofRecord}
 use Rattle.model.specs.Lent.{Lent, Outcome}
+use Rattle.table.specs.Accepted.{acceptedAnswer}
 use Rattle.picking.specs.declared.Pick.{Pick}
-use Rattle.picking.specs.declared.Pick.the-variants.{Logged, NoWord}
-use Rattle.picking.specs.Picker.{accepted, isCode, otherwise}
+use Rattle.picking.specs.declared.Pick.the-variants.{Logged, NoWord, Other}
+use Rattle.picking.specs.Picker.{isCode, otherwise}
 
 -- an outcome with this answer
 abbrev pub said : Answer → Lent → Outcome
@@ -18,8 +19,8 @@ abbrev pub readTrouble : Outcome → Pick
 readTrouble o = cond (isCode 1 0 o or isCode 4 0 o) NoWord (otherwise o)
 
 -- the close of the log
-abbrev pub closeTold : Outcome → Pick
-closeTold o = cond (accepted 16 o) Logged (otherwise o)
+abbrev pub closeTold : Answer → Pick
+closeTold r = cond (acceptedAnswer 16 r) Logged (Other (r .a) (r .h))
 
 -- ---- the calls of the picker that move a record, and those that do not
 pub record OfRecords : Type 0 where

@@ -177,7 +177,7 @@ pub fn is_code(a: u8, h: u8, answer: Answer) -> bool
 
 // A refusal that has no name of its own.
 pub fn other(answer: Answer) -> Pick
-    ensures { λ r. ⌜ ((l : Lent) → r ≡ otherwise (said answer l)) ⌝ }
+    ensures { λ r. ⌜ r ≡ Pick.Other (answer .a) (answer .h) ⌝ }
 {
     Pick::Other(answer.a, answer.h)
 }
@@ -223,7 +223,7 @@ pub fn read_trouble(answer: Answer) -> Pick
 
 // What the close of the log comes to.
 pub fn close_told(answer: Answer) -> Pick
-    ensures { λ r. ⌜ ((l : Lent) → r ≡ closeTold (said answer l)) ⌝ }
+    ensures { λ r. ⌜ r ≡ closeTold answer ⌝ }
 {
     if entry_accepted(answer) {
         return Pick::Logged;

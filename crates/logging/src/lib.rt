@@ -126,7 +126,8 @@ fn make_log(
     ensures { λ r. ⌜ notes r (now (image .exit)) (now (map .exit))
         ≡ made eightInch time wanted (diskOf (now (image .entry)) (now (map .entry)) session) ⌝ }
 {
-    let mut f = logbook::fcb_of(wanted.log);
+    let log = wanted.log;
+    let mut f = logbook::fcb_of(log);
     let mut buffer = logbook::blank_record();
     let answer = lifted_call(time, 22, image, map, &mut f, &mut buffer, session);
     let left = answer.session;
@@ -150,7 +151,8 @@ pub fn begin_log(
     ensures { λ r. ⌜ notes r (now (image .exit)) (now (map .exit))
         ≡ begun eightInch time wanted (diskOf (now (image .entry)) (now (map .entry)) session) ⌝ }
 {
-    let mut f = logbook::fcb_of(wanted.log);
+    let log = wanted.log;
+    let mut f = logbook::fcb_of(log);
     let mut buffer = logbook::blank_record();
     let answer = call(time, 46, image, map, &mut f, &mut buffer, session);
     let left = answer.session;

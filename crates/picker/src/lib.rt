@@ -138,7 +138,8 @@ fn extend_log(
     ensures { λ r. ⌜ notes r (now (image .exit)) (now (map .exit))
         ≡ extended eightInch time wanted (diskOf (now (image .entry)) (now (map .entry)) session) n ⌝ }
 {
-    let mut f = logbook::fcb_of(wanted.log);
+    let log = wanted.log;
+    let mut f = logbook::fcb_of(log);
     let mut buffer = logbook::blank_record();
     let answer = logging::call(time, 15, image, map, &mut f, &mut buffer, session);
     let left = answer.session;
@@ -162,7 +163,8 @@ fn log_day(
     ensures { λ r. ⌜ notes r (now (image .exit)) (now (map .exit))
         ≡ logged eightInch time wanted (diskOf (now (image .entry)) (now (map .entry)) session) ⌝ }
 {
-    let mut f = logbook::fcb_of(wanted.log);
+    let log = wanted.log;
+    let mut f = logbook::fcb_of(log);
     let mut buffer = logbook::blank_record();
     let answer = logging::call(time, 35, image, map, &mut f, &mut buffer, session);
     let left = answer.session;
@@ -257,7 +259,8 @@ fn look_up(
     ensures { λ r. ⌜ picks r (now (word .exit)) (now (image .exit)) (now (map .exit))
         ≡ looked eightInch time wanted (diskOf (now (image .entry)) (now (map .entry)) session) (now (word .entry)) ⌝ }
 {
-    let mut f = logbook::fcb_of(wanted.book);
+    let book = wanted.book;
+    let mut f = logbook::fcb_of(book);
     let mut buffer = logbook::blank_record();
     let answer = logging::call(time, 15, image, map, &mut f, &mut buffer, session);
     let left = answer.session;

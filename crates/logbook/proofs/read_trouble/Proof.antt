@@ -16,7 +16,7 @@ returns-3 c l =
     rw (
       or-then _ _ (sym (c .before .before .before .before .is-code .ensures l) ∙ c .before .before .before .if1 .left),
       sym (c .before .before .is-code2 .ensures l) ∙ c .before .if2 .left,
-    ) (c .other .ensures l)
+    ) (c .other .ensures)
 
 pub read-trouble-spec : {M : Type 1} → statement M
 read-trouble-spec =

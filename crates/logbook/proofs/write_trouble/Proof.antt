@@ -30,7 +30,7 @@ returns-4 c G t w l =
       sym (c .before .before .before .before .before .before .is-code .ensures l) ∙ c .before .before .before .before .before .if1 .left,
       sym (c .before .before .before .before .is-code2 .ensures l) ∙ c .before .before .before .if2 .left,
       sym (c .before .before .is-code3 .ensures l) ∙ c .before .if3 .left,
-    ) (c .other .ensures l)
+    ) (c .other .ensures)
 
 pub write-trouble-spec : {M : Type 1} → statement M
 write-trouble-spec =
