@@ -1,19 +1,79 @@
--- What the picker's code hands back, and the laws by which its answers are the definition's.
+-- The picker: how each function of the definition goes on, by what its call came to. `o` is the outcome of that call.
 use mathlib.Core.Path.{_≡_, refl, ap, sym, _∙_}
 use mathlib.Core.Bool.{Bool, true, false, cond}
 use Prim.Native.Nat.{ℕ}
+use lib.Dec.{leb, ltb}
+use Rattle.lists.specs.Cases.{split, not-both}
 use Rattle.format.specs.Diskette.{Bytes, Geometry}
-use Rattle.demands.specs.Runs.{Disk, diskOf}
+use Rattle.format.specs.Fcb.{randomOf}
+use Rattle.model.specs.Lent.{Outcome}
+use Rattle.table.specs.Accepted.{acceptedAnswer, carried-says}
+use Rattle.table.specs.Total.{total}
+use Rattle.demands.specs.Runs.{Request, Disk, outcomeOf, left, lentTo}
 use Rattle.picking.specs.declared.Wanted.{Wanted}
 use Rattle.picking.specs.declared.Time.{Time}
-use Rattle.picking.specs.declared.Pick.the-variants.{OneFile}
-use Rattle.picking.specs.Picker.{Search, Logging, oneFile, logged}
-use Rattle.picker.specs.declared.Search as code
+use Rattle.picking.specs.declared.Pick.{Pick}
+use Rattle.picking.specs.declared.Pick.the-variants.{DayOver, NoBook, OneFile}
+use Rattle.picking.specs.Picker.{Logging, Picked, oneFile, lastDay, accepted, isCode, otherwise, tell, opening, reading, sizing, extended, begun, logged, worded, wordless, fetched, looked, picked}
+use Rattle.logbook.specs.Said.{readTrouble}
 
--- a search, as code carries it
-abbrev pub searches : code.Search → Bytes → Bytes → Search
-searches s image map = record { found = s .found; disk = diskOf image map (s .session) }
+-- a call that was refused leaves the buffer as it was
+pub refused-buffer : (G : Geometry) (d : Disk) (q : Request) (o : Outcome) → o ≡ outcomeOf G d q → acceptedAnswer (q .asked .number) (o .answer) ≡ false → o .lent .buffer ≡ q .buffer
+unfolding outcomeOf
+refused-buffer G d q o e a =
+    split (total G (q .asked) (lentTo d q) (d .session)) (λ r. ap (λ (x : Outcome). x .lent .buffer) (e ∙ r .1 .is))
+    (λ k. not-both _ (carried-says G (q .asked) (lentTo d q) (d .session) k) (rw e at a))
 
 -- the log, unless book and log are one file
 unfoldable pub loggedApart : Geometry → Time → Wanted → Disk → Logging
 loggedApart G t w d = cond (oneFile w) record { pick = OneFile; disk = d } (logged G t w d)
+
+module _ (G : Geometry) (t : Time) (w : Wanted) where
+  -- ---- the log sized
+  pub logged-extends : (d : Disk) (o : Outcome) → o ≡ outcomeOf G d (sizing t (w .log)) → accepted 35 o ≡ true → (n : ℕ) → n ≡ randomOf (o .lent .fcb)
+      → extended G t w (left o) n ≡ logged G t w d
+  unfolding logged
+  logged-extends d o e a n r = rw (← e, a, r)
+
+  pub logged-begins : (d : Disk) (o : Outcome) → o ≡ outcomeOf G d (sizing t (w .log)) → accepted 35 o ≡ false → isCode 255 0 o ≡ true → begun G t w (left o) ≡ logged G t w d
+  unfolding logged
+  logged-begins d o e a h = rw (← e, a, h)
+
+  pub logged-fails : (d : Disk) (o : Outcome) → o ≡ outcomeOf G d (sizing t (w .log)) → accepted 35 o ≡ false → isCode 255 0 o ≡ false → (p : Pick) → p ≡ otherwise o
+      → tell p o ≡ logged G t w d
+  unfolding logged
+  logged-fails d o e a h p r = rw (← e, a, h, r)
+
+  pub apart-one : (d : Disk) → oneFile w ≡ true → record { pick = OneFile; disk = d } ≡ loggedApart G t w d
+  unfolding loggedApart
+  apart-one d h = rw h
+
+  pub apart-logs : (d : Disk) → oneFile w ≡ false → logged G t w d ≡ loggedApart G t w d
+  unfolding loggedApart
+  apart-logs d h = rw h
+
+  -- ---- the word
+  pub handed-out : (d : Disk) (l : Logging) → l ≡ loggedApart G t w d → (o : Outcome) → left o ≡ d
+      → record { pick = l .pick; given = true; word = o .lent .buffer; disk = l .disk } ≡ worded G t w o
+  unfolding loggedApart worded
+  handed-out d l e o h = rw (e, ← h)
+
+  pub fetched-worded : (d : Disk) (f buffer : Bytes) (o : Outcome) → o ≡ outcomeOf G d (reading t f (w .day) buffer) → accepted 33 o ≡ true → worded G t w o ≡ fetched G t w d f buffer
+  unfolding fetched
+  fetched-worded d f buffer o e a = rw (← e, a)
+
+  pub fetched-fails : (d : Disk) (f buffer : Bytes) (o : Outcome) → o ≡ outcomeOf G d (reading t f (w .day) buffer) → accepted 33 o ≡ false → (p : Pick) → p ≡ readTrouble o
+      → wordless G t w p (o .lent .buffer) (left o) ≡ fetched G t w d f buffer
+  unfolding fetched
+  fetched-fails d f buffer o e a p r =
+      let b : o .lent .buffer ≡ buffer = refused-buffer G d (reading t f (w .day) buffer) o e a in rw (← e, a, r, b)
+
+  pub looked-fetches : (d : Disk) (buffer : Bytes) (o : Outcome) → o ≡ outcomeOf G d (opening t (w .book)) → accepted 15 o ≡ true
+      → fetched G t w (left o) (o .lent .fcb) buffer ≡ looked G t w d buffer
+  unfolding looked
+  looked-fetches d buffer o e a = rw (← e, a)
+
+  pub looked-fails : (d : Disk) (buffer : Bytes) (o : Outcome) → o ≡ outcomeOf G d (opening t (w .book)) → accepted 15 o ≡ false → (p : Pick) → p ≡ cond (isCode 255 0 o) NoBook (otherwise o)
+      → wordless G t w p buffer (left o) ≡ looked G t w d buffer
+  unfolding looked
+  looked-fails d buffer o e a p r = rw (← e, a, r)

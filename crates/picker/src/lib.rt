@@ -4,153 +4,14 @@ ghost use mathlib.Core.Path.{_≡_};
 ghost use Rattle.format.specs.Diskette.{eightInch};
 ghost use Rattle.model.specs.Lent.{Outcome};
 ghost use Rattle.demands.specs.Runs.{diskOf, left};
-ghost use Rattle.picking.specs.Picker.{notes, picks, look, searched, added, extended, logged, worded, fetched, looked, picked};
-ghost use Rattle.picker.specs.Laws.{searches, loggedApart};
+ghost use Rattle.picking.specs.Picker.{notes, picks, logged, worded, fetched, looked, picked};
+ghost use Rattle.picker.specs.Laws.{loggedApart};
 use model::Session;
 use picking::Noted;
 use picking::Pick;
 use picking::Time;
 use picking::Told;
 use picking::Wanted;
-
-// A log with so many records is full.
-const FULL_LOG: usize = 1024;
-
-// How far a search of the log has come: whether a record had the year and day, and the session that the reads left.
-pub struct Search {
-    pub found: bool,
-    pub session: Session,
-}
-
-// Record r of the log looked at, through the FCB that the open handed back; where a record was found before, none is read.
-fn look_at(
-    wanted: Wanted,
-    time: Time,
-    image: &mut [u8],
-    map: &mut [u16],
-    fcb: [u8; 36],
-    r: usize,
-    s: Search,
-) -> Search
-    ensures { λ x. ⌜ searches x (now (image .exit)) (now (map .exit))
-        ≡ look eightInch time wanted fcb (searches s (now (image .entry)) (now (map .entry))) r ⌝ }
-{
-    if s.found {
-        return s;
-    }
-    let mut f = logbook::at_record(fcb, r);
-    let mut buffer = logbook::blank_record();
-    let before = s.session;
-    let answer = logging::call(time, 33, image, map, &mut f, &mut buffer, before);
-    let left = answer.session;
-    if logbook::record_accepted(answer) {
-        return Search {
-            found: logbook::has_stamp(wanted.year, wanted.day, buffer),
-            session: left,
-        };
-    }
-    Search {
-        found: false,
-        session: left,
-    }
-}
-
-// The records below n looked at, one after the other.
-fn search(
-    wanted: Wanted,
-    time: Time,
-    image: &mut [u8],
-    map: &mut [u16],
-    fcb: [u8; 36],
-    n: usize,
-    session: Session,
-) -> Search
-    ensures { λ x. ⌜ searches x (now (image .exit)) (now (map .exit))
-        ≡ searched eightInch time wanted (diskOf (now (image .entry)) (now (map .entry)) session) fcb n ⌝ }
-{
-    let mut s = Search {
-        found: false,
-        session: session,
-    };
-    let mut r = 0;
-    while r < n {
-        s = look_at(wanted, time, image, map, fcb, r, s);
-        r += 1;
-    }
-    s
-}
-
-// The log was searched: where no record had the year and day, it is written at n.
-fn add(
-    wanted: Wanted,
-    time: Time,
-    image: &mut [u8],
-    map: &mut [u16],
-    fcb: [u8; 36],
-    n: usize,
-    s: Search,
-) -> Noted
-    ensures { λ r. ⌜ notes r (now (image .exit)) (now (map .exit))
-        ≡ added eightInch time wanted (searches s (now (image .entry)) (now (map .entry))) fcb n ⌝ }
-{
-    let session = s.session;
-    if s.found {
-        return Noted {
-            pick: Pick::Again,
-            session: session,
-        };
-    }
-    if FULL_LOG <= n {
-        return Noted {
-            pick: Pick::LogFull,
-            session: session,
-        };
-    }
-    logging::write_log(wanted, time, image, map, fcb, n, session)
-}
-
-// The log, open, has n records: it is searched, and written where no record had the year and day.
-fn search_and_add(
-    wanted: Wanted,
-    time: Time,
-    image: &mut [u8],
-    map: &mut [u16],
-    fcb: [u8; 36],
-    n: usize,
-    session: Session,
-) -> Noted
-    ensures { λ r. ⌜ notes r (now (image .exit)) (now (map .exit))
-        ≡ added eightInch time wanted (searched eightInch time wanted (diskOf (now (image .entry)) (now (map .entry)) session) fcb n) fcb n ⌝ }
-{
-    let s = search(wanted, time, image, map, fcb, n, session);
-    add(wanted, time, image, map, fcb, n, s)
-}
-
-// The log has n records: it is opened, and searched.
-fn extend_log(
-    wanted: Wanted,
-    time: Time,
-    image: &mut [u8],
-    map: &mut [u16],
-    n: usize,
-    session: Session,
-) -> Noted
-    ensures { λ r. ⌜ notes r (now (image .exit)) (now (map .exit))
-        ≡ extended eightInch time wanted (diskOf (now (image .entry)) (now (map .entry)) session) n ⌝ }
-{
-    let log = wanted.log;
-    let mut f = logbook::fcb_of(log);
-    let mut buffer = logbook::blank_record();
-    let answer = logging::call(time, 15, image, map, &mut f, &mut buffer, session);
-    let left = answer.session;
-    if logbook::entry_accepted(answer) {
-        return search_and_add(wanted, time, image, map, f, n, left);
-    }
-    Noted {
-        pick: logbook::missing(Pick::NoFirst, answer),
-        session: left,
-    }
-}
 
 // The day logged, by the size of the log.
 fn log_day(
@@ -169,7 +30,7 @@ fn log_day(
     let answer = logging::call(time, 35, image, map, &mut f, &mut buffer, session);
     let left = answer.session;
     if logbook::entry_accepted(answer) {
-        return extend_log(wanted, time, image, map, logbook::size_in(f), left);
+        return extending::extend_log(wanted, time, image, map, logbook::size_in(f), left);
     }
     if logbook::is_code(255, 0, answer) {
         return logging::begin_log(wanted, time, image, map, left);
