@@ -3,7 +3,7 @@
 ghost use mathlib.Core.Path.{_≡_};
 ghost use mathlib.Core.Bool.{true, false, cond};
 ghost use Prim.Native.Nat.{ℕ, _<_};
-ghost use lib.Dec.{leb};
+ghost use lib.Dec.{ltb};
 ghost use Rattle.format.specs.Diskette.{Geometry};
 ghost use Rattle.format.specs.Fcb.{randomOf};
 ghost use Rattle.model.specs.Kinds.{kindOf, ofRecord};
@@ -137,11 +137,11 @@ pub fn space_in(buffer: [u8; 128]) -> usize
     lists::wide(buffer[0]) + 256 * lists::wide(buffer[1]) + 65536 * lists::wide(buffer[2])
 }
 
-// Whether a day is one of a year.
-pub fn is_day(day: u16) -> bool
-    ensures { λ r. ⌜ r ≡ leb day lastDay ⌝ }
+// Whether a day is over the last of a year.
+pub fn day_over(day: u16) -> bool
+    ensures { λ r. ⌜ r ≡ ltb lastDay day ⌝ }
 {
-    day <= LAST_DAY
+    LAST_DAY < day
 }
 
 // ---- answers

@@ -2,7 +2,7 @@
 use mathlib.Core.Path.{_≡_, refl, ap, sym, _∙_}
 use mathlib.Core.Bool.{Bool, true, false, cond}
 use Prim.Native.Nat.{ℕ}
-use lib.Dec.{leb, ltb}
+use lib.Dec.{ltb}
 use Rattle.lists.specs.Cases.{split, not-both}
 use Rattle.format.specs.Diskette.{Bytes, Geometry}
 use Rattle.format.specs.Fcb.{randomOf}
@@ -77,3 +77,12 @@ module _ (G : Geometry) (t : Time) (w : Wanted) where
       → wordless G t w p buffer (left o) ≡ looked G t w d buffer
   unfolding looked
   looked-fails d buffer o e a p r = rw (← e, a, r)
+
+  -- ---- the day
+  pub picked-over : (d : Disk) (buffer : Bytes) → ltb lastDay (w .day) ≡ true → wordless G t w DayOver buffer d ≡ picked G t w d buffer
+  unfolding picked
+  picked-over d buffer h = rw h
+
+  pub picked-looks : (d : Disk) (buffer : Bytes) → ltb lastDay (w .day) ≡ false → looked G t w d buffer ≡ picked G t w d buffer
+  unfolding picked
+  picked-looks d buffer h = rw h

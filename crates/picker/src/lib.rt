@@ -147,12 +147,12 @@ pub fn pick(
     ensures { λ r. ⌜ picks r (now (word .exit)) (now (image .exit)) (now (map .exit))
         ≡ picked eightInch time wanted (diskOf (now (image .entry)) (now (map .entry)) session) (now (word .entry)) ⌝ }
 {
-    if logbook::is_day(wanted.day) {
-        return look_up(wanted, time, image, map, word, session);
+    if logbook::day_over(wanted.day) {
+        return Told {
+            pick: Pick::DayOver,
+            given: false,
+            session: session,
+        };
     }
-    Told {
-        pick: Pick::DayOver,
-        given: false,
-        session: session,
-    }
+    look_up(wanted, time, image, map, word, session)
 }

@@ -1,89 +1,67 @@
+-- `picker::fetch` meets its contract: by what the read came to; one that was refused left the bytes lent for the word.
+use mathlib.Core.Path.{refl, sym, _∙_}
 use borrow.Author.Needs.{needs}
+use Rattle.format.specs.Diskette.{eightInch}
+use Rattle.model.specs.Lent.{outcome}
+use Rattle.demands.specs.Runs.{diskOf, outcomeOf}
+use Rattle.logbook.specs.Said.{of-records}
+use Rattle.logging.specs.Laws.{asked-alike}
+use Rattle.picker.specs.Laws.{fetched-worded, fetched-fails}
 use Rattle.picker.proofs.fetch.Statement.{statement}
 use Rattle.picker.proofs.fetch.Tie as tie
-use Rattle.picker.proofs.fetch.Reads as reads
-use Rattle.picker.proofs.fetch.Lts as lts
-use Rattle.logbook.proofs.at_record.Reads as at-record-reads
-use Rattle.logbook.proofs.read_trouble.Reads as read-trouble-reads
-use Rattle.logbook.proofs.record_accepted.Reads as record-accepted-reads
-use Rattle.logging.proofs.call.Reads as call-reads
-use Rattle.picker.proofs.hand_out.Reads as hand-out-reads
 
--- src/lib.rt:98:41
-cast-at-record : tie.Need-cast-at-record
-cast-at-record c = search needs
-
--- src/lib.rt:98:17
-at-record-requires : tie.Need-at-record-requires
-at-record-requires c κs = search needs
-
--- src/lib.rt:99:54
-slice-aggregate-call : tie.Need-slice-aggregate-call
-slice-aggregate-call c = search needs
-
--- src/lib.rt:99:9
-call-requires : tie.Need-call-requires
-call-requires c κs = search needs
-
--- src/lib.rt:101:8
-record-accepted-requires : tie.Need-record-accepted-requires
-record-accepted-requires c κs = search needs
-
--- src/lib.rt:102:9
-hand-out-requires : tie.Need-hand-out-requires
-hand-out-requires c κs = search needs
-
--- src/lib.rt:102:9
 same-length : tie.Need-same-length
-same-length c = search needs
+same-length c = c .before .before .before .before .hand-out .kept .1 .1 .0 ∙ c .before .before .before .before .before .before .before .before .before .before .before .before .before .before .before .before .before .call .kept .1 .1 .0
 
--- src/lib.rt:102:9
 same-length-2 : tie.Need-same-length-2
-same-length-2 c = search needs
+same-length-2 c = c .before .before .before .before .hand-out .kept .1 .1 .1 .0 ∙ c .before .before .before .before .before .before .before .before .before .before .before .before .before .before .before .before .before .call .kept .1 .1 .1 .0
 
--- src/lib.rt:102:9
 same-length-3 : tie.Need-same-length-3
-same-length-3 c = search needs
+same-length-3 c = c .before .before .before .before .before .before .before .before .before .before .before .before .before .before .before .before .before .call .kept .1 .1 .1 .1 .1 .0
 
--- src/lib.rt:102:9
 returns : tie.Need-returns
-returns c = ?
+returns c =
+    let a = c .before .before .before .before .before .before .before .before .before .before .before .before .before .before .before .before .before .before .before .before .before .before .before .before .before .before .before .args in
+    let d = diskOf (a .image .now) (a .map .now) (a .session) in
+    let m = c .before .before .before .before .before .before .before .before .before .before .before .before .before .before .before .before .before .call in
+    let o = outcome (m .result) (m .last .1 .1 .0) (m .last .1 .1 .1 .0) (m .last .1 .1 .1 .1 .0) (m .last .1 .1 .1 .1 .1 .0) in
+    c .before .before .before .before .hand-out .ensures o refl
+    ∙ fetched-worded eightInch (a .time) (a .wanted) d (a .fcb) (a .word .now) o
+    (asked-alike (outcomeOf eightInch) d (a .time) 33 (m .ensures) (c .before .before .before .before .before .before .before .before .before .before .before .before .before .before .before .before .before .before .before .before .before .before .at-record .ensures) refl)
+    (sym (c .before .before .before .before .before .before .before .before .record-accepted .ensures 33 (of-records .read)) ∙ c .before .before .before .before .before .before .before .if1 .taken)
 
--- src/lib.rt:105:15
-read-trouble-requires : tie.Need-read-trouble-requires
-read-trouble-requires c κs = search needs
-
--- src/lib.rt:86:1
 same-length-4 : tie.Need-same-length-4
-same-length-4 c = search needs
+same-length-4 c = c .before .before .before .before .before .before .before .before .before .before .before .call .kept .1 .1 .0
 
--- src/lib.rt:86:1
 same-length-5 : tie.Need-same-length-5
-same-length-5 c = search needs
+same-length-5 c = c .before .before .before .before .before .before .before .before .before .before .before .call .kept .1 .1 .1 .0
 
--- src/lib.rt:86:1
 same-length-6 : tie.Need-same-length-6
-same-length-6 c = search needs
+same-length-6 c = c .before .before .before .before .before .before .before .before .before .before .before .call .kept .1 .1 .1 .1 .1 .0
 
--- src/lib.rt:86:1
 returns-2 : tie.Need-returns-2
-returns-2 c = ?
+returns-2 c =
+    let a = c .before .before .before .before .before .before .before .before .before .before .before .before .before .before .before .before .before .before .before .before .before .args in
+    let d = diskOf (a .image .now) (a .map .now) (a .session) in
+    fetched-fails eightInch (a .time) (a .wanted) d (a .fcb) (a .word .now) _
+    (asked-alike (outcomeOf eightInch) d (a .time) 33 (c .before .before .before .before .before .before .before .before .before .before .before .call .ensures) (c .before .before .before .before .before .before .before .before .before .before .before .before .before .before .before .before .at-record .ensures) refl)
+    (sym (c .before .before .record-accepted .ensures 33 (of-records .read)) ∙ c .before .if1 .left) _ (c .read-trouble .ensures _)
 
 pub fetch-spec : {M : Type 1} → statement M
 fetch-spec =
     tie.close
     (tie.spec
-    cast-at-record
-    at-record-requires
-    slice-aggregate-call
-    call-requires
-    record-accepted-requires
-    hand-out-requires
+    (λ c. search needs)
+    (λ c κs. search needs)
+    (λ c. search needs)
+    (λ c κs. search needs)
+    (λ c κs. search needs)
+    (λ c κs. search needs)
     same-length
     same-length-2
     same-length-3
     returns
-    read-trouble-requires
+    (λ c κs. search needs)
     same-length-4
     same-length-5
     same-length-6

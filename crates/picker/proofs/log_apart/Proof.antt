@@ -1,36 +1,28 @@
+-- `picker::log_apart` meets its contract: by the names.
+use mathlib.Core.Path.{sym, _∙_}
 use borrow.Author.Needs.{needs}
+use Rattle.format.specs.Diskette.{eightInch}
+use Rattle.demands.specs.Runs.{diskOf}
+use Rattle.picker.specs.Laws.{apart-one, apart-logs}
 use Rattle.picker.proofs.log_apart.Statement.{statement}
 use Rattle.picker.proofs.log_apart.Tie as tie
-use Rattle.picker.proofs.log_apart.Reads as reads
-use Rattle.picker.proofs.log_apart.Lts as lts
-use Rattle.logbook.proofs.one_file.Reads as one-file-reads
-use Rattle.picker.proofs.log_day.Reads as log-day-reads
 
--- src/lib.rt:55:8
-one-file-requires : tie.Need-one-file-requires
-one-file-requires c κs = search needs
-
--- src/lib.rt:56:9
 returns : tie.Need-returns
-returns c = ?
+returns c =
+    let a = c .before .before .before .before .args in
+    apart-one eightInch (a .time) (a .wanted) (diskOf (a .image .now) (a .map .now) (a .session)) (sym (c .before .one-file .ensures) ∙ c .if1 .taken)
 
--- src/lib.rt:61:5
-log-day-requires : tie.Need-log-day-requires
-log-day-requires c κs = search needs
-
--- src/lib.rt:45:1
 same-length : tie.Need-same-length
-same-length c = search needs
+same-length c = c .before .before .before .before .log-day .kept .1 .1 .0
 
--- src/lib.rt:45:1
 same-length-2 : tie.Need-same-length-2
-same-length-2 c = search needs
+same-length-2 c = c .before .before .before .before .log-day .kept .1 .1 .1 .0
 
--- src/lib.rt:45:1
 returns-2 : tie.Need-returns-2
-returns-2 c = ?
+returns-2 c =
+    let a = c .before .before .before .before .before .before .before .before .before .before .before .args in
+    c .before .before .before .before .log-day .ensures
+    ∙ apart-logs eightInch (a .time) (a .wanted) (diskOf (a .image .now) (a .map .now) (a .session)) (sym (c .before .before .before .before .before .before .before .before .one-file .ensures) ∙ c .before .before .before .before .before .before .before .if1 .left)
 
 pub log-apart-spec : {M : Type 1} → statement M
-log-apart-spec =
-    tie.close
-    (tie.spec one-file-requires returns log-day-requires same-length same-length-2 returns-2)
+log-apart-spec = tie.close (tie.spec (λ c κs. search needs) returns (λ c κs. search needs) same-length same-length-2 returns-2)
