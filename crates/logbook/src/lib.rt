@@ -12,6 +12,7 @@ ghost use Rattle.table.specs.Accepted.{acceptedAnswer};
 ghost use Rattle.demands.specs.Reading.{atRecord};
 ghost use Rattle.picking.specs.declared.Time.{Time};
 ghost use Rattle.picking.specs.declared.Wanted.{Wanted};
+ghost use Rattle.picking.specs.Numbers.{saysOf};
 ghost use Rattle.picking.specs.Picker.{fcbOf, blank, digit, stampOf, logRecord, hasStamp, oneFile, spaceIn, lastDay, isCode, otherwise, writeTrouble, unlocked, relocked};
 ghost use Rattle.logbook.specs.Said.{said, readTrouble, closeTold};
 use model::Answer;
@@ -23,6 +24,13 @@ use picking::Wanted;
 const STAMP_BYTES: usize = 9;
 
 const LAST_DAY: u16 = 365;
+
+// What hosts are told of how a run ended: a number, and A and H where that is a refusal without a name of its own.
+pub struct Says {
+    pub number: u8,
+    pub a: u8,
+    pub h: u8,
+}
 
 // ---- bytes
 // The FCB of a name: drive 0, extent 0, all else 0.
@@ -229,6 +237,41 @@ pub fn close_told(answer: Answer) -> Pick
         return Pick::Logged;
     }
     other(answer)
+}
+
+// What hosts are told that has no A and H.
+fn named(number: u8) -> Says
+    ensures { λ r. ⌜ (r .number ≡ number) × (r .a ≡ 0) × (r .h ≡ 0) ⌝ }
+{
+    Says {
+        number: number,
+        a: 0,
+        h: 0,
+    }
+}
+
+// The number of how a run ended, with A and H.
+pub fn says_of(pick: Pick) -> Says
+    ensures { λ r. ⌜ (r .number ≡ saysOf pick .number) × (r .a ≡ saysOf pick .a) × (r .h ≡ saysOf pick .h) ⌝ }
+{
+    match pick {
+        Pick::Logged => named(0),
+        Pick::Again => named(1),
+        Pick::DayOver => named(2),
+        Pick::NoBook => named(3),
+        Pick::NoWord => named(4),
+        Pick::OneFile => named(5),
+        Pick::NoFirst => named(6),
+        Pick::LogFull => named(7),
+        Pick::LogReadOnly => named(8),
+        Pick::DirectoryFull => named(9),
+        Pick::DiskFull => named(10),
+        Pick::Other(a, h) => Says {
+            number: 11,
+            a: a,
+            h: h,
+        },
+    }
 }
 
 // ---- the protection

@@ -1,47 +1,31 @@
+-- `picker::pick` meets its contract: the day first.
+use mathlib.Core.Path.{sym, _∙_}
 use borrow.Author.Needs.{needs}
+use Rattle.format.specs.Diskette.{eightInch}
+use Rattle.demands.specs.Runs.{diskOf}
+use Rattle.picker.specs.Laws.{picked-over, picked-looks}
 use Rattle.picker.proofs.pick.Statement.{statement}
 use Rattle.picker.proofs.pick.Tie as tie
-use Rattle.picker.proofs.pick.Reads as reads
-use Rattle.picker.proofs.pick.Lts as lts
-use Rattle.logbook.proofs.day_over.Reads as day-over-reads
-use Rattle.picker.proofs.look_up.Reads as look-up-reads
 
--- src/lib.rt:150:8
-day-over-requires : tie.Need-day-over-requires
-day-over-requires c κs = search needs
-
--- src/lib.rt:151:9
 returns : tie.Need-returns
-returns c = ?
+returns c =
+    let a = c .before .before .before .before .before .args in
+    picked-over eightInch (a .time) (a .wanted) (diskOf (a .image .now) (a .map .now) (a .session)) (a .word .now) (sym (c .before .day-over .ensures) ∙ c .if1 .taken)
 
--- src/lib.rt:157:5
-look-up-requires : tie.Need-look-up-requires
-look-up-requires c κs = search needs
-
--- src/lib.rt:139:1
 same-length : tie.Need-same-length
-same-length c = search needs
+same-length c = c .before .before .before .before .before .before .look-up .kept .1 .1 .0
 
--- src/lib.rt:139:1
 same-length-2 : tie.Need-same-length-2
-same-length-2 c = search needs
+same-length-2 c = c .before .before .before .before .before .before .look-up .kept .1 .1 .1 .0
 
--- src/lib.rt:139:1
 same-length-3 : tie.Need-same-length-3
-same-length-3 c = search needs
+same-length-3 c = c .before .before .before .before .before .before .look-up .kept .1 .1 .1 .1 .0
 
--- src/lib.rt:139:1
 returns-2 : tie.Need-returns-2
-returns-2 c = ?
+returns-2 c =
+    let a = c .before .before .before .before .before .before .before .before .before .before .before .before .before .before .before .args in
+    c .before .before .before .before .before .before .look-up .ensures
+    ∙ picked-looks eightInch (a .time) (a .wanted) (diskOf (a .image .now) (a .map .now) (a .session)) (a .word .now) (sym (c .before .before .before .before .before .before .before .before .before .before .before .day-over .ensures) ∙ c .before .before .before .before .before .before .before .before .before .before .if1 .left)
 
 pub pick-spec : {M : Type 1} → statement M
-pick-spec =
-    tie.close
-    (tie.spec
-    day-over-requires
-    returns
-    look-up-requires
-    same-length
-    same-length-2
-    same-length-3
-    returns-2)
+pick-spec = tie.close (tie.spec (λ c κs. search needs) returns (λ c κs. search needs) same-length same-length-2 same-length-3 returns-2)
