@@ -3,7 +3,7 @@ use mathlib.Core.Path.{_≡_, refl, ap, sym, _∙_}
 use mathlib.Core.Bool.{Bool, true, false, cond}
 use Prim.Native.Nat.{ℕ, _≤_, _<_}
 use borrow.Author.Tests.{le-leb, lt-leb}
-use Rattle.lists.specs.Tests.{_and_, and-then, and-fails-left}
+use Rattle.lists.specs.Tests.{_and_}
 use Rattle.format.specs.Diskette.{Bytes, Geometry}
 use Rattle.model.specs.Lent.{Outcome}
 use Rattle.demands.specs.Runs.{Disk, diskOf, outcomeOf, left}
@@ -24,15 +24,10 @@ module _ (G : Geometry) (t : Time) (w : Wanted) where
   unfolding look
   look-over f s r h = rw h
 
-  pub look-reads : (f : Bytes) (s : Search) (r : ℕ) (o : Outcome) → s .found ≡ false → o ≡ outcomeOf G (s .disk) (reading t f r blank) → accepted 33 o ≡ true → (b : Bool) → b ≡ hasStamp (w .year) (w .day) (o .lent .buffer)
-      → record { found = b; disk = left o } ≡ look G t w f s r
+  pub look-reads : (f : Bytes) (s : Search) (r : ℕ) (o : Outcome) → s .found ≡ false → o ≡ outcomeOf G (s .disk) (reading t f r blank)
+      → (b : Bool) → b ≡ (accepted 33 o and hasStamp (w .year) (w .day) (o .lent .buffer)) → record { found = b; disk = left o } ≡ look G t w f s r
   unfolding look
-  look-reads f s r o h e a b q = rw (h, ← e, and-then _ (hasStamp (w .year) (w .day) (o .lent .buffer)) a, q)
-
-  pub look-fails : (f : Bytes) (s : Search) (r : ℕ) (o : Outcome) → s .found ≡ false → o ≡ outcomeOf G (s .disk) (reading t f r blank) → accepted 33 o ≡ false
-      → record { found = false; disk = left o } ≡ look G t w f s r
-  unfolding look
-  look-fails f s r o h e a = rw (h, ← e, and-fails-left _ (hasStamp (w .year) (w .day) (o .lent .buffer)) a)
+  look-reads f s r o h e b q = rw (h, ← e, q)
 
   -- ---- the log searched
   pub added-again : (s : Search) (f : Bytes) (n : ℕ) → s .found ≡ true → record { pick = Again; disk = s .disk } ≡ added G t w s f n

@@ -40,14 +40,8 @@ fn look_at(
     let session = s.session;
     let answer = logging::call(time, 33, image, map, &mut f, &mut buffer, session);
     let left = answer.session;
-    if logbook::record_accepted(answer) {
-        return Searching {
-            found: logbook::has_stamp(wanted.year, wanted.day, buffer),
-            session: left,
-        };
-    }
     Searching {
-        found: false,
+        found: logbook::tells_day(wanted.year, wanted.day, answer, buffer),
         session: left,
     }
 }

@@ -4,6 +4,7 @@ ghost use mathlib.Core.Path.{_≡_};
 ghost use mathlib.Core.Bool.{true, false, cond};
 ghost use Prim.Native.Nat.{ℕ, _<_};
 ghost use lib.Dec.{ltb};
+ghost use Rattle.lists.specs.Tests.{_and_};
 ghost use Rattle.format.specs.Diskette.{Geometry};
 ghost use Rattle.format.specs.Fcb.{randomOf};
 ghost use Rattle.model.specs.Kinds.{kindOf, ofRecord};
@@ -18,6 +19,7 @@ ghost use Rattle.logbook.specs.Said.{said, readTrouble, closeTold};
 use model::Answer;
 use model::Session;
 use picking::Pick;
+use picking::Told;
 use picking::Wanted;
 
 // The bytes of a log record that tell year and day.
@@ -173,6 +175,18 @@ pub fn entry_accepted(answer: Answer) -> bool
     answer.a != 255
 }
 
+// Whether a log record that was read is there, and has the year and day.
+pub fn tells_day(year: u16, day: u16, answer: Answer, bytes: [u8; 128]) -> bool
+    ensures { λ r. ⌜ r ≡ (acceptedAnswer 33 answer and hasStamp year day bytes) ⌝ }
+{
+    let there = record_accepted(answer);
+    let stamped = has_stamp(year, day, bytes);
+    if there {
+        return stamped;
+    }
+    false
+}
+
 // Whether A and H are these.
 pub fn is_code(a: u8, h: u8, answer: Answer) -> bool
     ensures { λ r. ⌜ ((l : Lent) → r ≡ isCode a h (said answer l)) ⌝ }
@@ -237,6 +251,17 @@ pub fn close_told(answer: Answer) -> Pick
         return Pick::Logged;
     }
     other(answer)
+}
+
+// What a run that hands out no word tells.
+pub fn wordless(pick: Pick, session: Session) -> Told
+    ensures { λ r. ⌜ (r .pick ≡ pick) × (r .given ≡ false) × (r .session ≡ session) ⌝ }
+{
+    Told {
+        pick: pick,
+        given: false,
+        session: session,
+    }
 }
 
 // What hosts are told that has no A and H.

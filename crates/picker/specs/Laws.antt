@@ -6,15 +6,17 @@ use lib.Dec.{ltb}
 use Rattle.lists.specs.Cases.{split, not-both}
 use Rattle.format.specs.Diskette.{Bytes, Geometry}
 use Rattle.format.specs.Fcb.{randomOf}
+use Rattle.model.specs.declared.Session.{Session}
 use Rattle.model.specs.Lent.{Outcome}
 use Rattle.table.specs.Accepted.{acceptedAnswer, carried-says}
 use Rattle.table.specs.Total.{total}
-use Rattle.demands.specs.Runs.{Request, Disk, outcomeOf, left, lentTo}
+use Rattle.demands.specs.Runs.{Request, Disk, diskOf, outcomeOf, left, lentTo}
 use Rattle.picking.specs.declared.Wanted.{Wanted}
 use Rattle.picking.specs.declared.Time.{Time}
 use Rattle.picking.specs.declared.Pick.{Pick}
+use Rattle.picking.specs.declared.Told.{Told}
 use Rattle.picking.specs.declared.Pick.the-variants.{DayOver, NoBook, OneFile}
-use Rattle.picking.specs.Picker.{Logging, Picked, oneFile, lastDay, accepted, isCode, otherwise, tell, opening, reading, sizing, extended, begun, logged, worded, wordless, fetched, looked, picked}
+use Rattle.picking.specs.Picker.{Logging, Picked, picks, oneFile, lastDay, accepted, isCode, otherwise, tell, opening, reading, sizing, extended, begun, logged, worded, wordless, fetched, looked, picked}
 use Rattle.logbook.specs.Said.{readTrouble}
 
 -- a call that was refused leaves the buffer as it was
@@ -28,7 +30,14 @@ refused-buffer G d q o e a =
 unfoldable pub loggedApart : Geometry → Time → Wanted → Disk → Logging
 loggedApart G t w d = cond (oneFile w) record { pick = OneFile; disk = d } (logged G t w d)
 
+-- what code tells without a word
+abbrev pub Wordless : Told → Pick → Session → Type 0
+Wordless r p s = (r .pick ≡ p) × (r .given ≡ false) × (r .session ≡ s)
+
 module _ (G : Geometry) (t : Time) (w : Wanted) where
+  told-wordless : (r : Told) (p : Pick) (s : Session) → Wordless r p s → (buffer image map : Bytes) → picks r buffer image map ≡ wordless G t w p buffer (diskOf image map s)
+  told-wordless r p s k buffer image map = rw (k .0, k .1, k .2)
+
   -- ---- the log sized
   pub logged-extends : (d : Disk) (o : Outcome) → o ≡ outcomeOf G d (sizing t (w .log)) → accepted 35 o ≡ true → (n : ℕ) → n ≡ randomOf (o .lent .fcb)
       → extended G t w (left o) n ≡ logged G t w d
@@ -63,10 +72,10 @@ module _ (G : Geometry) (t : Time) (w : Wanted) where
   fetched-worded d f buffer o e a = rw (← e, a)
 
   pub fetched-fails : (d : Disk) (f buffer : Bytes) (o : Outcome) → o ≡ outcomeOf G d (reading t f (w .day) buffer) → accepted 33 o ≡ false → (p : Pick) → p ≡ readTrouble o
-      → wordless G t w p (o .lent .buffer) (left o) ≡ fetched G t w d f buffer
+      → (r : Told) → Wordless r p (o .answer .session) → picks r (o .lent .buffer) (o .lent .drive .image) (o .lent .drive .map) ≡ fetched G t w d f buffer
   unfolding fetched
-  fetched-fails d f buffer o e a p r =
-      let b : o .lent .buffer ≡ buffer = refused-buffer G d (reading t f (w .day) buffer) o e a in rw (← e, a, r, b)
+  fetched-fails d f buffer o e a p q r k =
+      let b : o .lent .buffer ≡ buffer = refused-buffer G d (reading t f (w .day) buffer) o e a in told-wordless r p _ k _ _ _ ∙ rw (← e, a, q, b)
 
   pub looked-fetches : (d : Disk) (buffer : Bytes) (o : Outcome) → o ≡ outcomeOf G d (opening t (w .book)) → accepted 15 o ≡ true
       → fetched G t w (left o) (o .lent .fcb) buffer ≡ looked G t w d buffer
@@ -74,14 +83,14 @@ module _ (G : Geometry) (t : Time) (w : Wanted) where
   looked-fetches d buffer o e a = rw (← e, a)
 
   pub looked-fails : (d : Disk) (buffer : Bytes) (o : Outcome) → o ≡ outcomeOf G d (opening t (w .book)) → accepted 15 o ≡ false → (p : Pick) → p ≡ cond (isCode 255 0 o) NoBook (otherwise o)
-      → wordless G t w p buffer (left o) ≡ looked G t w d buffer
+      → (r : Told) → Wordless r p (o .answer .session) → picks r buffer (o .lent .drive .image) (o .lent .drive .map) ≡ looked G t w d buffer
   unfolding looked
-  looked-fails d buffer o e a p r = rw (← e, a, r)
+  looked-fails d buffer o e a p q r k = told-wordless r p _ k _ _ _ ∙ rw (← e, a, q)
 
   -- ---- the day
-  pub picked-over : (d : Disk) (buffer : Bytes) → ltb lastDay (w .day) ≡ true → wordless G t w DayOver buffer d ≡ picked G t w d buffer
+  pub picked-over : (d : Disk) (buffer : Bytes) → ltb lastDay (w .day) ≡ true → (r : Told) → Wordless r DayOver (d .session) → picks r buffer (d .drive .image) (d .drive .map) ≡ picked G t w d buffer
   unfolding picked
-  picked-over d buffer h = rw h
+  picked-over d buffer h r k = told-wordless r DayOver _ k _ _ _ ∙ rw h
 
   pub picked-looks : (d : Disk) (buffer : Bytes) → ltb lastDay (w .day) ≡ false → looked G t w d buffer ≡ picked G t w d buffer
   unfolding picked

@@ -101,11 +101,8 @@ fn fetch(
     if logbook::record_accepted(answer) {
         return hand_out(wanted, time, image, map, left);
     }
-    Told {
-        pick: logbook::read_trouble(answer),
-        given: false,
-        session: left,
-    }
+    let pick = logbook::read_trouble(answer);
+    logbook::wordless(pick, left)
 }
 
 // The book opened, and the day's word fetched.
@@ -128,11 +125,8 @@ fn look_up(
     if logbook::entry_accepted(answer) {
         return fetch(wanted, time, image, map, f, word, left);
     }
-    Told {
-        pick: logbook::missing(Pick::NoBook, answer),
-        given: false,
-        session: left,
-    }
+    let pick = logbook::missing(Pick::NoBook, answer);
+    logbook::wordless(pick, left)
 }
 
 // A run of the picker, whatever it is handed.
@@ -148,11 +142,7 @@ pub fn pick(
         ≡ picked eightInch time wanted (diskOf (now (image .entry)) (now (map .entry)) session) (now (word .entry)) ⌝ }
 {
     if logbook::day_over(wanted.day) {
-        return Told {
-            pick: Pick::DayOver,
-            given: false,
-            session: session,
-        };
+        return logbook::wordless(Pick::DayOver, session);
     }
     look_up(wanted, time, image, map, word, session)
 }
