@@ -31,21 +31,21 @@ returns c =
     (sym (c .before .before .before .before .before .before .before .before .record-accepted .ensures 33 (of-records .read)) ∙ c .before .before .before .before .before .before .before .if1 .taken)
 
 same-length-4 : tie.Need-same-length-4
-same-length-4 c = c .before .before .before .before .before .before .before .before .before .before .before .call .kept .1 .1 .0
+same-length-4 c = c .before .before .before .before .before .before .before .before .before .before .before .before .call .kept .1 .1 .0
 
 same-length-5 : tie.Need-same-length-5
-same-length-5 c = c .before .before .before .before .before .before .before .before .before .before .before .call .kept .1 .1 .1 .0
+same-length-5 c = c .before .before .before .before .before .before .before .before .before .before .before .before .call .kept .1 .1 .1 .0
 
 same-length-6 : tie.Need-same-length-6
-same-length-6 c = c .before .before .before .before .before .before .before .before .before .before .before .call .kept .1 .1 .1 .1 .1 .0
+same-length-6 c = c .before .before .before .before .before .before .before .before .before .before .before .before .call .kept .1 .1 .1 .1 .1 .0
 
 returns-2 : tie.Need-returns-2
 returns-2 c =
-    let a = c .before .before .before .before .before .before .before .before .before .before .before .before .before .before .before .before .before .before .before .before .before .args in
+    let a = c .before .before .before .before .before .before .before .before .before .before .before .before .before .before .before .before .before .before .before .before .before .before .args in
     let d = diskOf (a .image .now) (a .map .now) (a .session) in
     fetched-fails eightInch (a .time) (a .wanted) d (a .fcb) (a .word .now) _
-    (asked-alike (outcomeOf eightInch) d (a .time) 33 (c .before .before .before .before .before .before .before .before .before .before .before .call .ensures) (c .before .before .before .before .before .before .before .before .before .before .before .before .before .before .before .before .at-record .ensures) refl)
-    (sym (c .before .before .record-accepted .ensures 33 (of-records .read)) ∙ c .before .if1 .left) _ (c .read-trouble .ensures _)
+    (asked-alike (outcomeOf eightInch) d (a .time) 33 (c .before .before .before .before .before .before .before .before .before .before .before .before .call .ensures) (c .before .before .before .before .before .before .before .before .before .before .before .before .before .before .before .before .before .at-record .ensures) refl)
+    (sym (c .before .before .before .record-accepted .ensures 33 (of-records .read)) ∙ c .before .before .if1 .left) _ (c .before .read-trouble .ensures _) _ (c .wordless .ensures)
 
 pub fetch-spec : {M : Type 1} → statement M
 fetch-spec =
@@ -61,6 +61,7 @@ fetch-spec =
     same-length-2
     same-length-3
     returns
+    (λ c κs. search needs)
     (λ c κs. search needs)
     same-length-4
     same-length-5

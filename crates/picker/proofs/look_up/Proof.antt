@@ -28,18 +28,18 @@ returns c =
     (sym (c .before .before .before .before .before .before .before .before .before .before .before .entry-accepted .ensures 15 (of-entries .opens)) ∙ c .before .before .before .before .before .before .before .before .before .before .if1 .taken)
 
 same-length-4 : tie.Need-same-length-4
-same-length-4 c = c .before .before .before .before .before .before .before .before .before .before .call .kept .1 .1 .0
+same-length-4 c = c .before .before .before .before .before .before .before .before .before .before .before .call .kept .1 .1 .0
 
 same-length-5 : tie.Need-same-length-5
-same-length-5 c = c .before .before .before .before .before .before .before .before .before .before .call .kept .1 .1 .1 .0
+same-length-5 c = c .before .before .before .before .before .before .before .before .before .before .before .call .kept .1 .1 .1 .0
 
 returns-2 : tie.Need-returns-2
 returns-2 c =
-    let a = c .before .before .before .before .before .before .before .before .before .before .before .before .before .before .before .before .before .before .before .before .before .args in
+    let a = c .before .before .before .before .before .before .before .before .before .before .before .before .before .before .before .before .before .before .before .before .before .before .args in
     let d = diskOf (a .image .now) (a .map .now) (a .session) in
     looked-fails eightInch (a .time) (a .wanted) d (a .word .now) _
-    (asked-alike (outcomeOf eightInch) d (a .time) 15 (c .before .before .before .before .before .before .before .before .before .before .call .ensures) (c .before .before .before .before .before .before .before .before .before .before .before .before .before .before .before .before .fcb-of .ensures) (c .before .before .before .before .before .before .before .before .before .before .before .before .before .before .before .blank-record .ensures))
-    (sym (c .before .before .entry-accepted .ensures 15 (of-entries .opens)) ∙ c .before .if1 .left) _ (c .missing .ensures _)
+    (asked-alike (outcomeOf eightInch) d (a .time) 15 (c .before .before .before .before .before .before .before .before .before .before .before .call .ensures) (c .before .before .before .before .before .before .before .before .before .before .before .before .before .before .before .before .before .fcb-of .ensures) (c .before .before .before .before .before .before .before .before .before .before .before .before .before .before .before .before .blank-record .ensures))
+    (sym (c .before .before .before .entry-accepted .ensures 15 (of-entries .opens)) ∙ c .before .before .if1 .left) _ (c .before .missing .ensures _) _ (c .wordless .ensures)
 
 pub look-up-spec : {M : Type 1} → statement M
 look-up-spec =
@@ -56,6 +56,7 @@ look-up-spec =
     same-length-2
     same-length-3
     returns
+    (λ c κs. search needs)
     (λ c κs. search needs)
     same-length-4
     same-length-5

@@ -9,8 +9,8 @@ use Rattle.picker.proofs.pick.Tie as tie
 
 returns : tie.Need-returns
 returns c =
-    let a = c .before .before .before .before .before .args in
-    picked-over eightInch (a .time) (a .wanted) (diskOf (a .image .now) (a .map .now) (a .session)) (a .word .now) (sym (c .before .day-over .ensures) ∙ c .if1 .taken)
+    let a = c .before .before .before .before .before .before .args in
+    picked-over eightInch (a .time) (a .wanted) (diskOf (a .image .now) (a .map .now) (a .session)) (a .word .now) (sym (c .before .before .day-over .ensures) ∙ c .before .if1 .taken) _ (c .wordless .ensures)
 
 same-length : tie.Need-same-length
 same-length c = c .before .before .before .before .before .before .look-up .kept .1 .1 .0
@@ -28,4 +28,4 @@ returns-2 c =
     ∙ picked-looks eightInch (a .time) (a .wanted) (diskOf (a .image .now) (a .map .now) (a .session)) (a .word .now) (sym (c .before .before .before .before .before .before .before .before .before .before .before .day-over .ensures) ∙ c .before .before .before .before .before .before .before .before .before .before .if1 .left)
 
 pub pick-spec : {M : Type 1} → statement M
-pick-spec = tie.close (tie.spec (λ c κs. search needs) returns (λ c κs. search needs) same-length same-length-2 same-length-3 returns-2)
+pick-spec = tie.close (tie.spec (λ c κs. search needs) (λ c κs. search needs) returns (λ c κs. search needs) same-length same-length-2 same-length-3 returns-2)
