@@ -30,5 +30,5 @@ handed t r bytes image map p e n a h g s =
       is-h = h ∙ ap (λ (x : picker.Picked). saysOf (x .pick) .h) e;
       given = g ∙ ap (λ (x : picker.Picked). cond (x .given) 1 0) e;
       word = ap (λ (x : picker.Picked). x .word) e;
-      disk = ap (diskOf image map) s ∙ ap (λ (x : picker.Picked). x .disk) e
+      disk = ap (diskOf image map) s ∙ ap (λ (x : picker.Picked). x .disk) e;
     }

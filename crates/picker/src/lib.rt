@@ -14,13 +14,7 @@ use picking::Told;
 use picking::Wanted;
 
 // The day logged, by the size of the log.
-fn log_day(
-    wanted: Wanted,
-    time: Time,
-    image: &mut [u8],
-    map: &mut [u16],
-    session: Session,
-) -> Noted
+fn log_day(wanted: Wanted, time: Time, image: &mut [u8], map: &mut [u16], session: Session) -> Noted
     ensures { λ r. ⌜ notes r (now (image .exit)) (now (map .exit))
         ≡ logged eightInch time wanted (diskOf (now (image .entry)) (now (map .entry)) session) ⌝ }
 {
@@ -62,13 +56,7 @@ fn log_apart(
 }
 
 // The word was read: it is handed out whatever becomes of the log.
-fn hand_out(
-    wanted: Wanted,
-    time: Time,
-    image: &mut [u8],
-    map: &mut [u16],
-    session: Session,
-) -> Told
+fn hand_out(wanted: Wanted, time: Time, image: &mut [u8], map: &mut [u16], session: Session) -> Told
     ensures { λ r. ⌜ ((o : Outcome) → left o ≡ diskOf (now (image .entry)) (now (map .entry)) session
         → picks r (o .lent .buffer) (now (image .exit)) (now (map .exit)) ≡ worded eightInch time wanted o) ⌝ }
 {

@@ -22,13 +22,13 @@ loop-holds c = (all-none _, omega arith)
 
 returns : tie.Need-returns Inv-loop μ-loop
 unfolding oneFile nameLike
-returns c = 
+returns c =
     let l = c .before .before .loop in
     let w = c .before .before .before .before .before .args .wanted in
     sym (all-fails _ nameBytes (l .i) (omega arith) (like-differs (w .book) (w .log) (l .i) (c .if1 .taken)))
 
 loop-again : tie.Need-loop-again Inv-loop μ-loop
-loop-again c = 
+loop-again c =
     let l = c .before .before .loop in
     let w = c .before .before .before .before .before .args .wanted in
     (all-more _ (l .i) (l .inv .0) (like-same (w .book) (w .log) (l .i) (c .if1 .left)), omega arith)
