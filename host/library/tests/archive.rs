@@ -24,10 +24,15 @@ fn holds_table(bytes: &[u8], width: usize) -> bool {
 #[test]
 fn no_sector_table_is_in_the_archive() {
     let archive = std::fs::read(env!("ARCHIVE")).expect("the archive can be read");
-    // What is looked through is the library: an archive, with code, of the call
-    // and of the two that lift and set the write protection.
+    // What is looked through is the library: an archive, with code, of the call,
+    // of the two that lift and set the write protection, and of the picker.
     assert!(archive.starts_with(b"!<arch>\n"));
-    let functions = [b"benzo_call".as_slice(), b"benzo_lift", b"benzo_protect"];
+    let functions = [
+        b"benzo_call".as_slice(),
+        b"benzo_lift",
+        b"benzo_protect",
+        b"benzo_pick",
+    ];
     for part in functions.into_iter().chain([b"\x7fELF".as_slice()]) {
         assert!(archive.windows(part.len()).any(|there| there == part));
     }
