@@ -18,7 +18,7 @@ Hello from a diskette!
 ";
 
 /// What the program of `examples/c/lengths.c` has to print.
-const LENGTHS: &str = "459 calls, 425 of them refused for a length\n";
+const LENGTHS: &str = "479 calls, 444 of them refused for a length\n";
 
 /// What the program of `examples/c/pick.c` has to print.
 const PICK: &str = "\
