@@ -32,9 +32,9 @@ first record. Each gets a block of its own. The first to close keeps its block;
 the second is no longer current, and the block that it took stays pending until
 call 98 frees it. Each step shows its call, the code, and the map afterwards.
 
-In the night the clocks go back a job that is set for 02:30 is started twice, and
-picks the word of the day both times. Each run shows its answer, the word, and
-the log afterwards, which has the day once.
+In the night the clocks go back a job that is set for 02:30 is started twice,
+and picks the word of the day both times. Each run shows its answer, the word,
+and the log afterwards, which has the day once.
 
   --colour WHEN   always, never, or auto: where standard output is a terminal",
     shape: Shape {
