@@ -126,6 +126,19 @@ impl Ran<'_> {
         let [before, after] = [self.before, self.after].map(|world| records_of(world, log).len());
         after > before + 1
     }
+
+    /// Whether more records than the new one have the day afterwards.
+    fn tells_the_day_twice(&self) -> bool {
+        hits(self.after, self.run).len() > 1
+    }
+}
+
+/// The numbers of the log's records that have the day.
+fn hits(world: &World, run: &Run) -> Vec<u32> {
+    let day = log_record(run);
+    let records = records_of(world, &run.wanted.log).into_iter();
+    let hits = records.filter(|&(_, place)| bytes_at(world, place)[..9] == day[..9]);
+    hits.map(|(number, _)| number).collect()
 }
 
 events! {
@@ -151,6 +164,8 @@ events! {
     LoggedWithHoles: |ran| ran.logged() && ran.has_holes();
     /// Lower records of the new one's block came to be there.
     BroughtOthers: |ran| ran.logged() && ran.brought_others();
+    /// Among them was one that tells the day, from before the block was the log's.
+    BroughtTheDay: |ran| ran.logged() && ran.tells_the_day_twice();
     /// The day was in the last record alone.
     HitInTheLast: |ran| ran.was(Pick::Again) && ran.hits.iter().all(|&hit| Some(hit + 1) == ran.size);
     /// The day was in record 0.
@@ -265,17 +280,13 @@ impl Counts {
         if let Pick::Other { a, h } = picked.pick {
             *self.others.entry((a, h, picked.given)).or_default() += 1;
         }
-        let log = &run.wanted.log;
-        let day = log_record(run);
-        let records = records_of(before, log).into_iter();
-        let hits = records.filter(|&(_, place)| bytes_at(before, place)[..9] == day[..9]);
         let ran = Ran {
             before,
             after,
             run,
             pick: picked.pick,
-            size: size_of(before, log),
-            hits: hits.map(|(number, _)| number).collect(),
+            size: size_of(before, &run.wanted.log),
+            hits: hits(before, run),
         };
         for &event in Event::ALL {
             self.events[event as usize] += usize::from(event.is_in(&ran));
