@@ -354,6 +354,19 @@ impl Disk {
     /// the log has it. Both files are the present user's. The disk may be
     /// write-protected, and is afterwards what it was: the protection is lifted
     /// for the log alone. The transfer buffer stays as it is.
+    ///
+    /// ```
+    /// # fn main() -> Result<(), Box<dyn std::error::Error>> {
+    /// # let mut disk = benzokamuri::Disk::erased();
+    /// let picked = disk.pick(2026, 297, "WORDS.DAT".parse()?, "WORDS.LOG".parse()?);
+    /// println!("{}", picked.pick); // the help card's sentence
+    /// if let Some(word) = picked.word {
+    ///     println!("{} bytes", word.len()); // 128
+    /// }
+    /// # assert_eq!(picked.pick, benzokamuri::Pick::NoBook);
+    /// # Ok(())
+    /// # }
+    /// ```
     pub fn pick(&mut self, year: u16, day: u16, book: Name, log: Name) -> Picked {
         let wanted = Wanted {
             year,

@@ -792,6 +792,13 @@ fn the_demo_is_as_it_was_kept() {
     let logs = last.iter().filter(|line| line.contains("WORDS.LOG: "));
     let one_record = logs.filter(|line| line.contains("1 record, 02026 297"));
     assert_eq!(one_record.count(), 2, "{last:#?}");
+    // The README shows the end of it.
+    let readme = include_str!("../../../README.md");
+    let shown: Vec<&str> = demo
+        .lines()
+        .filter(|line| line.contains("pick at"))
+        .collect();
+    assert!(shown.len() == 2 && shown.iter().all(|line| readme.contains(line)));
     assert_eq!(folder.names(), [""; 0], "nothing is written");
 }
 

@@ -5,7 +5,7 @@ use super::{Picker, Run};
 use crate::disks::some_time;
 use crate::random::Random;
 use crate::world::{asks, World, DATES};
-use reference::diskette::{self, DIRECTORY_PLACES, RECORD_BYTES};
+use reference::diskette::{self, BLOCKS, DIRECTORY_PLACES, RECORD_BYTES};
 use reference::{Pick, Picked, Session};
 
 /// The records that an rc counts.
@@ -48,7 +48,9 @@ pub fn records_of(world: &World, name: &[u8; 11]) -> Vec<(u32, usize)> {
         (0..count(&row)).filter_map(move |within| {
             let block = row[16 + usize::from(within / 8)];
             let number = 128 * extent(&row) + u32::from(within);
-            (block != 0).then(|| (number, diskette::place(block, within)))
+            // A damaged disk may list blocks that there are not.
+            let there = block != 0 && usize::from(block) < BLOCKS;
+            there.then(|| (number, diskette::place(block, within)))
         })
     };
     let entries = entries_of(world, name);
