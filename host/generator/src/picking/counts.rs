@@ -114,6 +114,14 @@ impl Ran<'_> {
         self.before.map.cells().iter().any(|&note| note > 2)
     }
 
+    fn has_pending_of_the_log(&self) -> bool {
+        let entries = entries_of(self.before, &self.run.wanted.log);
+        let pending = self.before.map.cells().iter().filter(|&&note| note >= 16);
+        pending
+            .map(|&note| usize::from(note - 16) / 16)
+            .any(|entry| entries.contains(&entry))
+    }
+
     /// Records below the size that are not there.
     fn has_holes(&self) -> bool {
         let there = records_of(self.before, &self.run.wanted.log).len();
@@ -216,6 +224,8 @@ events! {
     SearchLeft: |ran| ran.before.session.on != 0 && ran.after.session.on != 0;
     /// Blocks were pending, and stayed so.
     LoggedWithPending: |ran| ran.logged() && ran.has_pending();
+    /// A block was pending for the log itself, and stayed so.
+    LoggedWithItsOwnPending: |ran| ran.logged() && ran.has_pending_of_the_log();
     /// A new log was stamped.
     Created: |ran| ran.logged() && ran.size.is_none() && ran.stamps(asks::CREATE);
     /// A new log on a dated disk was not.
