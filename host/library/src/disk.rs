@@ -359,11 +359,11 @@ impl Disk {
     /// # fn main() -> Result<(), Box<dyn std::error::Error>> {
     /// # let mut disk = benzokamuri::Disk::erased();
     /// let picked = disk.pick(2026, 297, "WORDS.DAT".parse()?, "WORDS.LOG".parse()?);
-    /// println!("{}", picked.pick); // the help card's sentence
+    /// println!("{}", picked.answer); // the help card's sentence
     /// if let Some(word) = picked.word {
     ///     println!("{} bytes", word.len()); // 128
     /// }
-    /// # assert_eq!(picked.pick, benzokamuri::Pick::NoBook);
+    /// # assert_eq!(picked.answer, benzokamuri::Pick::NoBook);
     /// # Ok(())
     /// # }
     /// ```
@@ -386,7 +386,7 @@ impl Disk {
         );
         self.session = told.session;
         Picked {
-            pick: Pick::read(&told),
+            answer: Pick::read(&told),
             word: (told.given != 0).then_some(word),
         }
     }

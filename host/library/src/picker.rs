@@ -10,7 +10,7 @@ pub const LOG_RECORDS: u32 = 1_024;
 #[derive(Clone, Copy, Debug, PartialEq, Eq)]
 pub struct Picked {
     /// How it ended.
-    pub pick: Pick,
+    pub answer: Pick,
     /// The word, wherever it could be read, whatever became of the log.
     pub word: Option<Buffer>,
 }

@@ -65,8 +65,11 @@ fn read(disk: &Disk, file: Name) -> Vec<[u8; 128]> {
 #[track_caller]
 fn troubled(disk: &mut Disk, day: u16, files: [Name; 2], told: Pick, given: bool) {
     let before = disk.clone();
-    let Picked { pick, word: handed } = disk.pick(2026, day, files[0], files[1]);
-    assert_eq!(pick, told);
+    let Picked {
+        answer,
+        word: handed,
+    } = disk.pick(2026, day, files[0], files[1]);
+    assert_eq!(answer, told);
     assert_eq!(handed, given.then(|| word(usize::from(day))));
     assert!(disk.image() == before.image() && disk.map() == before.map());
 }
@@ -76,18 +79,18 @@ fn a_day_is_logged_once() {
     let mut disk = with_book();
     disk.buffer.fill(9);
     let first = disk.pick(2026, 297, book(), log());
-    assert_eq!(first.pick, Pick::Logged);
+    assert_eq!(first.answer, Pick::Logged);
     assert_eq!(first.word, Some(word(297)));
     assert!(disk.is_protected(), "as it was");
     assert_eq!(disk.buffer, [9; 128]);
     troubled(&mut disk, 297, [book(), log()], Pick::Again, true);
-    assert_eq!(disk.pick(2026, 298, book(), log()).pick, Pick::Logged);
-    assert_eq!(disk.pick(2027, 297, book(), log()).pick, Pick::Logged);
+    assert_eq!(disk.pick(2026, 298, book(), log()).answer, Pick::Logged);
+    assert_eq!(disk.pick(2027, 297, book(), log()).answer, Pick::Logged);
     let due = [logged(2026, 297), logged(2026, 298), logged(2027, 297)];
     assert_eq!(read(&disk, log()), due);
     // A disk whose protection is lifted stays lifted.
     disk.lift();
-    assert_eq!(disk.pick(65_535, 0, book(), log()).pick, Pick::Logged);
+    assert_eq!(disk.pick(65_535, 0, book(), log()).answer, Pick::Logged);
     assert!(!disk.is_protected());
 }
 
@@ -113,8 +116,8 @@ fn one_file_and_a_full_log() {
     write(&mut disk, log(), days);
     troubled(&mut disk, 5, [book(), log()], Pick::LogFull, true);
     // A full log still knows its days.
-    assert_eq!(disk.pick(3_000, 5, book(), log()).pick, Pick::Again);
-    assert_eq!(disk.pick(3_002, 291, book(), log()).pick, Pick::Again);
+    assert_eq!(disk.pick(3_000, 5, book(), log()).answer, Pick::Again);
+    assert_eq!(disk.pick(3_002, 291, book(), log()).answer, Pick::Again);
 }
 
 #[test]

@@ -338,7 +338,7 @@ fn clocks_go_back(user: u8, desk: &mut Desk) -> Result<(), Trouble> {
             "; no byte of the disk has changed"
         };
         writeln!(desk.out, "    {log}: {logged}{bytes}\n")?;
-        if picked.pick != due || changed != (due == Pick::Logged) {
+        if picked.answer != due || changed != (due == Pick::Logged) {
             let wrong = format!("run {number} of the job came out wrong");
             return Err(Trouble::failed(wrong));
         }
@@ -348,14 +348,14 @@ fn clocks_go_back(user: u8, desk: &mut Desk) -> Result<(), Trouble> {
 
 /// Prints what a run of the picker came to.
 fn shown_run(number: u8, clock: &str, picked: &Picked, desk: &mut Desk) -> Result<(), Trouble> {
-    let Picked { pick, word } = picked;
-    let answer = pick.number();
+    let Picked { answer, word } = picked;
+    let told = answer.number();
     let word = word.map_or(Vec::new(), |word| word.to_vec());
     let end = word.iter().position(|&byte| byte == files::FILLING);
     let word = String::from_utf8_lossy(&word[..end.unwrap_or(word.len())]).into_owned();
     writeln!(
         desk.out,
-        " {number}. pick at {TWICE}, {clock}: {answer}: {pick}\n    {word}"
+        " {number}. pick at {TWICE}, {clock}: {told}: {answer}\n    {word}"
     )?;
     Ok(())
 }

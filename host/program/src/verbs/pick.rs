@@ -82,13 +82,13 @@ fn run(mut words: Words, desk: &mut Desk) -> Result<(), Trouble> {
 
 /// Says what was done, or what is wrong and what to do.
 fn tell(doing: &str, picked: &Picked, quiet: bool, desk: &mut Desk) -> Result<(), Trouble> {
-    let pick = picked.pick;
-    if !pick.is_done() {
-        let wrong = format!("{doing}: {pick} {}", pick.remedy());
+    let answer = picked.answer;
+    if !answer.is_done() {
+        let wrong = format!("{doing}: {answer} {}", answer.remedy());
         return Err(Trouble::failed(wrong));
     }
     if !quiet {
-        desk.remark(format_args!("{doing}: {pick}"));
+        desk.remark(format_args!("{doing}: {answer}"));
     }
     Ok(())
 }
