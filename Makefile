@@ -3,7 +3,7 @@
 # make lib       the archive and the header, in build/lib and build/include
 # make build     the same, and the program, in build/bin
 # make install   archive, header, pkg-config file and program, under PREFIX; builds them unless build/ is up to date
-# make fuzz      random calls with new seeds until stopped; REPLAY=file runs a failing sequence again
+# make fuzz      random calls with new seeds until stopped; REPLAY=file runs a failing sequence again; PICKS=number runs the word picker
 # make bench     the library measured beside the reference
 .PHONY: test run lib build install fuzz bench
 
@@ -25,7 +25,7 @@ install:
 	@PREFIX='$(PREFIX)' DESTDIR='$(DESTDIR)' bash scripts/install
 
 fuzz:
-	@REPLAY='$(REPLAY)' SEED='$(SEED)' CALLS='$(CALLS)' bash scripts/fuzz
+	@REPLAY='$(REPLAY)' SEED='$(SEED)' CALLS='$(CALLS)' PICKS='$(PICKS)' CASE='$(CASE)' bash scripts/fuzz
 
 bench:
 	@bash scripts/bench

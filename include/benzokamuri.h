@@ -6,7 +6,8 @@
  * it answers with. It never fails otherwise than by a code: any bytes, any
  * notes, any lengths and any session are answered, and a refused call changes
  * none of the four buffers. Two more, benzo_lift and benzo_protect, lift and set
- * the write protection that every session begins with.
+ * the write protection that every session begins with. Above the calls, and made
+ * of them alone, is the word picker, benzo_pick.
  *
  *   static uint8_t image[BENZO_IMAGE_LEN], fcb[BENZO_FCB_LEN], buffer[BENZO_BUFFER_LEN];
  *   static uint16_t map[BENZO_MAP_LEN];
@@ -37,7 +38,7 @@ extern "C" {
 #endif
 
 /* Changes whenever the types below or the functions do. */
-#define BENZO_VERSION 3
+#define BENZO_VERSION 4
 
 /* The lengths that every call is due, whether it uses the buffer or not. The
  * map's is in notes of sixteen bits, the others in bytes. Any other length is
@@ -213,6 +214,88 @@ benzo_session benzo_lift(benzo_session session);
 /* Sets the write protection: the session that is handed in with lifted 0, and
  * all else in it as it came. Any session may be handed in. */
 benzo_session benzo_protect(benzo_session session);
+
+/* The word picker.
+ *
+ * A book has records of 128 bytes, record 0 for day 0 of a year. However often
+ * the job of a day is started, the log has the day once, and a run after the
+ * first changes nothing on the disk but access stamps. Names are those of an FCB,
+ * eleven bytes, as "WORDS   DAT" and "WORDS   LOG"; the files are those of the
+ * session's user. docs/PICKER.md says more. */
+typedef struct {
+    uint16_t year;    /* 0 to 65,535 */
+    uint16_t day;     /* 0 to 365 */
+    uint8_t book[11]; /* attributes, the high bits, mean nothing */
+    uint8_t log[11];
+} benzo_wanted;
+
+/* The time at which a word is picked, as every call is handed it; see
+ * benzo_asked. It is stored as stamps, and the word does not depend on it. */
+typedef struct {
+    uint16_t day;
+    uint8_t hour, minute;
+} benzo_time;
+
+/* How a run ended; 0 and 1 are no trouble.
+ *
+ * The word picker hands out the record of a day from a book, a file with a
+ * record a day, and writes the day into a log, unless the log has it. Where there
+ * is trouble the log, and all else on the disk but access stamps, is as it was;
+ * the word is handed out all the same wherever it could be read. Troubles are
+ * told in this order, the first that is so, but for these: a log that is missing
+ * has a full disk told before a full directory, and a refusal is told wherever it
+ * comes.
+ *
+ *   number  word    meaning
+ *        0  yes     The word was picked, and the day is in the log now.
+ *        1  yes     The word was picked again: the log had the day already.
+ *        2  no      The day is over 365.
+ *        3  no      There is no book: this user has no such file, or one without
+ *                   its first extent.
+ *        4  no      The book has no record for this day.
+ *        5  yes     Book and log are one file, so the day was not logged.
+ *        6  yes     The log lacks its first extent, so the day was not logged.
+ *        7  yes     The log is full: it has 1,024 records or more, none of this
+ *                   day.
+ *        8  yes     The log is read-only, so the day was not logged.
+ *        9  yes     The directory is full: the log needs an entry, and none is
+ *                   empty.
+ *       10  yes     The disk is full: the log needs a block, and none is free.
+ *       11  either  A call was refused; its A and H say why.
+ */
+#define BENZO_PICK_LOGGED 0
+#define BENZO_PICK_AGAIN 1
+#define BENZO_PICK_DAY_OVER 2
+#define BENZO_PICK_NO_BOOK 3
+#define BENZO_PICK_NO_WORD 4
+#define BENZO_PICK_ONE_FILE 5
+#define BENZO_PICK_NO_FIRST 6
+#define BENZO_PICK_LOG_FULL 7
+#define BENZO_PICK_LOG_READ_ONLY 8
+#define BENZO_PICK_DIRECTORY_FULL 9
+#define BENZO_PICK_DISK_FULL 10
+#define BENZO_PICK_OTHER 11
+
+/* What a run tells: its number, whether the word was handed out (1) or not (0),
+ * A and H of the refusal where the number is 11 and 0 otherwise, and the session.
+ * The session has its search ended if any call was accepted, and the write
+ * protection as it came: the picker lifts it for the log alone. */
+typedef struct {
+    uint8_t number, given, a, h;
+    benzo_session session;
+} benzo_picked;
+
+/* Picks a word.
+ *
+ * Image and map are those of benzo_call, after a log-in. The word is lent 128
+ * bytes, BENZO_BUFFER_LEN; where none is handed out they stay as they were. What
+ * was said of pointers and lengths there goes for these three too: any lengths,
+ * bytes, notes, times and sessions are answered. */
+benzo_picked benzo_pick(benzo_wanted wanted, benzo_time time,
+                        uint8_t *image, size_t image_len,
+                        uint16_t *map, size_t map_len,
+                        uint8_t *word, size_t word_len,
+                        benzo_session session);
 
 #ifdef __cplusplus
 }

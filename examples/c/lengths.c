@@ -1,7 +1,7 @@
-/* Every call with every length wrong in turn. Each buffer is exactly as long as
- * the call is told, so that a memory checker sees the first byte beyond it. A
- * wrong length is answered with 255, 4, and nothing changes. Where nothing is
- * lent, the pointer is NULL. */
+/* Every call, and the picker, with every length wrong in turn. Each buffer is
+ * exactly as long as it is said to be, so that a memory checker sees the first
+ * byte beyond it. A wrong length is answered with 255, 4, and nothing changes.
+ * Where nothing is lent, the pointer is NULL. */
 #include <stdio.h>
 #include <stdlib.h>
 #include <string.h>
@@ -44,6 +44,57 @@ static void lend(uint8_t number, const size_t *length, uint8_t filling) {
     refused++;
 }
 
+/* As many bytes as are asked for, or NULL for none. */
+static uint8_t *lent_bytes(size_t length, uint8_t filling) {
+    uint8_t *bytes = length == 0 ? NULL : malloc(length);
+    if (length > 0 && bytes == NULL) exit(2);
+    if (bytes != NULL) memset(bytes, filling, length);
+    return bytes;
+}
+
+/* Picks a word with these lengths, from a book whose one record is in block 2. */
+static void pick(size_t image_len, size_t map_len, size_t word_len) {
+    uint8_t *image = lent_bytes(image_len, 0xE5), *word = lent_bytes(word_len, 0x5E);
+    uint16_t *map = (uint16_t *)(void *)lent_bytes(map_len * sizeof *map, 0);
+    benzo_wanted wanted = {2026, 0, {0}, {0}};
+    benzo_time time = {17851, 0x06, 0x00};
+    benzo_session session = {0};
+    memcpy(wanted.book, "WORDS   DAT", 11);
+    memcpy(wanted.log, "WORDS   LOG", 11);
+    if (image_len >= 6656 + 32) {
+        memset(image + 6656, 0, 32); /* entry 0 */
+        memcpy(image + 6656 + 1, wanted.book, 11);
+        image[6656 + 15] = 1;
+        image[6656 + 16] = 2;
+    }
+    for (size_t block = 0; block < 3 && block < map_len; block++) map[block] = block < 2 ? 1 : 2;
+    benzo_picked picked = benzo_pick(wanted, time, image, image_len, map, map_len, word, word_len, session);
+    int right = image_len == BENZO_IMAGE_LEN && map_len == BENZO_MAP_LEN && word_len == BENZO_BUFFER_LEN;
+    int refused_so = picked.number == BENZO_PICK_OTHER && picked.a == 255 && picked.h == 4 && !picked.given;
+    if (right ? picked.number != BENZO_PICK_LOGGED : !refused_so) {
+        printf("picked with lengths %zu %zu %zu: %d, %d, %d\n", image_len, map_len, word_len,
+               picked.number, picked.a, picked.h);
+        exit(1);
+    }
+    if (!right && word_len > 0 && word[0] != 0x5E) exit(1);
+    free(image);
+    free(map);
+    free(word);
+    made++;
+    refused += !right;
+}
+
+static void pick_with_every_length_wrong(void) {
+    static const size_t lent[3] = {BENZO_IMAGE_LEN, BENZO_MAP_LEN, BENZO_BUFFER_LEN};
+    pick(lent[0], lent[1], lent[2]);
+    for (int i = 0; i < 3; i++) {
+        size_t wrong[] = {0, 1, lent[i] / 2, lent[i] - 1, lent[i] + 1, 2 * lent[i]};
+        for (size_t w = 0; w < sizeof wrong / sizeof *wrong; w++)
+            pick(i == 0 ? wrong[w] : lent[0], i == 1 ? wrong[w] : lent[1], i == 2 ? wrong[w] : lent[2]);
+    }
+    pick(0, 0, 0);
+}
+
 int main(void) {
     for (size_t c = 0; c < sizeof calls; c++) {
         lend(calls[c], right, 0xE5);
@@ -60,6 +111,7 @@ int main(void) {
         size_t none[4] = {0, 0, 0, 0};
         lend(calls[c], none, 0);
     }
+    pick_with_every_length_wrong();
     printf("%lu calls, %lu of them refused for a length\n", made, refused);
     return 0;
 }

@@ -82,14 +82,14 @@ pub fn some_time(random: &mut Random) -> Time {
 
 /// What stands on a disk beside files.
 #[derive(Clone, Copy, Debug)]
-struct Aside {
+pub(crate) struct Aside {
     dates: bool,
     /// What the label asks for, where there is one.
     label: Option<u8>,
 }
 
 /// How likely each is. Nearly half the disks have neither.
-const ASIDES: [(usize, Aside); 14] = [
+pub(crate) const ASIDES: [(usize, Aside); 14] = [
     (112, aside(false, None)),
     (4, aside(false, Some(0))),
     (11, aside(false, Some(asks::CREATE | asks::UPDATE))),
@@ -254,7 +254,12 @@ fn some_rows(random: &mut Random, cast: &Cast, fullness: Fullness, aside: Aside)
 }
 
 /// Puts label and date entries on a disk, and gives the places that are left.
-fn put_aside(random: &mut Random, cast: &Cast, aside: Aside, rows: &mut [Row; 64]) -> Vec<usize> {
+pub(crate) fn put_aside(
+    random: &mut Random,
+    cast: &Cast,
+    aside: Aside,
+    rows: &mut [Row; 64],
+) -> Vec<usize> {
     let mut places: Vec<usize> = (0..64).collect();
     if aside.dates {
         places.retain(|place| place % 4 != 3);
@@ -273,13 +278,13 @@ fn put_aside(random: &mut Random, cast: &Cast, aside: Aside, rows: &mut [Row; 64
 }
 
 /// What tells an entry apart.
-fn identity(row: &Row) -> (u8, Name, u16) {
+pub(crate) fn identity(row: &Row) -> (u8, Name, u16) {
     let name = std::array::from_fn(|i| row[1 + i] & 0x7F);
     (row[0], name, 32 * u16::from(row[14]) + u16::from(row[12]))
 }
 
 /// An empty entry: all E5H, or what a delete leaves.
-fn empty_row(random: &mut Random, cast: &Cast) -> Row {
+pub(crate) fn empty_row(random: &mut Random, cast: &Cast) -> Row {
     if random.chance(50) {
         return [0xE5; 32];
     }
@@ -357,7 +362,7 @@ fn list_blocks(random: &mut Random, rows: &mut [Row; 64], fullness: Fullness) ->
 }
 
 /// Whether an entry is a file's.
-fn is_used(row: &Row) -> bool {
+pub(crate) fn is_used(row: &Row) -> bool {
     ![EMPTY, LABEL, DATES].contains(&row[0])
 }
 

@@ -87,7 +87,7 @@ fn take(
 }
 
 /// Tells what differs, the first cell of each buffer.
-fn differences(left: &World, right: &World, text: &mut String) {
+pub(crate) fn differences(left: &World, right: &World, text: &mut String) {
     fn first<T: PartialEq + std::fmt::Debug>(
         what: &str,
         left: &[T],

@@ -21,6 +21,8 @@
 //! assert!(counts.calls >= 500);
 //! ```
 //!
+//! Word pickers are run side by side by [`picking`].
+//!
 //! A run that fails gives its [`Failure`], with the sequence as a text that
 //! [`replay`] runs again.
 
@@ -33,6 +35,7 @@ pub mod disks;
 mod duel;
 pub mod faults;
 mod laws;
+pub mod picking;
 pub mod random;
 pub mod sequence;
 mod world;

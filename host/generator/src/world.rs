@@ -125,7 +125,7 @@ impl<T: Copy + PartialEq + From<u8>> Guarded<T> {
     }
 
     /// The same, to be changed.
-    fn lent_mut(&mut self, length: usize) -> &mut [T] {
+    pub(crate) fn lent_mut(&mut self, length: usize) -> &mut [T] {
         &mut self.cells[GUARD..GUARD + length.min(self.right + MOST_OVER)]
     }
 

@@ -1,4 +1,4 @@
-//! The boundary: the archive's three functions, the types they take and answer,
+//! The boundary: the archive's four functions, the types they take and answer,
 //! and the safe way to them. Nothing compares these declarations with the proved
 //! source; `tests/layout.rs` compares them with the C header.
 
@@ -6,7 +6,7 @@ use crate::Time;
 
 /// The version of these types and of the functions, the header's
 /// `BENZO_VERSION`.
-pub const VERSION: u32 = 3;
+pub const VERSION: u32 = 4;
 
 /// Which call is asked for, and when: `benzo_asked`. The time may be anything
 /// here; [`Asked::new`] takes one that is right.
@@ -68,6 +68,58 @@ pub struct Answer {
     pub session: Session,
 }
 
+/// What a picker is asked for: `benzo_wanted`. Anything may stand in it.
+#[repr(C)]
+#[derive(Clone, Copy, Debug, PartialEq, Eq)]
+pub struct Wanted {
+    /// The year.
+    pub year: u16,
+    /// The day, counted from 0; over 365 there is none.
+    pub day: u16,
+    /// Name and type of the book.
+    pub book: [u8; 11],
+    /// Name and type of the log.
+    pub log: [u8; 11],
+}
+
+/// The time at which a word is picked: `benzo_time`. It may be anything here.
+#[repr(C)]
+#[derive(Clone, Copy, Debug, Default, PartialEq, Eq)]
+pub struct PickedAt {
+    /// The day, where 1 January 1978 is 1.
+    pub day: u16,
+    /// The hour, in BCD; anything else is refused with 255, 4.
+    pub hour: u8,
+    /// The minute, in BCD; anything else is refused with 255, 4.
+    pub minute: u8,
+}
+
+impl From<Time> for PickedAt {
+    fn from(time: Time) -> PickedAt {
+        PickedAt {
+            day: time.day(),
+            hour: time.hour_bcd(),
+            minute: time.minute_bcd(),
+        }
+    }
+}
+
+/// What a picker tells: `benzo_picked`. [`Pick::read`](crate::Pick::read) reads it.
+#[repr(C)]
+#[derive(Clone, Copy, Debug, Default, PartialEq, Eq)]
+pub struct Told {
+    /// How the run ended, 0 to 11.
+    pub number: u8,
+    /// Whether the word was handed out: 1, or 0.
+    pub given: u8,
+    /// Register A of a refusal that has no number of its own.
+    pub a: u8,
+    /// Register H of the same.
+    pub h: u8,
+    /// The session for what comes next.
+    pub session: Session,
+}
+
 #[allow(unsafe_code)]
 unsafe extern "C" {
     fn benzo_call(
@@ -82,6 +134,18 @@ unsafe extern "C" {
         buffer_len: usize,
         session: Session,
     ) -> Answer;
+
+    fn benzo_pick(
+        wanted: Wanted,
+        time: PickedAt,
+        image: *mut u8,
+        image_len: usize,
+        map: *mut u16,
+        map_len: usize,
+        word: *mut u8,
+        word_len: usize,
+        session: Session,
+    ) -> Told;
 
     // These two take and give numbers alone, which may be anything.
     safe fn benzo_lift(session: Session) -> Session;
@@ -127,6 +191,36 @@ pub fn lend(
             fcb.len(),
             buffer.as_mut_ptr(),
             buffer.len(),
+            session,
+        )
+    }
+}
+
+/// Picks a word with the three buffers as they are lent, right or wrong. The word
+/// is due 128 bytes; any other length is told as a refusal with 255, 4, unless
+/// something else is told before it.
+#[allow(unsafe_code)]
+pub fn pick(
+    wanted: Wanted,
+    time: PickedAt,
+    image: &mut [u8],
+    map: &mut [u16],
+    word: &mut [u8],
+    session: Session,
+) -> Told {
+    // SAFETY: as above, of three exclusive slices: each pointer goes with its own
+    // length, and the function keeps none of them. It asks nothing of what is
+    // wanted, the time, the bytes, the notes, the lengths or the session.
+    unsafe {
+        benzo_pick(
+            wanted,
+            time,
+            image.as_mut_ptr(),
+            image.len(),
+            map.as_mut_ptr(),
+            map.len(),
+            word.as_mut_ptr(),
+            word.len(),
             session,
         )
     }

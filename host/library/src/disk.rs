@@ -1,8 +1,8 @@
 //! A disk: an image with what the calls need beside it.
 
 use crate::{
-    lend, lift, protect, Asked, Buffer, Call, Code, Entry, Fcb, Image, Map, Session, Time,
-    BUFFER_LEN, ENTRY_LEN, IMAGE_LEN, MAP_LEN,
+    lend, lift, pick, protect, Asked, Buffer, Call, Code, Entry, Fcb, Image, Map, Name, Pick,
+    Picked, Session, Time, Wanted, BUFFER_LEN, ENTRY_LEN, IMAGE_LEN, MAP_LEN,
 };
 use std::fmt;
 
@@ -348,6 +348,47 @@ impl Disk {
     /// Call 98: frees the blocks that are pending.
     pub fn free_blocks(&mut self) -> Result<(), Code> {
         self.call_without_fcb(Call::FreeBlocks).map(|_| ())
+    }
+
+    /// Picks the word of a day, 0 to 365, out of a book, and logs the day unless
+    /// the log has it. Both files are the present user's. The disk may be
+    /// write-protected, and is afterwards what it was: the protection is lifted
+    /// for the log alone. The transfer buffer stays as it is.
+    ///
+    /// ```
+    /// # fn main() -> Result<(), Box<dyn std::error::Error>> {
+    /// # let mut disk = benzokamuri::Disk::erased();
+    /// let picked = disk.pick(2026, 297, "WORDS.DAT".parse()?, "WORDS.LOG".parse()?);
+    /// println!("{}", picked.answer); // the help card's sentence
+    /// if let Some(word) = picked.word {
+    ///     println!("{} bytes", word.len()); // 128
+    /// }
+    /// # assert_eq!(picked.answer, benzokamuri::Pick::NoBook);
+    /// # Ok(())
+    /// # }
+    /// ```
+    pub fn pick(&mut self, year: u16, day: u16, book: Name, log: Name) -> Picked {
+        let wanted = Wanted {
+            year,
+            day,
+            book: *book.bytes(),
+            log: *log.bytes(),
+        };
+        let (image, map) = (&mut *self.image, &mut *self.map);
+        let mut word = [0; BUFFER_LEN];
+        let told = pick(
+            wanted,
+            self.time.into(),
+            image,
+            map,
+            &mut word,
+            self.session,
+        );
+        self.session = told.session;
+        Picked {
+            answer: Pick::read(&told),
+            word: (told.given != 0).then_some(word),
+        }
     }
 }
 

@@ -27,9 +27,12 @@
 //! * [`lend`] is the archive's call itself, which takes buffers of any length
 //!   and any session: wrong ones are refused, not undefined. [`lift`] and
 //!   [`protect`] lift and set the write protection of a session.
+//! * [`Disk::pick`] is the word picker, which is made of calls: it hands out the
+//!   word of a day and logs the day, once however often it is started. [`Pick`]
+//!   says how a run ended, and [`pick`] is the archive's function itself.
 //!
-//! This crate alone holds `unsafe`, in one file: the archive's three functions
-//! are declared there, and the call is made in one block.
+//! This crate alone holds `unsafe`, in one file: the archive's four functions
+//! are declared there, and the call and the picker have a block each.
 
 #![deny(unsafe_code)]
 #![warn(missing_docs)]
@@ -40,15 +43,19 @@ mod codes;
 mod disk;
 mod fcb;
 mod names;
+mod picker;
 mod time;
 mod zone;
 
-pub use boundary::{lend, lift, protect, Answer, Asked, Session, VERSION};
+pub use boundary::{
+    lend, lift, pick, protect, Answer, Asked, PickedAt, Session, Told, Wanted, VERSION,
+};
 pub use calls::Call;
 pub use codes::Code;
 pub use disk::{Disk, Found, NoDisk, Stamps, WrongLength};
 pub use fcb::Fcb;
 pub use names::{BadName, Name, Pattern};
+pub use picker::{Pick, Picked, LOG_RECORDS};
 pub use time::{BadTime, Date, Time};
 
 /// Bytes of an image: 77 tracks of 26 sectors of 128 bytes.

@@ -178,6 +178,13 @@ impl Date {
             .and_then(|day| u16::try_from(day).ok())
     }
 
+    /// The day of its year, counted from 0: 0 is 1 January, and 31 December 364,
+    /// or 365 in a leap year.
+    pub fn day_of_year(self) -> u16 {
+        let months = (1..self.month).map(|month| u16::from(days_of(self.year, month)));
+        (months.sum::<u16>() + u16::from(self.day)).saturating_sub(1)
+    }
+
     /// The date of a day's number; 0 has none.
     pub(crate) fn of_day(number: u16) -> Option<Date> {
         let mut left = u32::from(number).checked_sub(1)?;
@@ -303,6 +310,21 @@ mod tests {
             assert_eq!(Date::of_day(number), Some(date), "{number}");
         }
         assert_eq!(Date::of_day(0), None);
+    }
+
+    #[test]
+    fn days_of_a_year_count_from_0() {
+        for (day, date) in [
+            (0, date(2026, 1, 1)),
+            (58, date(2026, 2, 28)),
+            (59, date(2026, 3, 1)),
+            (59, date(2024, 2, 29)),
+            (297, date(2026, 10, 25)),
+            (364, date(2026, 12, 31)),
+            (365, date(2024, 12, 31)),
+        ] {
+            assert_eq!(date.day_of_year(), day, "{date}");
+        }
     }
 
     #[test]

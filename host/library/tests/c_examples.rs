@@ -18,7 +18,17 @@ Hello from a diskette!
 ";
 
 /// What the program of `examples/c/lengths.c` has to print.
-const LENGTHS: &str = "459 calls, 425 of them refused for a length\n";
+const LENGTHS: &str = "479 calls, 444 of them refused for a length\n";
+
+/// What the program of `examples/c/pick.c` has to print.
+const PICK: &str = "\
+02:30, summer time: answer 0, picked and logged
+    the word of day 297
+02:30, winter time: answer 1, picked again
+    the word of day 297
+records of the log: 1
+    02026 297
+";
 
 /// The memory checker's words.
 const MEMCHECK: [&str; 4] = [
@@ -40,6 +50,13 @@ fn every_length_wrong_in_turn() {
     let lengths = common::compile("examples/c/lengths.c");
     assert_eq!(lengths.run(), LENGTHS);
     check_memory(&lengths, LENGTHS);
+}
+
+#[test]
+fn the_night_the_clocks_go_back() {
+    let pick = common::compile("examples/c/pick.c");
+    assert_eq!(pick.run(), PICK);
+    check_memory(&pick, PICK);
 }
 
 fn check_memory(program: &common::Compiled, expected: &str) {

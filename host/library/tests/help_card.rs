@@ -2,7 +2,7 @@
 
 mod common;
 
-use benzokamuri::{Call, Code};
+use benzokamuri::{Call, Code, Pick};
 
 /// A text with every run of white space, and what C comments add, as one
 /// space.
@@ -16,6 +16,23 @@ fn read(path: &str) -> String {
     std::fs::read_to_string(&path).unwrap_or_else(|e| panic!("{}: {e}", path.display()))
 }
 
+/// Where the word picker begins, in the card and in the header.
+const PICKER: [(&str, &str); 2] = [
+    ("docs/HELP-CARD.md", "\n## The word picker\n"),
+    ("include/benzokamuri.h", "/* The word picker.\n"),
+];
+
+/// A page up to the word picker, and from there on.
+fn parts(path: &str) -> [String; 2] {
+    let (_, begins) = PICKER
+        .into_iter()
+        .find(|(page, _)| *page == path)
+        .expect("a page");
+    let page = read(path);
+    let (before, from) = page.split_once(begins).expect("a part about the picker");
+    [before.to_string(), from.to_string()]
+}
+
 fn calls(code: Code, between: &str) -> String {
     let calls: Vec<String> = code.calls().iter().map(u8::to_string).collect();
     calls.join(between)
@@ -23,7 +40,7 @@ fn calls(code: Code, between: &str) -> String {
 
 #[test]
 fn the_header_has_every_case_in_order_and_no_other() {
-    let header = read("include/benzokamuri.h");
+    let [header, _] = parts("include/benzokamuri.h");
     let begins_a_case = |line: &&str| {
         let text = line.strip_prefix(" *   ").unwrap_or("");
         text.starts_with(|first: char| first.is_ascii_digit())
@@ -44,7 +61,7 @@ fn the_header_has_every_case_in_order_and_no_other() {
 
 #[test]
 fn the_help_card_has_every_case_in_order() {
-    let card = read("docs/HELP-CARD.md");
+    let [card, _] = parts("docs/HELP-CARD.md");
     let rows: Vec<&str> = card
         .lines()
         .filter(|line| line.starts_with("| ") && line.contains(", "))
@@ -78,7 +95,7 @@ fn header_and_help_card_say_the_same_beside_the_table() {
 /// is where to read on, and its headings.
 #[test]
 fn the_help_card_says_nothing_else_below_the_table() {
-    let card = read("docs/HELP-CARD.md");
+    let [card, _] = parts("docs/HELP-CARD.md");
     let (_, below) = card.rsplit_once("|\n").expect("a table");
     let text: Vec<&str> = below.lines().filter(|l| !l.starts_with('#')).collect();
     let mut rest = flat(&text.join("\n"));
@@ -96,6 +113,72 @@ fn the_help_card_says_nothing_else_below_the_table() {
          `benzokamuri help codes` prints this card too, and `benzokamuri check` says where a \
          directory is not consistent."
     );
+}
+
+/// Number, word and sentence of every answer of the picker.
+fn answers() -> Vec<[String; 3]> {
+    let named = Pick::NAMED.iter().map(|pick| {
+        let word = if pick.gives() == Some(true) {
+            "yes"
+        } else {
+            "no"
+        };
+        [pick.number().to_string(), word.into(), pick.to_string()]
+    });
+    let refused = [
+        Pick::OTHER.to_string(),
+        "either".into(),
+        Pick::REFUSED.into(),
+    ];
+    named.chain([refused]).collect()
+}
+
+#[test]
+fn the_help_card_has_every_answer_of_the_picker_and_no_other() {
+    let [_, card] = parts("docs/HELP-CARD.md");
+    let rows: Vec<&str> = card.lines().filter(|line| line.starts_with("| ")).collect();
+    let expected = answers()
+        .into_iter()
+        .map(|answer| format!("| {} |", answer.join(" | ")));
+    assert_eq!(rows[0], "| Number | Word | Meaning |");
+    assert!(rows[1..].iter().copied().eq(expected));
+    let text: Vec<&str> = card.lines().filter(|line| !line.starts_with('|')).collect();
+    let expected = format!(
+        "{} [PICKER.md](PICKER.md) says what to do about each.",
+        Pick::ABOUT
+    );
+    assert_eq!(flat(&text.join("\n")), flat(&expected));
+    assert!(Pick::ABOUT.lines().all(|line| line.len() <= 80));
+}
+
+#[test]
+fn the_header_has_every_answer_of_the_picker_and_no_other() {
+    let [_, header] = parts("include/benzokamuri.h");
+    let table: Vec<&str> = header
+        .lines()
+        .skip_while(|line| !line.ends_with("number  word    meaning"))
+        .skip(1)
+        .take_while(|line| *line != " */")
+        .collect();
+    let expected = answers().concat().join(" ");
+    assert_eq!(flat(&table.join("\n")), flat(&expected));
+    assert!(flat(&header).contains(&flat(Pick::ABOUT)));
+    let defined = header
+        .lines()
+        .filter(|line| line.starts_with("#define BENZO_PICK_"));
+    let numbers = defined.map(|line| line.rsplit(' ').next().expect("a number"));
+    assert!(numbers.eq((0..=Pick::OTHER).map(|number| number.to_string())));
+}
+
+/// What to do about each trouble stands in the workshop's page.
+#[test]
+fn the_workshops_page_has_every_remedy() {
+    let page = flat(&read("docs/PICKER.md"));
+    for pick in Pick::NAMED {
+        assert!(page.contains(pick.sentence()), "{pick}");
+        assert!(page.contains(pick.remedy()), "{}", pick.remedy());
+    }
+    assert!(page.contains(Pick::REFUSED));
 }
 
 #[test]

@@ -2,7 +2,10 @@
 
 mod common;
 
-use benzokamuri::{Answer, Asked, Session, Time, BUFFER_LEN, FCB_LEN, IMAGE_LEN, MAP_LEN, VERSION};
+use benzokamuri::{
+    Answer, Asked, PickedAt, Session, Time, Told, Wanted, BUFFER_LEN, FCB_LEN, IMAGE_LEN, MAP_LEN,
+    VERSION,
+};
 use std::mem::{align_of, offset_of, size_of};
 
 /// What both sides have to have: a size or place, and its number.
@@ -24,6 +27,21 @@ fn rust_layout() -> Vec<(&'static str, usize)> {
         ("benzo_answer.a", offset_of!(Answer, a)),
         ("benzo_answer.h", offset_of!(Answer, h)),
         ("benzo_answer.session", offset_of!(Answer, session)),
+        ("benzo_wanted", size_of::<Wanted>()),
+        ("benzo_wanted.year", offset_of!(Wanted, year)),
+        ("benzo_wanted.day", offset_of!(Wanted, day)),
+        ("benzo_wanted.book", offset_of!(Wanted, book)),
+        ("benzo_wanted.log", offset_of!(Wanted, log)),
+        ("benzo_time", size_of::<PickedAt>()),
+        ("benzo_time.day", offset_of!(PickedAt, day)),
+        ("benzo_time.hour", offset_of!(PickedAt, hour)),
+        ("benzo_time.minute", offset_of!(PickedAt, minute)),
+        ("benzo_picked", size_of::<Told>()),
+        ("benzo_picked.number", offset_of!(Told, number)),
+        ("benzo_picked.given", offset_of!(Told, given)),
+        ("benzo_picked.a", offset_of!(Told, a)),
+        ("benzo_picked.h", offset_of!(Told, h)),
+        ("benzo_picked.session", offset_of!(Told, session)),
         ("BENZO_VERSION", VERSION as usize),
         ("BENZO_IMAGE_LEN", IMAGE_LEN),
         ("BENZO_MAP_LEN", MAP_LEN),
@@ -33,7 +51,7 @@ fn rust_layout() -> Vec<(&'static str, usize)> {
 }
 
 #[test]
-fn rust_has_the_sizes_and_places_of_version_3() {
+fn rust_has_the_sizes_and_places_of_version_4() {
     let expected = [
         ("benzo_asked", 6),
         ("benzo_asked.number", 0),
@@ -51,7 +69,22 @@ fn rust_has_the_sizes_and_places_of_version_3() {
         ("benzo_answer.a", 0),
         ("benzo_answer.h", 1),
         ("benzo_answer.session", 2),
-        ("BENZO_VERSION", 3),
+        ("benzo_wanted", 26),
+        ("benzo_wanted.year", 0),
+        ("benzo_wanted.day", 2),
+        ("benzo_wanted.book", 4),
+        ("benzo_wanted.log", 15),
+        ("benzo_time", 4),
+        ("benzo_time.day", 0),
+        ("benzo_time.hour", 2),
+        ("benzo_time.minute", 3),
+        ("benzo_picked", 22),
+        ("benzo_picked.number", 0),
+        ("benzo_picked.given", 1),
+        ("benzo_picked.a", 2),
+        ("benzo_picked.h", 3),
+        ("benzo_picked.session", 4),
+        ("BENZO_VERSION", 4),
         ("BENZO_IMAGE_LEN", 256_256),
         ("BENZO_MAP_LEN", 243),
         ("BENZO_FCB_LEN", 36),
@@ -61,6 +94,9 @@ fn rust_has_the_sizes_and_places_of_version_3() {
     assert_eq!(align_of::<Asked>(), 2);
     assert_eq!(align_of::<Session>(), 2);
     assert_eq!(align_of::<Answer>(), 2);
+    assert_eq!(align_of::<Wanted>(), 2);
+    assert_eq!(align_of::<PickedAt>(), 2);
+    assert_eq!(align_of::<Told>(), 2);
 }
 
 #[test]
@@ -183,4 +219,81 @@ fn the_time_comes_out_as_a_stamp() {
     let stamps = &image[common::entry_place(3) + 11..][..8];
     assert_eq!(stamps, [0x34, 0x12, 0x56, 0x78, 0, 0, 0, 0]);
     assert_eq!(stamps[..4], some_time().stamp());
+}
+
+/// Every field of what a picker is asked and tells, across and back.
+#[test]
+fn every_field_of_the_picker_crosses_the_boundary() {
+    let mut image = common::dated_image(0x30);
+    // A book of one entry whose day's word is in block 2: record 5 of extent 2.
+    for (entry, extent, rc, block) in [(1, 0, 1, 9), (2, 2, 6, 2)] {
+        let row = &mut image[common::entry_place(entry)..][..32];
+        row.fill(0);
+        row[..13].copy_from_slice(b"\x0BBOOK   1ABC\0");
+        (row[12], row[15], row[16]) = (extent, rc, block);
+    }
+    let word = common::record_place(2, 5);
+    image[word..][..128].copy_from_slice(&std::array::from_fn::<u8, 128, _>(|i| i as u8 ^ 0x55));
+    let mut map = [0; MAP_LEN];
+    map[..3].copy_from_slice(&[1, 1, 2]);
+    map[9] = 2;
+    let wanted = Wanted {
+        year: 0xFEDC,
+        day: 261,
+        book: *b"BOOK   1ABC",
+        log: *b"LOG    2XYZ",
+    };
+    let at = PickedAt {
+        day: 0x1234,
+        hour: 0x56,
+        minute: 0x78,
+    };
+    let mut given = [0; BUFFER_LEN];
+    let told = benzokamuri::pick(wanted, at, &mut image, &mut map, &mut given, SESSION);
+    let ended = Session {
+        place: 0,
+        on: 0,
+        ..SESSION
+    };
+    assert_eq!((told.number, told.given, told.a, told.h), (0, 1, 0, 0));
+    assert_eq!(told.session, ended);
+    assert_eq!(given[..], image[word..][..128]);
+    let log = &image[common::entry_place(4)..][..32];
+    assert_eq!(log[..12], *b"\x0BLOG    2XYZ");
+    assert_eq!((log[15], log[16], map[3]), (1, 3, 2));
+    let record = &image[common::record_place(3, 0)..][..11];
+    assert_eq!(record, b"65244 261\r\n");
+    let stamps = &image[common::entry_place(7) + 1..][..8];
+    assert_eq!(stamps, [0x34, 0x12, 0x56, 0x78, 0x34, 0x12, 0x56, 0x78]);
+
+    // Each field of what it tells: a refusal, with the session as it came.
+    let far = Session {
+        place: 0x0140,
+        ..SESSION
+    };
+    let told = benzokamuri::pick(wanted, at, &mut image, &mut map, &mut given, far);
+    assert_eq!((told.number, told.given, told.a, told.h), (11, 0, 255, 4));
+    assert_eq!(told.session, far);
+}
+
+/// Each length by itself is looked at, and nothing is written where it is wrong.
+#[test]
+fn the_lengths_of_the_picker_are_looked_at() {
+    let wanted = Wanted {
+        year: 2026,
+        day: 0,
+        book: *b"WORDS   DAT",
+        log: *b"WORDS   LOG",
+    };
+    for (image_len, map_len) in [(0, MAP_LEN), (IMAGE_LEN - 1, MAP_LEN), (IMAGE_LEN, 0)] {
+        let mut image = vec![0xE5; image_len];
+        let mut map = vec![0; map_len];
+        let mut word = [7; 3];
+        let at = PickedAt::default();
+        let session = Session::default();
+        let told = benzokamuri::pick(wanted, at, &mut image, &mut map, &mut word, session);
+        assert_eq!((told.number, told.given, told.a, told.h), (11, 0, 255, 4));
+        assert_eq!(told.session, session);
+        assert!(image.iter().all(|&byte| byte == 0xE5) && word == [7; 3]);
+    }
 }

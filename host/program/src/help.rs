@@ -2,7 +2,7 @@
 
 use crate::trouble::Trouble;
 use crate::{verbs, Desk, Verb};
-use benzokamuri::Code;
+use benzokamuri::{Code, Pick};
 use std::ffi::OsString;
 use std::io::Write;
 
@@ -105,5 +105,20 @@ fn codes(desk: &mut Desk) -> Result<(), Trouble> {
     for remark in Code::REMARKS {
         write!(desk.out, "\n{remark}")?;
     }
+    answers(desk)
+}
+
+/// The help card's part about the word picker.
+fn answers(desk: &mut Desk) -> Result<(), Trouble> {
+    writeln!(desk.out, "\n{}\nNumber  word    meaning", Pick::ABOUT)?;
+    for pick in Pick::NAMED {
+        let word = if pick.gives() == Some(true) {
+            "yes"
+        } else {
+            "no"
+        };
+        writeln!(desk.out, "{:>6}  {word:<6}  {pick}", pick.number())?;
+    }
+    writeln!(desk.out, "{:>6}  either  {}", Pick::OTHER, Pick::REFUSED)?;
     Ok(())
 }

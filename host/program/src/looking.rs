@@ -1,12 +1,12 @@
 //! A disk that is only looked at.
 
 use crate::Desk;
-use benzokamuri::{Buffer, Code, Disk, Fcb, Found, Image, Map, Session, Time};
+use benzokamuri::{Buffer, Code, Disk, Fcb, Found, Image, Map, Name, Picked, Session, Time};
 
 /// A disk that stays write-protected for as long as it is looked at. It has the
 /// calls that look, and none of the others. Files are found and read on no other
-/// kind of disk, so a verb has to let go of this one, by [`Looking::lifted`], to
-/// change anything.
+/// kind of disk, so a verb has to let go of this one, by [`Looking::lifted`] or
+/// [`Looking::picked`], to change anything.
 pub struct Looking(Disk);
 
 impl Looking {
@@ -29,6 +29,14 @@ impl Looking {
     pub fn lifted(mut self, desk: &mut Desk) -> Disk {
         desk.lift(&mut self.0);
         self.0
+    }
+
+    /// The disk after a run of the word picker, and what that came to. The
+    /// picker lifts the protection for its log alone, and sets it again, so it
+    /// stamps no access.
+    pub fn picked(mut self, (year, day): (u16, u16), [book, log]: [Name; 2]) -> (Disk, Picked) {
+        let picked = self.0.pick(year, day, book, log);
+        (self.0, picked)
     }
 
     /// The image.

@@ -574,6 +574,8 @@ fn every_verb_takes_a_time() {
         "check disk.img",
         "map disk.img",
         "call disk.img 13",
+        "put disk.img file words.dat",
+        "pick -q --year 2026 --day 0 disk.img",
         "demo",
     ] {
         folder.done_at(NOW, line);

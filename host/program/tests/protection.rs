@@ -1,6 +1,6 @@
 //! Write protection: verbs that look never lift it, verbs that change a disk do
-//! so once, `demo` once for each of its two, and `call` keeps it from one run to
-//! the next.
+//! so once, `demo` once for each of its three, the picker lifts for its log alone,
+//! and `call` keeps it from one run to the next.
 
 mod common;
 
@@ -72,13 +72,13 @@ fn verbs_that_look_never_lift() {
     assert_eq!(folder.read("copy")[..20_000], [7; 20_000]);
 }
 
-/// `demo` has two disks of its own, and no other.
+/// `demo` has three disks of its own, and no other.
 #[test]
 fn the_demo_lifts_each_of_its_disks_once() {
     let folder = Folder::new();
-    assert_eq!(lifts(&folder, "demo"), (0, 2));
+    assert_eq!(lifts(&folder, "demo"), (0, 3));
     let said = folder.done("demo");
-    assert_eq!(said.matches("The write protection is lifted").count(), 2);
+    assert_eq!(said.matches("The write protection is lifted").count(), 3);
     assert!(folder.names().is_empty());
 }
 
@@ -162,6 +162,7 @@ fn there_is_one_way_to_lift() {
             r#"demo.rs: "    The write protection is lifted: from here on calls may change the disk.\n""#,
             "demo.rs: lift(&mut disk, desk)?;",
             "demo.rs: lift(&mut disk, desk)?;",
+            "demo.rs: lift(&mut disk, desk)?;",
             // For --stamp alone, when all was read.
             "get.rs: let mut disk = disk.lifted(desk);",
             // The one way.
@@ -192,11 +193,44 @@ fn few_make_a_disk_that_can_be_lifted() {
             "demo.rs: let mut image = Box::new(*Disk::erased().image());",
             "demo.rs: let disk = Disk::new(image.to_vec());",
             "demo.rs: let mut disk = Disk::erased();",
+            "demo.rs: let mut disk = Disk::erased();",
             "looking.rs: let mut disk = Disk::resumed(image, map, session);",
             // For its bytes alone.
             "new.rs: let mut image = Box::new(*Disk::erased().image());",
             "store.rs: let mut disk = Disk::new(self.image.to_vec()).map_err(|no_disk| match no_disk {",
         ]
+    );
+}
+
+/// The library's picker lifts the protection for its log by itself, so it is run
+/// on what a verb lets go of, and on the demo's disk.
+#[test]
+fn there_is_one_way_to_pick() {
+    let picks = code_with(&[".pick(", "::pick(", ".picked("]);
+    assert_eq!(
+        picks,
+        [
+            "demo.rs: let picked = disk.pick(DAY.0, DAY.1, book, log);",
+            "looking.rs: let picked = self.0.pick(year, day, book, log);",
+            "pick.rs: let (disk, picked) = image.log_in(words.user(), time)?.picked(wanted, files);",
+        ]
+    );
+}
+
+/// No access stamp is left: the program lifts nothing for a run of the picker.
+#[test]
+fn the_picker_lifts_for_its_log_alone() {
+    let folder = with_files();
+    folder.done("put disk.img LONG.DAT words.dat");
+    let before = folder.read("disk.img");
+    let line = "pick --year 2026 --day 3 @disk.img";
+    assert_eq!(lifts(&folder, line), (0, 0));
+    let logged = folder.read("disk.img");
+    assert!(logged != before, "the log is there");
+    assert_eq!(lifts(&folder, line), (0, 0));
+    assert!(
+        folder.read("disk.img") == logged,
+        "no stamp, and no other byte"
     );
 }
 

@@ -2,7 +2,7 @@
 
 mod common;
 
-use benzokamuri::Code;
+use benzokamuri::{Code, Pick};
 use common::{bytes, Folder, Ran};
 use program::layout::entry_place;
 use std::io::Write;
@@ -504,6 +504,14 @@ fn wrong_usage_has_status_2_and_says_what_is_right() {
         "call disk.img 15 -a 256",
         "call disk.img 15 00 --name a",
         "call disk.img 15 --lift --protect",
+        "pick",
+        "pick disk.img more",
+        "pick --year 2026 disk.img",
+        "pick --day 1 disk.img",
+        "pick --year 65536 --day 1 disk.img",
+        "pick --year 2026 --day -1 disk.img",
+        "pick --year 2026 --day +1 disk.img",
+        "pick --year 2026 --day one disk.img",
         "demo more",
         "demo --time now",
         "help nosuch",
@@ -537,7 +545,7 @@ fn help_for_everything() {
     assert_eq!(folder.done("--help"), all);
     assert_eq!(folder.done("-h"), all);
     for verb in [
-        "new", "ls", "get", "put", "rm", "mv", "free", "check", "map", "call", "demo",
+        "new", "ls", "get", "put", "rm", "mv", "free", "check", "map", "pick", "call", "demo",
     ] {
         let help = folder.done(&format!("help {verb}"));
         assert!(help.starts_with(&format!("usage: benzokamuri {verb} ")));
@@ -553,9 +561,19 @@ fn help_for_everything() {
     let codes = folder.done("help codes");
     let (cases, below) = codes.split_once("\n\n").unwrap();
     assert_eq!(cases.lines().count(), 1 + 22, "a heading and the cases");
-    assert_eq!(below, Code::REMARKS.join("\n"));
-    assert!(below.lines().all(|line| line.len() <= 80), "{below}");
-    assert!(folder.done("--version").contains("interface 3"));
+    let (remarks, picker) = below.split_once(Pick::ABOUT).unwrap();
+    assert_eq!(remarks, format!("{}\n", Code::REMARKS.join("\n")));
+    assert!(remarks.lines().all(|line| line.len() <= 80), "{remarks}");
+    assert_eq!(
+        picker.lines().count(),
+        1 + 1 + 12,
+        "a heading and the answers"
+    );
+    for pick in Pick::NAMED {
+        let number = format!("\n{:>6}  ", pick.number());
+        assert!(picker.contains(&number) && picker.contains(pick.sentence()));
+    }
+    assert!(folder.done("--version").contains("interface 4"));
 }
 
 #[test]
@@ -760,7 +778,7 @@ fn calls_on_an_image_that_is_not_consistent() {
 }
 
 #[test]
-fn the_demo_is_the_double_job() {
+fn the_demo_is_as_it_was_kept() {
     let folder = Folder::new();
     let demo = folder.done("demo");
     let expected = include_str!("expected/demo.txt");
@@ -769,6 +787,18 @@ fn the_demo_is_the_double_job() {
         .done("demo -u 3")
         .contains("A JOB.DAT, user 3: 1 block"));
     assert!(folder.done("demo --colour always").contains('\x1B'));
+    // It ends with the job that is started twice: one log record.
+    let last: Vec<&str> = demo.lines().rev().take(8).collect();
+    let logs = last.iter().filter(|line| line.contains("WORDS.LOG: "));
+    let one_record = logs.filter(|line| line.contains("1 record, 02026 297"));
+    assert_eq!(one_record.count(), 2, "{last:#?}");
+    // The README shows the end of it.
+    let readme = include_str!("../../../README.md");
+    let shown: Vec<&str> = demo
+        .lines()
+        .filter(|line| line.contains("pick at"))
+        .collect();
+    assert!(shown.len() == 2 && shown.iter().all(|line| readme.contains(line)));
     assert_eq!(folder.names(), [""; 0], "nothing is written");
 }
 

@@ -5,7 +5,8 @@
 //! session, and answers with A, H and the session. Buffers of any length with
 //! any bytes are legal; what can't be served is refused with the table's code
 //! and changes nothing. [`lift`] and [`protect`] lift and set the session's
-//! write protection, and that is the whole library.
+//! write protection, and [`pick`] is the word picker above the files; that is the
+//! whole library.
 //!
 //! The modules follow the headings of the rules they implement:
 //!
@@ -15,7 +16,8 @@
 //! * `map`: the notes, and when the map is right;
 //! * `fcb` and `current`: the FCB's layout, and when an FCB is current;
 //! * `table`: the codes, in the order they are tested, and their causes;
-//! * `calls`: what accepted calls do.
+//! * `calls`: what accepted calls do;
+//! * `picker`: the word of a day, and its log.
 //!
 //! A call first decides everything on the state as it came in (`table`), and
 //! only then changes anything (`calls`). No memory is allocated, and nothing
@@ -32,10 +34,12 @@ pub mod diskette;
 mod fcb;
 mod lent;
 mod map;
+mod picker;
 mod table;
 
 pub use calls::LISTED;
 pub use fcb::FCB_BYTES;
+pub use picker::{pick, Pick, Picked, Time, Wanted};
 pub use table::Cause;
 
 use calls::{carry_out, Call};

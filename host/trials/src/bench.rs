@@ -4,6 +4,7 @@
 //! anything, so what a call costs depends on how full the directory is, and on
 //! whether it has date entries.
 
+use generator::picking::by_calls;
 use reference::diskette::DIRECTORY_PLACES;
 use std::hint::black_box;
 use std::marker::PhantomData;
@@ -25,6 +26,11 @@ pub trait Side {
 
     /// The same with a search on.
     fn searching(pattern: [u8; 12]) -> Self::Session;
+
+    /// Picks a word into the buffer, and gives the answer's number.
+    fn pick(desk: &mut Desk<Self>, year: u16, day: u16) -> u8
+    where
+        Self: Sized;
 }
 
 /// The proved library.
@@ -33,9 +39,12 @@ pub struct Library;
 /// The reference.
 pub struct Reference;
 
+/// The reference, with a picker that makes its calls.
+pub struct ByCalls;
+
 /// Writes a side down; the types of the two have the same fields.
 macro_rules! side {
-    ($side:ident, $of:ident, $call:path) => {
+    ($side:ident, $of:ident, $call:path, $time:ident, $pick:expr) => {
         impl Side for $side {
             type Session = $of::Session;
 
@@ -68,12 +77,55 @@ macro_rules! side {
                     ..Default::default()
                 })
             }
+
+            fn pick(desk: &mut Desk<Self>, year: u16, day: u16) -> u8 {
+                let wanted = $of::Wanted {
+                    year,
+                    day,
+                    book: *BOOK,
+                    log: *LOG,
+                };
+                let (image, map) = (&mut desk.image[..], &mut desk.map[..]);
+                let time = $of::$time::default();
+                let (number, session) =
+                    $pick(wanted, time, image, map, &mut desk.buffer, desk.session);
+                desk.session = session;
+                number
+            }
         }
     };
 }
 
-side!(Library, benzokamuri, benzokamuri::lend);
-side!(Reference, reference, reference::call);
+side!(
+    Library,
+    benzokamuri,
+    benzokamuri::lend,
+    PickedAt,
+    |w, t, i, m, b, s| {
+        let told = benzokamuri::pick(w, t, i, m, b, s);
+        (told.number, told.session)
+    }
+);
+side!(
+    Reference,
+    reference,
+    reference::call,
+    Time,
+    |w, t, i, m, b, s| {
+        let picked = reference::pick(w, t, i, m, b, s);
+        (picked.pick.number(), picked.session)
+    }
+);
+side!(
+    ByCalls,
+    reference,
+    reference::call,
+    Time,
+    |w, t, i, m, b, s| {
+        let picked = by_calls(&mut { reference::call }).pick(w, t, i, m, b, s);
+        (picked.pick.number(), picked.session)
+    }
+);
 
 /// What a directory holds.
 #[derive(Clone, Copy, Debug, PartialEq, Eq)]
@@ -122,6 +174,10 @@ impl Fullness {
 /// The name of the job's file, and of one that is not there.
 const NAME: &[u8; 11] = b"JOB     DAT";
 const OTHER: &[u8; 11] = b"OTHER   DAT";
+
+/// The picker's files.
+const BOOK: &[u8; 11] = b"WORDS   DAT";
+const LOG: &[u8; 11] = b"WORDS   LOG";
 
 /// Records of the job's file: two extents.
 const RECORDS: u32 = 256;
@@ -200,10 +256,14 @@ impl<S: Side> Desk<S> {
     }
 
     fn write_file(&mut self, name: &[u8; 11], records: usize) {
+        self.write_records(name, (0..records).map(|record| [record as u8; 128]));
+    }
+
+    fn write_records(&mut self, name: &[u8; 11], records: impl Iterator<Item = [u8; 128]>) {
         self.name(name);
         self.must(22);
-        for record in 0..records {
-            self.buffer.fill(record as u8);
+        for record in records {
+            self.buffer = record;
             self.must(21);
         }
         self.must(16);
@@ -350,6 +410,115 @@ impl<S: Side> Bench<S> {
     }
 }
 
+/// A run of the picker to be measured.
+#[derive(Clone, Copy)]
+pub struct Picking {
+    /// What it is called.
+    pub name: &'static str,
+    /// Records of the log.
+    records: u16,
+    /// The year that is wanted; record n of the log has year 1,000 + n.
+    year: u16,
+    /// What it has to answer.
+    number: u8,
+}
+
+/// The day of all of them.
+const PICKED_DAY: u16 = 297;
+
+/// The runs of the picker.
+pub const PICKINGS: [Picking; 3] = [
+    Picking {
+        name: "a full log of 1,024 records, the day in none",
+        records: 1_024,
+        year: 9_999,
+        number: 7,
+    },
+    Picking {
+        name: "the day in the last record of 1,024",
+        records: 1_024,
+        year: 1_000 + 1_023,
+        number: 1,
+    },
+    Picking {
+        name: "the day logged, after 300 records",
+        records: 300,
+        year: 9_999,
+        number: 0,
+    },
+];
+
+/// A desk with what it takes to pick a word again and again.
+pub struct PickBench<S: Side> {
+    desk: Desk<S>,
+    picking: Picking,
+    directory: Vec<[u8; 128]>,
+    map: Vec<u16>,
+}
+
+/// Makes one run that is measured.
+#[inline(never)]
+fn measured_pick<S: Side>(desk: &mut Desk<S>, year: u16) -> u8 {
+    S::pick(desk, year, PICKED_DAY)
+}
+
+impl<S: Side> PickBench<S> {
+    /// A disk with a book of 366 records and the log, on a session that is
+    /// protected, and the job's file beside them.
+    pub fn new(picking: Picking) -> Self {
+        let mut desk = Desk::<S>::new(Fullness::Empty);
+        desk.write_file(BOOK, 366);
+        let day = |record: u16| {
+            let mut bytes = [0x1A; 128];
+            let text = format!("{:05} {PICKED_DAY:03}\r\n", 1_000 + record);
+            bytes[..11].copy_from_slice(text.as_bytes());
+            bytes
+        };
+        desk.write_records(LOG, (0..picking.records).map(day));
+        desk.session = S::Session::default();
+        let sector = |&place: &usize| std::array::from_fn(|i| desk.image[place + i]);
+        PickBench {
+            directory: DIRECTORY_PLACES.iter().map(sector).collect(),
+            map: desk.map.clone(),
+            desk,
+            picking,
+        }
+    }
+
+    /// Puts the directory and the map back to where the run begins.
+    #[inline(never)]
+    fn put_back(&mut self) {
+        for (&place, sector) in DIRECTORY_PLACES.iter().zip(&self.directory) {
+            self.desk.image[place..][..128].copy_from_slice(sector);
+        }
+        self.desk.map.copy_from_slice(&self.map);
+    }
+
+    /// Picks once, which has to be answered as it is due.
+    pub fn once(&mut self) {
+        self.put_back();
+        let number = black_box(measured_pick(&mut self.desk, black_box(self.picking.year)));
+        assert_eq!(number, self.picking.number, "{}", self.picking.name);
+    }
+}
+
+/// Nanoseconds of a run of the picker: the library, the reference by its calls,
+/// and the reference.
+pub fn time_picking(picking: Picking) -> [f64; 3] {
+    let [library, by_calls] = time_two::<Library, ByCalls>(picking);
+    let [_, reference] = time_two::<Library, Reference>(picking);
+    [library, by_calls, reference]
+}
+
+fn time_two<A: Side, B: Side>(picking: Picking) -> [f64; 2] {
+    best_of(|| {
+        let (mut one, mut other) = (PickBench::<A>::new(picking), PickBench::<B>::new(picking));
+        let with = quickest([&mut || one.once(), &mut || other.once()], 5);
+        let without = quickest([&mut || one.put_back(), &mut || other.put_back()], BATCH);
+        [0, 1].map(|side| (with[side] - without[side]).max(0.0))
+    })
+}
+
 /// How often each thing is measured anew, and how long on each side. Where
 /// buffers happen to lie matters, so each time they lie elsewhere.
 const ATTEMPTS: usize = 4;
@@ -469,6 +638,24 @@ mod tests {
                 }
                 let refused = case.number == 22 && fullness == Fullness::Full;
                 assert_eq!(answer.0 == 255, refused, "{}: {answer:?}", case.name);
+            }
+        }
+    }
+
+    #[test]
+    fn every_run_of_the_picker_is_answered_as_it_is_due() {
+        for picking in PICKINGS {
+            let mut library = PickBench::<Library>::new(picking);
+            let mut reference = PickBench::<Reference>::new(picking);
+            let mut by_calls = PickBench::<ByCalls>::new(picking);
+            for _ in 0..2 {
+                library.once();
+                reference.once();
+                by_calls.once();
+                assert!(library.desk.image == reference.desk.image);
+                assert!(library.desk.image == by_calls.desk.image);
+                assert!(library.desk.map == reference.desk.map);
+                assert!(library.desk.buffer == reference.desk.buffer);
             }
         }
     }

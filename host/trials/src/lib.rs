@@ -12,8 +12,9 @@
 pub mod bench;
 pub mod fuzz;
 
+use generator::picking::Picker;
 use generator::Implementation;
-use reference::{Answer, Asked, Session};
+use reference::{Answer, Asked, Pick, Picked, Session, Time, Wanted};
 
 /// The proved library.
 #[derive(Clone, Copy, Debug)]
@@ -38,6 +39,20 @@ impl Implementation for Proved {
 
     fn protect(&mut self, session: Session) -> Session {
         protect(session)
+    }
+}
+
+impl Picker for Proved {
+    fn pick(
+        &mut self,
+        wanted: Wanted,
+        time: Time,
+        image: &mut [u8],
+        map: &mut [u16],
+        word: &mut [u8],
+        session: Session,
+    ) -> Picked {
+        pick(wanted, time, image, map, word, session)
     }
 }
 
@@ -96,5 +111,72 @@ pub fn call(
         a: answer.a,
         h: answer.h,
         session: back(answer.session),
+    }
+}
+
+/// The answers of a picker that have a number of their own, by that.
+const PICKS: [Pick; 11] = [
+    Pick::Logged,
+    Pick::Again,
+    Pick::DayOver,
+    Pick::NoBook,
+    Pick::NoWord,
+    Pick::OneFile,
+    Pick::NoFirst,
+    Pick::LogFull,
+    Pick::LogReadOnly,
+    Pick::DirectoryFull,
+    Pick::DiskFull,
+];
+
+/// Picks a word by the proved library, in the reference's types. What these have
+/// no place for is a panic, and so a difference: another number, a word that is
+/// neither handed out nor not, A and H where the answer has none.
+pub fn pick(
+    wanted: Wanted,
+    time: Time,
+    image: &mut [u8],
+    map: &mut [u16],
+    word: &mut [u8],
+    session: Session,
+) -> Picked {
+    let wanted = benzokamuri::Wanted {
+        year: wanted.year,
+        day: wanted.day,
+        book: wanted.book,
+        log: wanted.log,
+    };
+    let time = benzokamuri::PickedAt {
+        day: time.day,
+        hour: time.hour,
+        minute: time.minute,
+    };
+    let told = benzokamuri::pick(wanted, time, image, map, word, there(session));
+    let (a, h) = (told.a, told.h);
+    let pick = match PICKS.get(usize::from(told.number)) {
+        Some(&named) if (a, h) == (0, 0) => named,
+        None if told.number == 11 => Pick::Other { a, h },
+        _ => panic!("no answer of a picker: {told:?}"),
+    };
+    Picked {
+        pick,
+        given: match told.given {
+            0 => false,
+            1 => true,
+            _ => panic!("a word handed out and not: {told:?}"),
+        },
+        session: back(told.session),
+    }
+}
+
+#[cfg(test)]
+mod tests {
+    use super::*;
+
+    #[test]
+    fn answers_stand_at_their_numbers() {
+        for (number, pick) in PICKS.iter().enumerate() {
+            assert_eq!(usize::from(pick.number()), number);
+        }
     }
 }

@@ -69,7 +69,12 @@ fn the_program_searches_and_replays() {
     assert_eq!(status, Some(0));
     assert!(out.starts_with("seed 5: no difference, 20"), "{out}");
     assert!(out.contains("calls in all"), "{out}");
+    let (status, out) = run(&["--picks", "200", "--seed", "5"]);
+    assert_eq!(status, Some(0));
+    assert!(out.starts_with("seed 5: no difference\n200 runs"), "{out}");
+    assert_eq!(run(&["--case", "5"]), (Some(0), "no difference\n".into()));
     for wrong in [
+        &["--picks", "many"],
         &["--seed"][..],
         &["--seed", "x"],
         &["--nosuch", "1"],

@@ -10,11 +10,17 @@ pub fn repository() -> PathBuf {
     Path::new(env!("CARGO_MANIFEST_DIR")).join("../..")
 }
 
-/// Where an entry stands in the image: all are on track 2, whose sectors are
-/// in the order of 6s mod 26 + s/13.
+/// Where an entry stands in the image.
 pub fn entry_place(entry: usize) -> usize {
-    let record = entry / 4;
-    6_656 + 128 * (6 * record % 26 + record / 13) + 32 * (entry % 4)
+    record_place(0, entry / 4) + 32 * (entry % 4)
+}
+
+/// Where a record of a block stands in the image: the sectors of a track are in
+/// the order of 6s mod 26 + s/13.
+pub fn record_place(block: usize, record: usize) -> usize {
+    let record = 8 * block + record;
+    let (track, sector) = (2 + record / 26, record % 26);
+    128 * (26 * track + 6 * sector % 26 + sector / 13)
 }
 
 /// An empty disk with date entries whose bytes are all 0 otherwise, and a label

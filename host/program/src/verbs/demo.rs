@@ -1,23 +1,25 @@
-//! `demo`: a stamped file, and the double job, step by step.
+//! `demo`: a stamped file, the double job, and the night the clocks go back, step
+//! by step.
 
 use super::colours;
 use super::ls::shown;
 use crate::dates::{put_dates, put_label, Label};
+use crate::files;
 use crate::layout::Stamp;
 use crate::looking::Looking;
 use crate::picture::Picture;
 use crate::trouble::{Doing, Trouble};
 use crate::words::{Shape, Words};
 use crate::{Desk, Verb};
-use benzokamuri::{BadTime, Call, Code, Disk, Fcb, Name, Time};
+use benzokamuri::{BadTime, Call, Code, Disk, Fcb, Name, Pick, Picked, Time, BUFFER_LEN};
 use std::io::Write;
 
 pub const VERB: Verb = Verb {
     name: "demo",
-    purpose: "Show a stamped file, and the double job: one file through two FCBs.",
+    purpose: "Show a stamped file, one file through two FCBs, and one word picked twice.",
     usage: "[-u USER] [--colour WHEN]",
     help: "\
-Both are shown on empty disks, in memory alone. These begin write-protected; a
+All are shown on empty disks, in memory alone. These begin write-protected; a
 line says where the protection is lifted.
 
 The stamped file's disk has date entries, and a label that asks for create and
@@ -29,6 +31,10 @@ In the double job a file is made and opened once more, and both FCBs write its
 first record. Each gets a block of its own. The first to close keeps its block;
 the second is no longer current, and the block that it took stays pending until
 call 98 frees it. Each step shows its call, the code, and the map afterwards.
+
+In the night the clocks go back a job that is set for 02:30 is started twice,
+and picks the word of the day both times. Each run shows its answer, the word,
+and the log afterwards, which has the day once.
 
   --colour WHEN   always, never, or auto: where standard output is a terminal",
     shape: Shape {
@@ -176,11 +182,19 @@ const STAMPINGS: [Stamping; 4] = [
     },
 ];
 
+/// The moment that comes twice in that night, and its day counted from 0.
+const TWICE: &str = "2026-10-25 02:30";
+const DAY: (u16, u16) = (2026, 297);
+
+/// The runs of the job, and what each must answer.
+const NIGHT: [(&str, Pick); 2] = [("summer time", Pick::Logged), ("winter time", Pick::Again)];
+
 fn run(words: Words, desk: &mut Desk) -> Result<(), Trouble> {
     words.end()?;
     let colours = colours(&words, desk)?;
     stamped_file(words.user(), desk)?;
-    double_job(words.user(), colours, desk)
+    double_job(words.user(), colours, desk)?;
+    clocks_go_back(words.user(), desk)
 }
 
 /// A disk with date entries and a label, in memory alone.
@@ -283,4 +297,82 @@ fn double_job(user: u8, colours: bool, desk: &mut Desk) -> Result<(), Trouble> {
         }
     }
     Ok(())
+}
+
+/// A book with a word for each day of a leap year.
+fn words_of_a_year() -> Vec<u8> {
+    let record = |day: usize| {
+        let mut word = format!("the word of day {day}").into_bytes();
+        word.resize(BUFFER_LEN, files::FILLING);
+        word
+    };
+    (0..366).flat_map(record).collect()
+}
+
+fn clocks_go_back(user: u8, desk: &mut Desk) -> Result<(), Trouble> {
+    let [book, log] = ["WORDS.DAT", "WORDS.LOG"].map(|name| super::named::<Name>(name.as_ref()));
+    let (book, log) = (book?, log?);
+    let mut disk = Disk::erased();
+    disk.set_user(user).doing("call 32")?;
+    disk.set_time(handed_in(TWICE)?);
+    writeln!(
+        desk.out,
+        "The night the clocks go back: a job that is set for 02:30 is started twice.\n"
+    )?;
+    lift(&mut disk, desk)?;
+    files::write(&mut disk, book, &words_of_a_year()).doing(book)?;
+    disk.protect();
+    writeln!(
+        desk.out,
+        "    {book} is written, a word a day, and the protection is set again: the picker\n    lifts it for its log alone.\n"
+    )?;
+    for ((clock, due), number) in NIGHT.into_iter().zip(1..) {
+        let before = disk.image().to_vec();
+        let picked = disk.pick(DAY.0, DAY.1, book, log);
+        let changed = disk.image()[..] != before[..];
+        shown_run(number, clock, &picked, desk)?;
+        let logged = shown_log(&disk, user, log)?;
+        let bytes = if changed {
+            ""
+        } else {
+            "; no byte of the disk has changed"
+        };
+        writeln!(desk.out, "    {log}: {logged}{bytes}\n")?;
+        if picked.answer != due || changed != (due == Pick::Logged) {
+            let wrong = format!("run {number} of the job came out wrong");
+            return Err(Trouble::failed(wrong));
+        }
+    }
+    Ok(())
+}
+
+/// Prints what a run of the picker came to.
+fn shown_run(number: u8, clock: &str, picked: &Picked, desk: &mut Desk) -> Result<(), Trouble> {
+    let Picked { answer, word } = picked;
+    let told = answer.number();
+    let word = word.map_or(Vec::new(), |word| word.to_vec());
+    let end = word.iter().position(|&byte| byte == files::FILLING);
+    let word = String::from_utf8_lossy(&word[..end.unwrap_or(word.len())]).into_owned();
+    writeln!(
+        desk.out,
+        " {number}. pick at {TWICE}, {clock}: {told}: {answer}\n    {word}"
+    )?;
+    Ok(())
+}
+
+/// The records of a log, each by its nine bytes.
+fn shown_log(disk: &Disk, user: u8, log: Name) -> Result<String, Trouble> {
+    let mut disk = Looking::at(disk.clone());
+    let found = files::matching(&mut disk, user, log.into()).doing(log)?;
+    let mut records = Vec::new();
+    for file in &found {
+        let contents = files::read(&mut disk, file).doing(log)?;
+        let days = contents.bytes.chunks(BUFFER_LEN);
+        records.extend(days.map(|day| String::from_utf8_lossy(&day[..9]).into_owned()));
+    }
+    let count = match records.len() {
+        1 => "1 record".to_string(),
+        count => format!("{count} records"),
+    };
+    Ok(format!("{count}, {}", records.join(", ")))
 }

@@ -9,6 +9,7 @@ mod ls;
 mod map;
 mod mv;
 mod new;
+mod pick;
 mod put;
 mod rm;
 
@@ -33,6 +34,7 @@ pub const ALL: &[Verb] = &[
     free::VERB,
     check::VERB,
     map::VERB,
+    pick::VERB,
     call::VERB,
     demo::VERB,
 ];

@@ -1,12 +1,14 @@
 //! `bench` prints what calls and the job take, the proved library beside the
 //! reference: nanoseconds, and instructions where valgrind is there.
 //!
-//! `bench --once SIDE FULLNESS CASE` makes one call, or does the job once; that
-//! is what runs under valgrind.
+//! `bench --once SIDE FULLNESS CASE` makes one call, or does the job once, and
+//! `bench --pick SIDE RUN` picks one word; that is what runs under valgrind.
+//! `bench --picker` prints the picker's table alone.
 
 use std::process::{Command, ExitCode};
 use trials::bench::{
-    time_case, time_job, Bench, Desk, Fullness, Library, Measured, Reference, Side, CASES, JOB,
+    time_case, time_job, time_picking, Bench, ByCalls, Desk, Fullness, Library, Measured,
+    PickBench, Picking, Reference, Side, CASES, JOB, PICKINGS,
 };
 
 /// The sides' names, in the order they are measured.
@@ -18,16 +20,24 @@ fn main() -> ExitCode {
     let done = match words[..] {
         [] => {
             both_tables();
+            picker_table();
+            Some(())
+        }
+        ["--picker"] => {
+            picker_table();
             Some(())
         }
         ["--once", "library", fullness, case] => once::<Library>(fullness, case),
         ["--once", "reference", fullness, case] => once::<Reference>(fullness, case),
+        ["--pick", "library", run] => pick_once::<Library>(run),
+        ["--pick", "by calls", run] => pick_once::<ByCalls>(run),
+        ["--pick", "reference", run] => pick_once::<Reference>(run),
         _ => None,
     };
     match done {
         Some(()) => ExitCode::SUCCESS,
         None => {
-            eprintln!("usage: bench [--once SIDE FULLNESS CASE]");
+            eprintln!("usage: bench [--once SIDE FULLNESS CASE | --pick SIDE RUN | --picker]");
             ExitCode::from(2)
         }
     }
@@ -46,11 +56,22 @@ fn once<S: Side>(fullness: &str, case: &str) -> Option<()> {
     Some(())
 }
 
+/// Picks a word once.
+fn pick_once<S: Side>(run: &str) -> Option<()> {
+    let picking = PICKINGS.into_iter().find(|one| one.name == run)?;
+    PickBench::<S>::new(picking).once();
+    Some(())
+}
+
+fn has_valgrind() -> bool {
+    let valgrind = Command::new("valgrind").arg("--version").output();
+    valgrind.is_ok_and(|output| output.status.success())
+}
+
 fn both_tables() {
     println!("Nanoseconds; the job in microseconds.\n");
     table(timed);
-    let valgrind = Command::new("valgrind").arg("--version").output();
-    if valgrind.is_ok_and(|output| output.status.success()) {
+    if has_valgrind() {
         println!("\nInstructions; the job in thousands.\n");
         table(counted);
     } else {
@@ -101,22 +122,57 @@ fn timed(name: &str, fullness: Fullness) -> Option<Measured> {
 
 /// Instructions of both sides, as callgrind counts them.
 fn counted(name: &str, fullness: Fullness) -> Option<Measured> {
-    let program = std::env::current_exe().ok()?;
     let mut took = [0.0; 2];
     for (side, took) in SIDES.iter().zip(&mut took) {
-        let output = Command::new("valgrind")
-            .args(["--tool=callgrind", "--callgrind-out-file=/dev/null"])
-            .arg("--toggle-collect=*bench*measured*")
-            .arg(&program)
-            .args(["--once", side, fullness.name(), name])
-            .output()
-            .ok()?;
-        let said = String::from_utf8_lossy(&output.stderr).into_owned();
-        let line = said.lines().find(|line| line.contains("Collected"))?;
-        let count: f64 = line.split_whitespace().last()?.parse().ok()?;
+        let count = instructions(&["--once", side, fullness.name(), name])?;
         *took = if name == JOB { count / 1_000.0 } else { count };
     }
     // What is refused was marked in the table of times.
     let refused = false;
     Some(Measured { took, refused })
+}
+
+/// Instructions of what is measured in a run of this program with these words.
+fn instructions(words: &[&str]) -> Option<f64> {
+    let program = std::env::current_exe().ok()?;
+    let output = Command::new("valgrind")
+        .args(["--tool=callgrind", "--callgrind-out-file=/dev/null"])
+        .arg("--toggle-collect=*bench*measured*")
+        .arg(&program)
+        .args(words)
+        .output()
+        .ok()?;
+    let said = String::from_utf8_lossy(&output.stderr).into_owned();
+    let line = said.lines().find(|line| line.contains("Collected"))?;
+    line.split_whitespace().last()?.parse().ok()
+}
+
+/// Prints what runs of the picker take, in microseconds and in thousands of
+/// instructions.
+fn picker_table() {
+    println!("\nThe picker, microseconds.\n");
+    picker_rows(|picking| Some(time_picking(picking)));
+    if has_valgrind() {
+        println!("\nThe picker, thousands of instructions.\n");
+        picker_rows(|picking| {
+            let count = |side| instructions(&["--pick", side, picking.name]);
+            Some([count("library")?, count("by calls")?, count("reference")?])
+        });
+    }
+}
+
+fn picker_rows(measure: fn(Picking) -> Option<[f64; 3]>) {
+    println!("| run | library | reference, by calls | ratio | reference | ratio |");
+    println!("|---|---:|---:|---:|---:|---:|");
+    for picking in PICKINGS {
+        match measure(picking).map(|took| took.map(|took| took / 1_000.0)) {
+            Some([library, calls, own]) => println!(
+                "| {} | {library:.1} | {calls:.1} | {:.2} | {own:.1} | {:.1} |",
+                picking.name,
+                library / calls,
+                library / own
+            ),
+            None => println!("| {} | - | - | - | - | - |", picking.name),
+        }
+    }
 }
