@@ -14,7 +14,7 @@ use Rattle.model.specs.Lent.{ended}
 use Rattle.model.specs.Table.{timeRight}
 use Rattle.invariant.specs.Good.{Good}
 use Rattle.demands.specs.Runs.{Disk}
-use Rattle.stored.specs.Closed.{Sane, Restamped}
+use Rattle.stored.specs.Closed.{Restamped}
 use Rattle.stored.specs.Looking.{ReadsAs}
 use Rattle.picking.specs.declared.Wanted.{Wanted}
 use Rattle.picking.specs.declared.Time.{Time}
@@ -24,7 +24,7 @@ use Rattle.once.specs.Again.{LoggedOnce, logged-once, Repeats, again-say
 use Rattle.once.specs.Bytes.{Named, same-year, same-day}
 use Rattle.once.specs.Calls.{Timed}
 use Rattle.once.specs.Picks.{PickAccess, pick-run}
-use Rattle.once.specs.Session.{anyAccepted, session-handed-back}
+use Rattle.once.specs.Session.{anyAccepted, session-handed-back, nothing-accepted}
 use Rattle.once.specs.Table.{answer}
 use Rattle.once.specs.Unharmed.{Touched, trouble-unharmed, bytes-unharmed, map-stays-right, nothing-pending, protection-stays}
 use Rattle.once.specs.Word.{word-read, word-as-lent, word-handed-out}
@@ -69,8 +69,8 @@ module _ (t : Time) (w : Wanted) (nm : Named w) (d : Disk) (buffer : Bytes) wher
   four-unharmed = trouble-unharmed eight-sound countable t w nm d buffer
 
   -- ---- 5: in any run no byte changes but in entries, stamps and records of the log, and access stamps of the book; the map stays right, nothing is
-  -- pending that was not, and the protection is what it was; the search is ended if a call was accepted
-  pub five-bytes : Sane eightInch d → (i : ℕ) → (getD (picked eightInch t w d buffer .disk .drive .image) i 0 ≡ getD (d .drive .image) i 0) ⊎ Touched eightInch t w d (picked eightInch t w d buffer .disk) i
+  -- pending that was not, and the protection is what it was; the search is ended if a call was accepted, and if none was nothing changed at all
+  pub five-bytes : (i : ℕ) → (getD (picked eightInch t w d buffer .disk .drive .image) i 0 ≡ getD (d .drive .image) i 0) ⊎ Touched eightInch t w d (picked eightInch t w d buffer .disk) i
   five-bytes = bytes-unharmed eight-sound countable t w nm d buffer
 
   pub five-map : Good eightInch (d .drive .image) (d .drive .map) → Good eightInch (picked eightInch t w d buffer .disk .drive .image) (picked eightInch t w d buffer .disk .drive .map)
@@ -82,6 +82,9 @@ module _ (t : Time) (w : Wanted) (nm : Named w) (d : Disk) (buffer : Bytes) wher
 
   pub five-protection : picked eightInch t w d buffer .disk .session .lifted ≡ d .session .lifted
   five-protection = protection-stays eight-sound countable t w nm d buffer
+
+  pub five-nothing : anyAccepted eightInch t w d buffer ≡ false → picked eightInch t w d buffer .disk ≡ d
+  five-nothing = nothing-accepted eightInch t w d buffer
 
   pub five-session : picked eightInch t w d buffer .disk .session ≡ cond (anyAccepted eightInch t w d buffer) (ended (d .session)) (d .session)
   five-session = session-handed-back eightInch t w d buffer

@@ -5,7 +5,7 @@ use Prim.Native.Nat.{ℕ}
 use native.Mathlib.Omega.{arith}
 use lib.Dec.{eqb, leb, ltb}
 use Rattle.lists.specs.Cases.{split, bool-cases, not-both, cond-either}
-use Rattle.lists.specs.Tests.{_and_, and-then, and-fails-left}
+use Rattle.lists.specs.Tests.{_and_, and-then, and-right}
 use Rattle.lists.specs.Fold.{fold-keeps}
 use Rattle.format.specs.Diskette.{Bytes, Geometry}
 use Rattle.format.specs.Fcb.{randomOf}
@@ -14,14 +14,15 @@ use Rattle.model.specs.declared.Kind.{Kind}
 use Rattle.model.specs.declared.Kind.the-variants.{Quiet, Search, User, Close, Create, Read, Write}
 use Rattle.model.specs.Kinds.{kindOf, same}
 use Rattle.model.specs.declared.Asked.{Asked}
-use Rattle.model.specs.Lent.{Lent, Outcome, ended, withLifted}
+use Rattle.model.specs.Lent.{Drive, Lent, Outcome, ended, withLifted}
 use Rattle.table.specs.Own.{kinds-apart}
 use Rattle.table.specs.Carried.{Leaves, over, on, sets}
 use Rattle.table.specs.Total.{total}
 use Rattle.table.specs.Refuse.{SearchEnds, ends17, ends18}
 use Rattle.table.specs.Accepted.{carried-says}
 use Rattle.demands.specs.Runs.{Request, Disk, lentTo, outcomeOf, left, accepts}
-use Rattle.stored.specs.Quiet.{quiet-ended}
+use Rattle.stored.specs.Closed.{Sane}
+use Rattle.stored.specs.Quiet.{quiet-ended, sane-accepted}
 use Rattle.picking.specs.declared.Wanted.{Wanted}
 use Rattle.picking.specs.declared.Time.{Time}
 use Rattle.picking.specs.Picker as Picker
@@ -163,3 +164,20 @@ module _ (G : Geometry) (t : Time) (w : Wanted) (d : Disk) (buffer : Bytes) wher
       (λ a. rw (x, a) (fetched-over G t w (ended (d .session)) refl (left (outcomeOf G d (Picker.opening t (w .book)))) (outcomeOf G d (Picker.opening t (w .book)) .lent .fcb) buffer
       (quiet-ended G d (Picker.opening t (w .book)) refl a)))
       (λ a. rw (x, a) (refused-open a)))
+
+  -- where none was, nothing changed at all
+  pub nothing-accepted : anyAccepted ≡ false → Picker.picked G t w d buffer .disk ≡ d
+  unfolding Picker.picked Picker.looked anyAccepted outcomeOf
+  nothing-accepted n =
+      let q : Request = Picker.opening t (w .book) in
+      split (bool-cases (ltb Picker.lastDay (w .day))) (λ x. rw x)
+      (λ x. let a : accepts G d q ≡ false = sym (and-then _ _ (ap not x)) ∙ n in
+      rw (x, a) (split (total G (q .asked) (lentTo d q) (d .session))
+      (λ r. ap (λ (v : Drive). record { drive = v; session = left (outcomeOf G d q) .session }) (ap (λ (l : Lent). l .drive) (r .1 .kept))
+      ∙ ap (λ (s : Session). record { drive = d .drive; session = s }) (refused-open a))
+      (λ c. not-both _ (carried-says G (q .asked) (lentTo d q) (d .session) c) a)))
+
+  -- and where one was, the disk and the session were right
+  pub accepted-sane : anyAccepted ≡ true → Sane G d
+  unfolding anyAccepted
+  accepted-sane y = sane-accepted G d (Picker.opening t (w .book)) (and-right _ _ y) (λ z. omega arith)

@@ -7,7 +7,7 @@ use Prim.Native.Nat.{ℕ, _*_, _≤_, _<_}
 use native.Mathlib.Omega.{arith}
 use lib.ListN.{length, getD}
 use borrow.Author.Tests.{leb-true}
-use Rattle.lists.specs.Cases.{split, not-both}
+use Rattle.lists.specs.Cases.{split, bool-cases, not-both}
 use Rattle.format.specs.Diskette.{Bytes, Geometry, Sound}
 use Rattle.format.specs.Entries.{entryAt}
 use Rattle.format.specs.Notes.{noteAt, isPending, recordedNote}
@@ -32,6 +32,7 @@ use Rattle.picking.specs.declared.Pick.the-variants.{Logged, Again, DayOver, No
 use Rattle.picking.specs.Picker.{Picked, fcbOf, picked}
 use Rattle.once.specs.Bytes.{Named}
 use Rattle.once.specs.Logs.{isLogged, LogAccess}
+use Rattle.once.specs.Session.{anyAccepted, nothing-accepted, accepted-sane}
 use Rattle.once.specs.Picks.{BookAccess, PickAccess, PickGrew, Left, same, more, pick-run}
 
 -- an answer other than "picked and logged"
@@ -116,12 +117,15 @@ module _ {G : Geometry} (S : Sound G) (countable : G .perBlock * G .blocks < 167
       (only-log g) i p)))
 
   -- a byte that changed lies there
-  pub bytes-unharmed : Sane G d → (i : ℕ) → (getD (picked G t w d buffer .disk .drive .image) i 0 ≡ getD (d .drive .image) i 0) ⊎ Touched G t w d (picked G t w d buffer .disk) i
-  bytes-unharmed sane i = go left
+  pub bytes-unharmed : (i : ℕ) → (getD (picked G t w d buffer .disk .drive .image) i 0 ≡ getD (d .drive .image) i 0) ⊎ Touched G t w d (picked G t w d buffer .disk) i
+  bytes-unharmed i =
+      split (bool-cases (anyAccepted G t w d buffer)) (λ y. go (accepted-sane G t w d buffer y) left)
+      (λ y. inl (ap (λ (x : Disk). getD (x .drive .image) i 0) (nothing-accepted G t w d buffer y)))
     where
-      go : Left G t w d (picked G t w d buffer) → (getD (picked G t w d buffer .disk .drive .image) i 0 ≡ getD (d .drive .image) i 0) ⊎ Touched G t w d (picked G t w d buffer .disk) i
-      go (same f r) = stamped-byte sane e r i
-      go (more p y g) = grown-byte g i
+      go : Sane G d → Left G t w d (picked G t w d buffer) → (getD (picked G t w d buffer .disk .drive .image) i 0 ≡ getD (d .drive .image) i 0)
+          ⊎ Touched G t w d (picked G t w d buffer .disk) i
+      go sane (same f r) = stamped-byte sane e r i
+      go sane (more p y g) = grown-byte g i
 
   -- image and map stay right
   pub map-stays-right : Good G (d .drive .image) (d .drive .map) → Good G (picked G t w d buffer .disk .drive .image) (picked G t w d buffer .disk .drive .map)
