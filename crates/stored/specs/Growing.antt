@@ -28,9 +28,8 @@ use Rattle.model.specs.Target.{targetExtent, targetRecord, presentEntry}
 use Rattle.model.specs.Calls.{written, closedAt, closed}
 use Rattle.model.specs.Table.{timeRight}
 use Rattle.fields.specs.Agree.{SameName, same-name, named-cong}
-use Rattle.fields.specs.Closing.{file-closed}
+use Rattle.fields.specs.Closing.{file-closed, unchanged-end}
 use Rattle.fields.specs.Images.{row-closedImage, row-closedImage-other}
-use Rattle.fields.specs.Target.{extent-random, record-random}
 use Rattle.table.specs.Facts.{AcceptedCall}
 use Rattle.table.specs.Accept.{writes-by}
 use Rattle.table.specs.Accepted.{accepted-carried}
@@ -42,17 +41,18 @@ use Rattle.effects.specs.View.{viewOf}
 use Rattle.effects.specs.Cur.{Cur, cur-current, cur-uses, cur-named}
 use Rattle.effects.specs.Effect.{NamesStay, NoneNew}
 use Rattle.effects.specs.Closed.{byName}
+use Rattle.effects.specs.Alike.{Alike}
 use Rattle.current.specs.Current.{fcb-says}
 use Rattle.demands.specs.Runs.{Request, Disk, lentTo, outcomeOf, left, accepts, after}
-use Rattle.demands.specs.Stamped.{stampedAs, cur-on, step-good}
+use Rattle.demands.specs.Stamped.{stampedAs, stamps-alike, cur-on, step-good}
 use Rattle.demands.specs.ReadBack.{user-stays, wrote}
 use Rattle.demands.specs.Protected.{lifted-stays}
-use Rattle.demands.specs.Reading.{atRecord, rest-atRecord, random-atRecord}
+use Rattle.demands.specs.Reading.{atRecord, rest-atRecord}
 use Rattle.stored.specs.Closed.{asks, Sane, seenOn, Fresh}
-use Rattle.stored.specs.Quiet.{carried-is, fresh-record, fresh-present}
-use Rattle.stored.specs.Restamped.{Alike}
-use Rattle.stored.specs.OnlyNamed.{stamps-alike, OnlyNamed, only-one, only-then, only-alike, only-named, only-names, by-used}
-use Rattle.stored.specs.Accepting.{unchanged-end, close-accepted}
+use Rattle.stored.specs.Quiet.{carried-is, fresh-record}
+use Rattle.stored.specs.OnlyNamed.{OnlyNamed, only-one, only-then, only-alike, only-named, only-names, by-used}
+use Rattle.stored.specs.Meeting.{met-extent, met-record, met-present}
+use Rattle.stored.specs.Accepting.{close-accepted}
 use Rattle.stored.specs.Grown.{Grown, grown-named, grown-stamped, grown-only, grown-file}
 use Rattle.stored.specs.Writing.{Closable, written-closable}
 
@@ -127,15 +127,16 @@ module _ {G : Geometry} (S : Sound G) (d : Disk) (f : Bytes) (e : ℕ) (k : Fres
 
   to-extent : targetExtent 34 (atRecord f x) ≡ x / extentRecords
   unfolding isRandom
-  to-extent = extent-random 34 (atRecord f x) refl ∙ ap (λ (y : ℕ). y / 128) (random-atRecord f x (k .long) (omega arith))
+  to-extent = met-extent S 34 refl d f e k x (omega arith) buffer
 
   to-record : targetRecord 34 (atRecord f x) ≡ x % extentRecords
   unfolding isRandom
-  to-record = record-random 34 (atRecord f x) refl ∙ ap (λ (y : ℕ). y % 128) (random-atRecord f x (k .long) (omega arith))
+  to-record = met-record S 34 refl d f e k x (omega arith) buffer
 
   closable : Closable G user x lw (written G (d .session) lw 34 .lent)
+  unfolding isRandom
   closable =
-      written-closable S 34 lw (d .session) (k .sane .good) (facts .ready .fits) e (fresh-present G d (atRecord f x) e kx buffer) (k .cur .low)
+      written-closable S 34 lw (d .session) (k .sane .good) (facts .ready .fits) e (met-present S 34 refl d f e k x (omega arith) buffer) (k .cur .low)
       (fcb-says (atRecord f x) (kx .cur .right) .cr)
       record { slots = kx .slots; end = unchanged-end G (entryAt G (d .drive .image) e) (atRecord f x) (kx .same) }
       (kx .same) (rw to-extent (omega arith)) x to-extent to-record (writes-by G (q .asked) lw (d .session) (facts .none) writes)

@@ -26,8 +26,8 @@ use Rattle.fields.specs.Target.{place-below}
 use Rattle.fields.specs.Size.{size-covers, size-high}
 use Rattle.effects.specs.View.{View, viewOf, Right, stands-low, stands-high, stands-not-spare, spare-free}
 use Rattle.effects.specs.Closed.{byName}
+use Rattle.effects.specs.Alike.{Alike, dates-alike, used-row}
 use Rattle.stored.specs.Closed.{Stored}
-use Rattle.stored.specs.Restamped.{Alike, dates-alike, used-row}
 use Rattle.stored.specs.OnlyNamed.{OnlyNamed, only-one}
 
 -- the slot of record r in an entry that covers its extent

@@ -1,10 +1,9 @@
 -- Opening a file, reading a record of it and asking for its size, by the calls, tell what its entries say.
 use mathlib.Core.Path.{_≡_, refl, ap, sym, _∙_, subst}
-use mathlib.Core.Bool.{true, false, not}
+use mathlib.Core.Bool.{true, false}
 use Prim.Native.Nat.{ℕ, _/_, _≤_, _<_}
 use native.Mathlib.Omega.{arith}
 use lib.ListN.{length}
-use borrow.Author.Tests.{le-ltb}
 use Rattle.lists.specs.Cases.{not-both, refute}
 use Rattle.lists.specs.Splice.{copies, length-copies}
 use Rattle.format.specs.Diskette.{Bytes, Geometry, Sound, recordBytes, extentRecords}
@@ -19,23 +18,19 @@ use Rattle.facts.specs.Counts.{count-by-end}
 use Rattle.consistency.specs.Naming.{named-used, file-found}
 use Rattle.consistency.specs.Reflect.{numbers-intro}
 use Rattle.model.specs.declared.Asked.{Asked}
-use Rattle.model.specs.declared.Session.{Session}
 use Rattle.model.specs.declared.Kind.the-variants.{Quiet}
 use Rattle.model.specs.Kinds.{kindOf, isCall}
 use Rattle.model.specs.Lent.{Lent, Outcome}
 use Rattle.model.specs.Calls.{fileSize, sized}
 use Rattle.model.specs.Stamps.{timeStamp}
 use Rattle.model.specs.Step.{told}
-use Rattle.model.specs.Table.{timeRight, askedEntry, ownRows}
+use Rattle.model.specs.Table.{timeRight, askedEntry}
 use Rattle.fields.specs.Agree.{SameName}
 use Rattle.fields.specs.Entering.{name-entered}
 use Rattle.fields.specs.Numbers.{random-three}
 use Rattle.fields.specs.Size.{size-covers, size-high, end-high}
 use Rattle.table.specs.Own.{calling}
-use Rattle.table.specs.First.{_&_, NoneHolds}
-use Rattle.table.specs.Facts.{Opens}
-use Rattle.table.specs.Reflect.{missed}
-use Rattle.table.specs.Accept.{own-at, sizes-right}
+use Rattle.table.specs.Accept.{own-at, opens-right, sizes-right}
 use Rattle.table.specs.Protection.{other-spared}
 use Rattle.demands.specs.Runs.{Disk, lentTo, outcomeOf, left, accepts}
 use Rattle.demands.specs.Reading.{atRecord}
@@ -44,9 +39,6 @@ use Rattle.stored.specs.Kept.{stored-name}
 use Rattle.stored.specs.Restamped.{restamped-more, restamped-then, stored-restamped, stored-before}
 use Rattle.stored.specs.Quiet.{passed-accepts, carried, carried-is, sane-accepted, sane-ready, OpenedAt, opened-at, open-same, fresh-record, fresh-read-same}
 use Rattle.stored.specs.Reading.{stored-accepted, stored-read, accepted-stored}
-
-opens-right : (G : Geometry) (a : Asked) (l : Lent) (s : Session) → Opens G l s → NoneHolds (ownRows G (calling 15 a) l s)
-opens-right G a l s o = ap not (o .name) & le-ltb _ _ (o .ex) & missed _ (o .entry) & tt
 
 -- ---- asking by the name in f, on a disk that is right
 module _ (G : Geometry) (d : Disk) (sane : Sane G d) (f : Bytes) where

@@ -6,14 +6,12 @@ use mathlib.Core.Bool.{true, false, not}
 use mathlib.Core.List.{List, []}
 use Prim.Native.Nat.{ℕ, _≤_, _<_}
 use native.Mathlib.Omega.{arith}
-use lib.Dec.{eqb}
 use lib.ListN.{length, getD}
 use borrow.Author.Tests.{eq-eqb, ne-eqb}
 use Rattle.lists.specs.Cases.{split, bool-cases, not-both}
-use Rattle.lists.specs.Tests.{_and_, and-not, and-fails-right, or-neither}
-use Rattle.lists.specs.Below.{any-empty}
+use Rattle.lists.specs.Tests.{_and_, and-fails-right}
 use Rattle.format.specs.Diskette.{Bytes, Geometry, Sound, recordBytes, slotCount}
-use Rattle.format.specs.Entries.{entryAt, exOf, slotOf, slotsOf, endOf}
+use Rattle.format.specs.Entries.{entryAt, exOf, slotOf, endOf}
 use Rattle.format.specs.Dates.{dated, asks, asksAccess}
 use Rattle.format.specs.Fcb.{fcbBytes, fcbEnd}
 use Rattle.format.specs.declared.Found.the-variants.{At}
@@ -28,7 +26,6 @@ use Rattle.model.specs.declared.Kind.{Kind}
 use Rattle.model.specs.declared.Kind.the-variants.{Quiet, User, Read}
 use Rattle.model.specs.Kinds.{kindOf, isCall}
 use Rattle.model.specs.Lent.{Drive, Lent, Outcome, protected, ended}
-use Rattle.model.specs.Closing.{takesSlot, endsLater, closeChanges}
 use Rattle.model.specs.Entering.{entered}
 use Rattle.model.specs.Target.{presentEntry}
 use Rattle.model.specs.Calls.{openedAt, opened}
@@ -36,7 +33,7 @@ use Rattle.model.specs.Stamps.{Stamp, first, timeStamp, accessStamps, stampsBy,
 use Rattle.model.specs.Step.{told, does}
 use Rattle.model.specs.Table.{timeRight, askedEntry, ownRows, moveChanges, protectionHolds}
 use Rattle.fields.specs.Agree.{count-cong}
-use Rattle.fields.specs.Closing.{keeps-intro}
+use Rattle.fields.specs.Closing.{nothing-to-close, unchanged-end}
 use Rattle.fields.specs.Entering.{length-entered, first-entered, slot-entered}
 use Rattle.fields.specs.OpenClose.{opened-keeps}
 use Rattle.table.specs.Own.{kinds-apart}
@@ -160,14 +157,6 @@ pub quiet-ended : (G : Geometry) (d : Disk) (q : Request) → kindOf (q .asked .
 quiet-ended G d q k a = ap (λ (o : Outcome). o .answer .session) (carried-is G d q a Quiet k)
 
 -- ---- FCBs that say no more than their entry
--- an FCB that has the entry's slots, and ends no later than one whose close changes nothing
-keeps-like : (G : Geometry) (row f g : Bytes) → ((j : ℕ) → j < slotCount → slotOf G g j ≡ slotOf G row j) → fcbEnd g ≡ fcbEnd f
-    → closeChanges G row f ≡ false → closeChanges G row g ≡ false
-unfolding closeChanges endsLater takesSlot slotOf
-keeps-like G row f g slots end h =
-    keeps-intro G row g (any-empty (takesSlot G (slotsOf row) (slotsOf g)) slotCount (λ j l. rw (slots j l) (and-not (eqb (slotOf G row j) 0))))
-    (rw end (or-neither _ _ h .1))
-
 end-atRecord : (f : Bytes) (r : ℕ) → length f ≡ fcbBytes → fcbEnd (atRecord f r) ≡ fcbEnd f
 unfolding fcbEnd endOf
 end-atRecord f r hf =
@@ -185,13 +174,11 @@ module _ (G : Geometry) (d : Disk) (f : Bytes) (e : ℕ) (k : Fresh G d f e) whe
         drive = rw (rest-atRecord f r (k .long) 0 (omega arith) (omega arith)) (k .drive);
         cur = cur-atRecord f r (k .long) G (seenOn G d) (d .session .user) e (k .cur);
         slots = slots;
-        same = keeps-like G (entryAt G (d .drive .image) e) f (atRecord f r) slots (end-atRecord f r (k .long)) (k .same);
+        same = nothing-to-close G (entryAt G (d .drive .image) e) (atRecord f r) slots
+            (rw (end-atRecord f r (k .long)) (unchanged-end G (entryAt G (d .drive .image) e) f (k .same)));
       }
 
   -- what a call through it meets
-  pub fresh-fits : (buffer : Bytes) → length buffer ≡ recordBytes → Fits G (record { drive = d .drive; fcb = f; buffer = buffer }) (d .session)
-  fresh-fits buffer hb = sane-fits G d (k .sane) f (k .long) buffer hb
-
   pub fresh-ready : (a : Asked) → timeRight a ≡ true → (buffer : Bytes) → length buffer ≡ recordBytes
       → Ready G a (record { drive = d .drive; fcb = f; buffer = buffer }) (d .session)
   fresh-ready a time buffer hb = sane-ready G d (k .sane) f (k .long) (k .drive) a time buffer hb
