@@ -1,14 +1,14 @@
 -- A log that is missing: the look at the space, the make, and the first record. And so the second half of a run, whatever the log.
 use mathlib.Core.Path.{_≡_, refl, ap, sym, _∙_, subst}
 use mathlib.Core.Bool.{Bool, true, false, cond, not}
-use Prim.Native.Nat.{ℕ, _*_, _/_, _≤_, _<_}
+use Prim.Native.Nat.{ℕ, _*_, _≤_, _<_}
 use native.Mathlib.Omega.{arith}
 use lib.Dec.{eqb}
 use borrow.Author.Tests.{eqb-true, eqb-false}
 use Rattle.lists.specs.Cases.{split, bool-cases, eq-or-ne, not-both, clash}
 use Rattle.lists.specs.Tests.{_and_, and-both, and-fails-left, and-fails-right}
 use Rattle.format.specs.Diskette.{Bytes, Geometry, Sound}
-use Rattle.format.specs.Entries.{entryAt, named, used, isFile, endOf, findNamed}
+use Rattle.format.specs.Entries.{entryAt, named, isFile, endOf, findNamed}
 use Rattle.format.specs.Dates.{isDates}
 use Rattle.format.specs.Notes.{findFree}
 use Rattle.format.specs.Fcb.{randomOf}
@@ -19,29 +19,27 @@ use Rattle.facts.specs.Found.{FoundAt, none-says, found-cases}
 use Rattle.facts.specs.Find.{file-says}
 use Rattle.facts.specs.Naming.{file-named}
 use Rattle.consistency.specs.Naming.{named-used}
-use Rattle.model.specs.declared.Kind.the-variants.{Quiet}
+use Rattle.consistency.specs.Reflect.{used-no-dates}
 use Rattle.model.specs.Kinds.{kindOf}
-use Rattle.model.specs.Lent.{Outcome, protected, withLifted}
+use Rattle.model.specs.Lent.{Outcome}
 use Rattle.model.specs.Table.{timeRight}
 use Rattle.model.specs.Calls.{fileSize}
-use Rattle.fields.specs.Agree.{SameName}
-use Rattle.fields.specs.Numbers.{threeValue}
 use Rattle.fields.specs.Size.{size-high}
 use Rattle.demands.specs.Runs.{Request, Disk, outcomeOf, left, accepts, liftedBy}
 use Rattle.stored.specs.Closed.{Sane, seenOn, First, Fresh, Restamped}
 use Rattle.stored.specs.Restamped.{sane-restamped}
 use Rattle.stored.specs.Quiet.{quiet-same}
 use Rattle.stored.specs.Looking.{size-told}
-use Rattle.stored.specs.Accepting.{MadeAt, made-at, fresh-write-accepted, space-free, space-none, threeOf}
+use Rattle.stored.specs.Accepting.{MadeAt, made-at, fresh-write-accepted, space-free, space-none}
 use Rattle.stored.specs.Grown.{Grown}
 use Rattle.picking.specs.declared.Wanted.{Wanted}
 use Rattle.picking.specs.declared.Time.{Time}
 use Rattle.picking.specs.declared.Pick.{Pick}
-use Rattle.picking.specs.declared.Pick.the-variants.{Logged, DirectoryFull, DiskFull, Other}
-use Rattle.picking.specs.Picker.{Logging, fcbOf, blank, logRecord, spaceIn, callAt, accepted, isCode, sizing, spacing, making, writing, liftedCall, written, made, begun, extended, logged}
+use Rattle.picking.specs.declared.Pick.the-variants.{Logged, DirectoryFull, Other}
+use Rattle.picking.specs.Picker.{Logging, fcbOf, blank, logRecord, spaceIn, callAt, isCode, sizing, spacing, making, writing, liftedCall, written, made, begun, extended, logged}
 use Rattle.once.specs.Bytes.{Named, begins-fcbOf, length-logRecord}
 use Rattle.once.specs.Calls.{Timed, size-by, size-accepts, space-accepts, make-by, as-test}
-use Rattle.once.specs.Grew.{used-no-dates, grown-made}
+use Rattle.once.specs.Grew.{grown-made}
 use Rattle.once.specs.Growth.{LogGrew, write-grew}
 use Rattle.once.specs.Lifting.{openByte, openedUp, open-unprotected, lifted-is}
 use Rattle.once.specs.Logs.{isLogged, LogAccess, LogRun, stayed, grew, run-before, found-run, missed-run}

@@ -1,30 +1,23 @@
 -- A log that gained one record, seen from an earlier disk: before stamps that were put, and before the log was made.
-use mathlib.Core.Path.{_≡_, refl, ap, sym, _∙_, subst}
+use mathlib.Core.Path.{_≡_, ap, sym, _∙_}
 use mathlib.Core.Logic.{_⊎_, inl, inr}
 use mathlib.Core.Bool.{true, false}
-use Prim.Native.Nat.{ℕ, _/_, _%_, _≤_, _<_}
+use Prim.Native.Nat.{ℕ, _/_, _≤_, _<_}
 use native.Mathlib.Omega.{arith}
-use Rattle.lists.specs.Cases.{split, bool-cases, eq-or-ne, not-both}
+use Rattle.lists.specs.Cases.{split, eq-or-ne, not-both}
 use Rattle.format.specs.Diskette.{Bytes, Geometry, Sound, extentRecords}
-use Rattle.format.specs.Entries.{entryAt, slotOf, isFile, named, empty, used, endOf}
+use Rattle.format.specs.Entries.{entryAt, slotOf, isFile, named, empty, endOf}
 use Rattle.format.specs.Dates.{isDates}
 use Rattle.format.specs.Notes.{noteAt}
 use Rattle.facts.specs.Naming.{file-named}
 use Rattle.consistency.specs.Naming.{file-used, file-found}
-use Rattle.consistency.specs.Reflect.{used-full, dates-unused, dates-full}
+use Rattle.consistency.specs.Reflect.{used-full, used-no-dates}
 use Rattle.model.specs.Stamps.{Stamp}
 use Rattle.demands.specs.Runs.{Request, Disk, outcomeOf, left}
 use Rattle.stored.specs.Closed.{Sane, seenOn, Restamped}
 use Rattle.stored.specs.Restamped.{row-restamped, recs-restamped, dates-restamped, empty-restamped}
 use Rattle.stored.specs.Accepting.{MadeAt}
 use Rattle.stored.specs.Grown.{Grown, grown-file}
-
--- an empty entry is no date entry
-empty-no-dates : (r : Bytes) → empty r ≡ true → isDates r ≡ false
-empty-no-dates r h = split (bool-cases (isDates r)) (λ t. not-both (empty r) h (dates-full r t)) (λ t. t)
-
-pub used-no-dates : (r : Bytes) → used r ≡ true → isDates r ≡ false
-used-no-dates r h = split (bool-cases (isDates r)) (λ t. not-both (used r) h (dates-unused r t)) (λ t. t)
 
 -- ---- before stamps that were put
 module _ {G : Geometry} (S : Sound G) (P : Stamp → Type 0) (d m : Disk) (sane : Sane G d) (w : Restamped G P d m) (t : Disk)
@@ -91,7 +84,7 @@ module _ {G : Geometry} (S : Sound G) (d : Disk) (q : Request) (made : MadeAt G 
       ap (named false user (q .fcb) 1) (x .0) ∙ file-named G user (q .fcb) 1 0 (g .base) (x .1) in
       not-both _ (ap (named false user (q .fcb) 1) (sym (row-before (g .entry) (g .low) (ap isDates (x .0) ∙ used-no-dates (g .base)
       (file-used G user (q .fcb) 1 0 (g .base) (x .1) (sane .range .user))) z)) ∙ h) (none (g .entry) (g .low)))
-      (λ x. absurd (z (same-entry))))
+      (λ x. absurd (z same-entry)))
     where
       -- two entries of one extent are one
       same-entry : g .entry ≡ made .entry

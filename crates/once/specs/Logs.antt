@@ -1,38 +1,33 @@
 -- A run's second half, the log: its answer is that of the table, and the disk is the same but for access stamps of the log, or has the log grown.
 use mathlib.Core.Path.{_≡_, refl, ap, sym, _∙_, subst}
-use mathlib.Core.Bool.{Bool, true, false, cond, not}
-use Prim.Native.Nat.{ℕ, _*_, _/_, _≤_, _<_}
+use mathlib.Core.Bool.{Bool, true, false, cond}
+use Prim.Native.Nat.{ℕ, _≤_, _<_}
 use native.Mathlib.Omega.{arith}
 use lib.Dec.{eqb, leb}
-use borrow.Author.Tests.{leb-false, eq-eqb, eqb-true, eqb-false}
+use borrow.Author.Tests.{leb-false}
 use Rattle.lists.specs.Cases.{split, bool-cases, cond-either}
-use Rattle.lists.specs.Tests.{_and_, _or_, and-both, and-fails-right}
+use Rattle.lists.specs.Tests.{_and_, and-both, and-fails-right}
 use Rattle.lists.specs.Below.{anyBelow, any-cong}
-use Rattle.format.specs.Diskette.{Bytes, Geometry, Sound, recordBytes, extentRecords}
+use Rattle.format.specs.Diskette.{Bytes, Geometry, Sound}
 use Rattle.format.specs.Entries.{entryAt, findFile}
-use Rattle.format.specs.Fcb.{randomOf}
 use Rattle.format.specs.Found.{isFound}
-use Rattle.format.specs.declared.Found.{Found}
-use Rattle.format.specs.declared.Found.the-variants.{At, Nothing}
+use Rattle.format.specs.declared.Found.the-variants.{At}
 use Rattle.facts.specs.Find.{file-says}
-use Rattle.model.specs.declared.Kind.the-variants.{Quiet}
-use Rattle.model.specs.Kinds.{kindOf}
 use Rattle.model.specs.Lent.{Outcome, ended}
 use Rattle.model.specs.Stamps.{Stamp}
 use Rattle.model.specs.Table.{askedEntry}
-use Rattle.model.specs.Target.{readOnlyIn}
 use Rattle.fields.specs.Agree.{SameName}
 use Rattle.demands.specs.Runs.{Disk, lentTo, outcomeOf, left, accepts}
 use Rattle.stored.specs.Closed.{Sane, seenOn, First, Fresh, Access, Restamped}
-use Rattle.stored.specs.Restamped.{restamped-none, restamped-more, restamped-then, sane-restamped, access-before, fresh-restamped}
-use Rattle.stored.specs.Quiet.{quiet-same, opened-ended, refused-same}
-use Rattle.stored.specs.Looking.{Opening, opening-of, opened-restamped, size-small, size-told, size-some}
+use Rattle.stored.specs.Restamped.{restamped-none, restamped-more, restamped-then, access-before}
+use Rattle.stored.specs.Quiet.{opened-ended}
+use Rattle.stored.specs.Looking.{Opening, opening-of, opened-restamped, size-small}
 use Rattle.stored.specs.Told.{extentEntry, bytesStored, entry-named, told-named, bytes-named}
 use Rattle.picking.specs.declared.Wanted.{Wanted}
 use Rattle.picking.specs.declared.Time.{Time}
 use Rattle.picking.specs.declared.Pick.{Pick}
 use Rattle.picking.specs.declared.Pick.the-variants.{Logged, Again, DayOver, NoBook, NoWord, OneFile, NoFirst, LogFull, LogReadOnly, DirectoryFull, DiskFull, Other}
-use Rattle.picking.specs.Picker.{Logging, Search, fcbOf, blank, hasStamp, fullLog, callAt, accepted, isCode, opening, sizing, writing, searched, added, written, extended}
+use Rattle.picking.specs.Picker.{Logging, fcbOf, blank, hasStamp, fullLog, callAt, isCode, opening, writing, searched, added, written, extended}
 use Rattle.once.specs.Bytes.{Named, begins-fcbOf, ex-fcbOf}
 use Rattle.once.specs.Calls.{Timed, open-by, open-accepts}
 use Rattle.once.specs.Growth.{LogGrew, grew-restamped, write-grew}

@@ -7,13 +7,11 @@ use Prim.Native.Nat.{ℕ, _*_, _≤_, _<_}
 use native.Mathlib.Omega.{arith}
 use lib.Dec.{eqb, ltb}
 use lib.ListN.{length}
-use borrow.Author.Tests.{eqb-true, eqb-false, eq-eqb, ltb-false}
-use Rattle.lists.specs.Cases.{split, bool-cases, refute, clash}
-use Rattle.lists.specs.Tests.{_and_, _or_, and-left, and-right, and-both, and-fails-left, and-fails-right}
-use Rattle.format.specs.Diskette.{Bytes, Geometry, Sound, recordBytes, lastRecord}
+use borrow.Author.Tests.{eqb-true, eqb-false, ltb-false}
+use Rattle.lists.specs.Cases.{split, bool-cases, refute}
+use Rattle.lists.specs.Tests.{_and_, _or_, and-both, and-fails-left, and-fails-right}
+use Rattle.format.specs.Diskette.{Bytes, Geometry, Sound, recordBytes}
 use Rattle.format.specs.Found.{isFound}
-use Rattle.format.specs.declared.Found.{Found}
-use Rattle.format.specs.declared.Found.the-variants.{At, Nothing}
 use Rattle.model.specs.Kinds.{kindOf, isCall}
 use Rattle.model.specs.Lent.{Outcome}
 use Rattle.model.specs.Stamps.{Stamp}
@@ -22,19 +20,19 @@ use Rattle.table.specs.Reflect.{fits-of}
 use Rattle.demands.specs.Runs.{Request, Disk, lentTo, outcomeOf, left, accepts}
 use Rattle.stored.specs.Closed.{Sane, seenOn, Fresh, Access, Restamped}
 use Rattle.stored.specs.Restamped.{restamped-none, restamped-more, restamped-then, sane-restamped, access-before}
-use Rattle.stored.specs.Quiet.{refused-same, fresh-record, fresh-read-same}
+use Rattle.stored.specs.Quiet.{fresh-record, fresh-read-same}
 use Rattle.stored.specs.Looking.{Opening, opening-of, opened-restamped}
-use Rattle.stored.specs.Told.{extentEntry, isStored, bytesStored, told-named, bytes-named, stored-found}
+use Rattle.stored.specs.Told.{extentEntry, isStored, told-named, bytes-named}
 use Rattle.picking.specs.declared.Wanted.{Wanted}
 use Rattle.picking.specs.declared.Time.{Time}
 use Rattle.picking.specs.declared.Pick.{Pick}
-use Rattle.picking.specs.declared.Pick.the-variants.{Logged, DayOver, NoBook, NoWord, OneFile, Other}
-use Rattle.picking.specs.Picker.{Picked, Logging, fcbOf, blank, oneFile, lastDay, callAt, accepted, isCode, opening, reading, logged, worded, fetched, looked, picked}
+use Rattle.picking.specs.declared.Pick.the-variants.{Logged, NoBook, NoWord, Other}
+use Rattle.picking.specs.Picker.{Picked, Logging, fcbOf, blank, oneFile, lastDay, callAt, isCode, opening, reading, logged, worded, fetched, looked, picked}
 use Rattle.once.specs.Begun.{log-run}
 use Rattle.once.specs.Bytes.{Named, begins-fcbOf}
 use Rattle.once.specs.Calls.{Timed, as-test}
 use Rattle.once.specs.Deciding.{answered-rows}
-use Rattle.once.specs.Growth.{LogGrew, grew-restamped}
+use Rattle.once.specs.Growth.{LogGrew}
 use Rattle.once.specs.Logs.{isLogged, LogAccess, LogRun, stayed, grew}
 use Rattle.once.specs.Records.{read-by}
 use Rattle.once.specs.Right.{timed-of, sane-of, open-any}

@@ -1,17 +1,14 @@
 -- The log's record written and closed, with the protection lifted for each call: what is answered, and the disk that is left.
 use mathlib.Core.Path.{_≡_, refl, ap, sym, _∙_, subst}
-use mathlib.Core.Bool.{Bool, true, false, cond, not}
-use Prim.Native.Nat.{ℕ, _≤_, _<_}
-use native.Mathlib.Omega.{arith}
+use mathlib.Core.Bool.{true, false, cond, not}
+use Prim.Native.Nat.{ℕ, _≤_}
 use lib.Dec.{eqb}
-use lib.ListN.{length}
 use Rattle.lists.specs.Cases.{split, bool-cases}
 use Rattle.lists.specs.Tests.{_and_, _or_}
-use Rattle.format.specs.Diskette.{Bytes, Geometry, Sound, recordBytes, lastRecord}
+use Rattle.format.specs.Diskette.{Bytes, Geometry, Sound, lastRecord}
 use Rattle.format.specs.Entries.{entryAt}
 use Rattle.format.specs.Found.{isFound}
 use Rattle.format.specs.declared.Found.the-variants.{At}
-use Rattle.model.specs.declared.Kind.the-variants.{Write}
 use Rattle.model.specs.Kinds.{kindOf}
 use Rattle.model.specs.Lent.{Outcome, withLifted}
 use Rattle.model.specs.Stamps.{Stamp}
@@ -20,7 +17,6 @@ use Rattle.model.specs.Target.{readOnlyIn}
 use Rattle.table.specs.Accepted.{acceptedAnswer}
 use Rattle.table.specs.Total.{range-lifted}
 use Rattle.demands.specs.Runs.{Request, Disk, outcomeOf, left, accepts, liftedBy}
-use Rattle.demands.specs.Reading.{atRecord}
 use Rattle.stored.specs.Closed.{Sane, Fresh, Restamped, seenOn}
 use Rattle.stored.specs.Quiet.{refused-same}
 use Rattle.stored.specs.Accepting.{close-accepted}
@@ -29,11 +25,11 @@ use Rattle.picking.specs.declared.Wanted.{Wanted}
 use Rattle.picking.specs.declared.Time.{Time}
 use Rattle.picking.specs.declared.Pick.{Pick}
 use Rattle.picking.specs.declared.Pick.the-variants.{Logged, LogReadOnly, DirectoryFull, DiskFull, Other}
-use Rattle.picking.specs.Picker.{Logging, blank, logRecord, callAt, accepted, isCode, otherwise, writing, closing, liftedCall, closed, writeTrouble, written}
+use Rattle.picking.specs.Picker.{Logging, blank, logRecord, callAt, accepted, isCode, writing, closing, liftedCall, closed, writeTrouble, written}
 use Rattle.once.specs.Bytes.{length-blank, length-logRecord}
 use Rattle.once.specs.Calls.{Timed}
 use Rattle.once.specs.Deciding.{answered}
-use Rattle.once.specs.Lifting.{openByte, relifted, openedUp, open-unprotected, lifted-is, left-open, byte-same}
+use Rattle.once.specs.Lifting.{openByte, openedUp, open-unprotected, lifted-is, left-open, byte-same}
 use Rattle.once.specs.Records.{write-by}
 use Rattle.once.specs.Table.{someEmpty, someFree}
 
