@@ -46,7 +46,6 @@ use Rattle.current.specs.Current.{fcb-says}
 use Rattle.demands.specs.Runs.{Request, Disk, lentTo, outcomeOf, left, accepts, after}
 use Rattle.demands.specs.Stamped.{stampedAs, stamps-alike, cur-on, step-good}
 use Rattle.demands.specs.ReadBack.{user-stays, wrote}
-use Rattle.demands.specs.Protected.{lifted-stays}
 use Rattle.demands.specs.Reading.{atRecord, rest-atRecord}
 use Rattle.stored.specs.Closed.{asks, Sane, seenOn, Fresh}
 use Rattle.stored.specs.Quiet.{carried-is, fresh-record}
@@ -287,18 +286,10 @@ module _ {G : Geometry} (S : Sound G) (d : Disk) (f : Bytes) (e : ℕ) (k : Fres
             → findFile G (entryAt G (end .drive .image)) user f 1 (x / 128) ≡ At i
         found i h w = file-found G (entryAt G (end .drive .image)) user hu f 1 (x / 128) i h w (end-sane .good .inv .dir)
 
-    -- names stay, over the close and over both calls
-    module _ (u : ℕ) (low : u ≤ 15) (h : Bytes) where
-      pub close-names : NamesStay G (seenOn G mid) (seenOn G end) (byName u h)
-      close-names = only-names user f close-only u low h
-
-      pub write-close-names : NamesStay G (seenOn G d) (seenOn G end) (byName u h)
-      write-close-names = only-names user f (grown-only f write-close-grown) u low h
+    -- names stay
+    pub write-close-names : (u : ℕ) → u ≤ 15 → (h : Bytes) → NamesStay G (seenOn G d) (seenOn G end) (byName u h)
+    write-close-names = only-names user f (grown-only f write-close-grown)
 
     pub end-user : end .session .user ≡ d .session .user
     unfolding after
     end-user = user-stays G mid c (λ z. kinds-apart Close User refl (sym shuts ∙ z)) ∙ write-user
-
-    pub end-lifted : end .session .lifted ≡ d .session .lifted
-    unfolding outcomeOf
-    end-lifted = lifted-stays G (c .asked) (lentTo mid c) (mid .session) ∙ lifted-stays G (q .asked) (lentTo d q) (d .session)

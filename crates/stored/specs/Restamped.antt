@@ -6,7 +6,7 @@ use mathlib.Core.List.{List, [], _∷_, _++_}
 use Prim.Native.Nat.{ℕ, _≤_, _<_}
 use Rattle.lists.specs.Cases.{split}
 use Rattle.format.specs.Diskette.{Bytes, Geometry, Sound, recordAt}
-use Rattle.format.specs.Entries.{entryAt, slotOf, used, empty, named, isFile, findFile, findNamed, findEmpty}
+use Rattle.format.specs.Entries.{entryAt, slotOf, empty, named, findFile, findNamed, findEmpty}
 use Rattle.format.specs.Dates.{isDates, dated, withStamp}
 use Rattle.disk.specs.Places.{blockRecords}
 use Rattle.rows.specs.Entries.{areaRecords}
@@ -20,11 +20,11 @@ use Rattle.invariant.specs.Stamps.{Each, each-join, Placed, stamped-all}
 use Rattle.effects.specs.View.{View, viewOf, Names}
 use Rattle.effects.specs.Effect.{Effect}
 use Rattle.effects.specs.Cur.{Cur, cur-uses}
-use Rattle.effects.specs.Alike.{Alike, alike-same, alike-back, dates-alike, used-row, used-alike, empty-alike, empty-same, named-alike, file-alike, named-same, file-same, size-alike, alike-effect, cur-alike}
+use Rattle.effects.specs.Alike.{Alike, alike-same, alike-back, dates-alike, used-row, empty-alike, empty-same, named-alike, named-same, file-same, size-alike, alike-effect, cur-alike}
 use Rattle.effects.specs.Stamps.{stamped-alike}
 use Rattle.demands.specs.Runs.{Disk}
-use Rattle.stored.specs.Closed.{Sane, seenOn, First, Stored, Fresh, Access, Restamped}
-use Rattle.stored.specs.Kept.{first-kept, stored-kept}
+use Rattle.stored.specs.Closed.{Sane, seenOn, Stored, Fresh, Access, Restamped}
+use Rattle.stored.specs.Kept.{stored-kept}
 
 -- ---- stamps and more stamps
 each-more : (P Q : Stamp → Type 0) → ((x : Stamp) → P x → Q x) → (xs : List Stamp) → Each P xs → Each Q xs
@@ -108,9 +108,6 @@ module _ {G : Geometry} (S : Sound G) (P : Stamp → Type 0) (d t : Disk) (sane 
   pub dates-restamped : (e : ℕ) → e < G .entries → isDates (entryAt G (t .drive .image) e) ≡ isDates (entryAt G (d .drive .image) e)
   dates-restamped = dates-alike G (d .drive .image) (t .drive .image) restamped-alike
 
-  pub used-restamped : (e : ℕ) → e < G .entries → used (entryAt G (t .drive .image) e) ≡ used (entryAt G (d .drive .image) e)
-  used-restamped = used-alike G (d .drive .image) (t .drive .image) restamped-alike
-
   pub empty-restamped : (e : ℕ) → e < G .entries → empty (entryAt G (t .drive .image) e) ≡ empty (entryAt G (d .drive .image) e)
   empty-restamped = empty-alike G (d .drive .image) (t .drive .image) restamped-alike
 
@@ -121,10 +118,6 @@ module _ {G : Geometry} (S : Sound G) (P : Stamp → Type 0) (d t : Disk) (sane 
     pub named-restamped : (wild : Bool) (e : ℕ) → e < G .entries
         → named wild user f 1 (entryAt G (t .drive .image) e) ≡ named wild user f 1 (entryAt G (d .drive .image) e)
     named-restamped = named-alike G (d .drive .image) (t .drive .image) restamped-alike user hu f 1
-
-    pub file-restamped : (ext e : ℕ) → e < G .entries
-        → isFile G user f 1 ext (entryAt G (t .drive .image) e) ≡ isFile G user f 1 ext (entryAt G (d .drive .image) e)
-    file-restamped = file-alike G (d .drive .image) (t .drive .image) restamped-alike user hu f 1
 
     pub findNamed-restamped : (wild : Bool) → findNamed G (entryAt G (t .drive .image)) wild user f 1 ≡ findNamed G (entryAt G (d .drive .image)) wild user f 1
     findNamed-restamped = named-same G (d .drive .image) (t .drive .image) restamped-alike user hu f 1
@@ -152,18 +145,6 @@ module _ {G : Geometry} (S : Sound G) (P : Stamp → Type 0) (d t : Disk) (sane 
     -- the map is the same
     view-same : seenOn G t ≡ viewOf G (t .drive .image) (d .drive .map)
     view-same = ap (viewOf G (t .drive .image)) (w .map)
-
-    pub first-restamped : First G (seenOn G d) user f → First G (seenOn G t) user f
-    unfolding nobody
-    first-restamped h =
-        subst (λ (s : View). First G s user f) (sym view-same)
-        (first-kept S (seenOn G d) (viewOf G (t .drive .image) (d .drive .map)) nobody user hu f on (λ r m. refl) h)
-
-    pub first-before : First G (seenOn G t) user f → First G (seenOn G d) user f
-    unfolding nobody
-    first-before h =
-        first-kept S (viewOf G (t .drive .image) (d .drive .map)) (seenOn G d) nobody user hu f back (λ r m. refl)
-        (subst (λ (s : View). First G s user f) view-same h)
 
     module _ (r : ℕ) (v : Bytes) where
       pub stored-restamped : Stored G (seenOn G d) user f r v → Stored G (seenOn G t) user f r v
