@@ -212,7 +212,8 @@ module _ {G : Geometry} (S : Sound G) (asked : Asked) (l : Lent) (s : Session) (
     bytes : Bytewise G (l .drive .image) (end .lent .drive .image) (names (asked .number) (s .user) (l .fcb)) (MayWrite G (asked .number) l s end)
     bytes i =
         split (stamps-bytes S (own .drive .map) (NamedEver (end .lent .drive .image)) xs (own .drive .image) (w .good) own-dates each (at-end xs each (beside k q)) i)
-        (λ p. split (own-bytes i) (λ r. inl (p ∙ r)) (λ r. inr (by-rule (where-after G (names (asked .number) (s .user) (l .fcb)) (l .drive .image) (own .drive .image)
+        (λ p. split (own-bytes i) (λ r. inl (p ∙ r)) (λ r. inr (by-rule (where-after G (names (asked .number) (s .user) (l .fcb))
+        (l .drive .image) (own .drive .image)
         (end .lent .drive .image) (MayWrite G (asked .number) l s end) stay i r))))
         (λ p. inr (out p))
       where

@@ -117,7 +117,11 @@ module _ {G : Geometry} (S : Sound G) (countable : G .perBlock * G .blocks < 167
       k = fresh-lifted (d .session .lifted) (at .fresh)
 
       first : First G (seenOn G after) (after .session .user) log
-      first = record { entry = at .entry; low = at .low; file = ap (λ (u : ℕ). isFile G u log 1 0 (entryAt G (after .drive .image) (at .entry))) (at .user) ∙ at .file }
+      first = record {
+        entry = at .entry;
+        low = at .low;
+        file = ap (λ (u : ℕ). isFile G u log 1 0 (entryAt G (after .drive .image) (at .entry))) (at .user) ∙ at .file;
+      }
 
       -- it has no record yet
       size-zero : sizeIs G after (w .log) ≡ 0
@@ -185,7 +189,8 @@ module _ {G : Geometry} (S : Sound G) (countable : G .perBlock * G .blocks < 167
         ap (λ (b : Bool). cond b Logged (cond (eqb (o .answer .a) 255 and eqb (o .answer .h) 0) DirectoryFull (Other (o .answer .a) (o .answer .h)))) (sym a)
         ∙ make-told Logged (λ x y. cond (eqb x 255 and eqb y 0) DirectoryFull (Other x y)) ∙ rw some in
         let told : made G t w d .pick ≡ DirectoryFull =
-        rw (lifted-accepted G d q ∙ a) (ap (λ (x : Outcome). cond (eqb (x .answer .a) 255 and eqb (x .answer .h) 0) DirectoryFull (Other (x .answer .a) (x .answer .h))) (lifted-is G d q) ∙ p) in
+        rw (lifted-accepted G d q ∙ a) (ap (λ (x : Outcome).
+        cond (eqb (x .answer .a) 255 and eqb (x .answer .h) 0) DirectoryFull (Other (x .answer .a) (x .answer .h))) (lifted-is G d q) ∙ p) in
         let left-is : made G t w d .disk ≡ left (liftedCall G d q) = rw (lifted-accepted G d q ∙ a) in
         stayed (told ∙ sym (answer-is ∙ rw (room, some))) (ap isLogged told)
         (subst (Restamped G (LogAccess G t w d) d) (sym left-is) (lifted-refused G d q (LogAccess G t w d) a)))

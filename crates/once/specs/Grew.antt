@@ -32,8 +32,11 @@ module _ {G : Geometry} (S : Sound G) (P : Stamp → Type 0) (d m : Disk) (sane 
       ⊎ ((empty (rows (g .entry)) ≡ true) × ((j : ℕ) → slotOf G (g .base) j ≡ 0) × (endOf (g .base) ≤ r))
   was =
       split (g .was)
-      (λ x. inl (sym (plain-row (g .entry) (g .low) (ap isDates (x .0)
-      ∙ used-no-dates (g .base) (file-used G (d .session .user) f 1 (r / extentRecords) (g .base) (x .1) (sane .range .user)))) ∙ x .0, x .1))
+      (λ x. inl (
+        sym (plain-row (g .entry) (g .low) (ap isDates (x .0)
+            ∙ used-no-dates (g .base) (file-used G (d .session .user) f 1 (r / extentRecords) (g .base) (x .1) (sane .range .user)))) ∙ x .0,
+        x .1,
+      ))
       (λ x. inr (sym (empty-restamped S P d m sane w (g .entry) (g .low)) ∙ x .0, x .1, x .2))
 
   pub grown-restamped : Grown G (seenOn G d) (seenOn G t) (d .session .user) f r v
@@ -80,7 +83,8 @@ module _ {G : Geometry} (S : Sound G) (d : Disk) (q : Request) (made : MadeAt G 
   base-is =
       split (g .was) (λ x. sym (x .0) ∙ ap (entryAt G (m .drive .image)) only-made)
       (λ x. not-both (empty (entryAt G (m .drive .image) (made .entry))) (ap (λ (e : ℕ). empty (entryAt G (m .drive .image) e)) (sym only-made) ∙ x .0)
-      (used-full (entryAt G (m .drive .image) (made .entry)) (file-used G user (q .fcb) 1 0 (entryAt G (m .drive .image) (made .entry)) (made .file) (sane .range .user))))
+      (used-full (entryAt G (m .drive .image) (made .entry))
+      (file-used G user (q .fcb) 1 0 (entryAt G (m .drive .image) (made .entry)) (made .file) (sane .range .user))))
 
   pub grown-made : Grown G (seenOn G d) (seenOn G t) (d .session .user) (q .fcb) 0 v
   grown-made =

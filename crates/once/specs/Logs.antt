@@ -87,7 +87,8 @@ module _ {G : Geometry} (S : Sound G) (t : Time) (timed : Timed t) (w : Wanted) 
   run-before d m sane r l (stayed p n s) =
       stayed (p ∙ log-same S (LogAccess G t w d) d m sane r w) n
       (restamped-then G (LogAccess G t w d) d m (l .disk) r (restamped-more G (LogAccess G t w m) m (l .disk) (LogAccess G t w d) (access-on d m sane r) s))
-  run-before d m sane r l (grew p q g) = grew p (sym (log-same S (LogAccess G t w d) d m sane r w) ∙ q) (grew-restamped S (LogAccess G t w d) w d m sane r (l .disk) g)
+  run-before d m sane r l (grew p q g) = grew p (sym (log-same S (LogAccess G t w d) d m sane r w) ∙ q)
+      (grew-restamped S (LogAccess G t w d) w d m sane r (l .disk) g)
 
   sizes-small : (d : Disk) → Sane G d → sizeIs G d (w .log) ≤ 262144
   unfolding sizeIs
@@ -127,13 +128,15 @@ module _ {G : Geometry} (S : Sound G) (t : Time) (timed : Timed t) (w : Wanted) 
         grew (ap (λ (l : Logging). l .pick) is) (sym told ∙ ap (λ (l : Logging). l .pick) is)
         (subst (LogGrew G w d) (sym (ap (λ (l : Logging). l .disk) is)) (write-grew S t timed w d f e k same n refl (omega arith) first-is a)))
         (λ a. let is = written-trouble S t timed w d f n a in
-        stayed told (ap (λ (l : Logging). isLogged (l .pick)) is ∙ never-logged (outcomeOf G (openedUp d) (writing t w f n) .answer .a) (outcomeOf G (openedUp d) (writing t w f n) .answer .h))
+        stayed told (ap (λ (l : Logging). isLogged (l .pick)) is
+        ∙ never-logged (outcomeOf G (openedUp d) (writing t w f n) .answer .a) (outcomeOf G (openedUp d) (writing t w f n) .answer .h))
         (subst (Restamped G (LogAccess G t w d) d) (sym (ap (λ (l : Logging). l .disk) is)) (lifted-refused G d (writing t w f n) (LogAccess G t w d) a)))
 
     -- what the search finds is the table's row
     has-is : (r : ℕ) → hasAt G d f w r ≡ (recordIs G d (w .log) r and hasStamp (w .year) (w .day) (bytesAre G d (w .log) r))
     has-is r =
-        ap (λ (b : Bool). b and hasStamp (w .year) (w .day) (bytesStored G (seenOn G d) (d .session .user) f r)) (told-named G (seenOn G d) (d .session .user) log f same r)
+        ap (λ (b : Bool). b and hasStamp (w .year) (w .day) (bytesStored G (seenOn G d) (d .session .user) f r))
+        (told-named G (seenOn G d) (d .session .user) log f same r)
         ∙ ap (λ (v : Bytes). recordIs G d (w .log) r and hasStamp (w .year) (w .day) v) (bytes-named G (seenOn G d) (d .session .user) log f same r)
 
     found-is : anyBelow (hasAt G d f w) n ≡ hasDay G w d
@@ -185,7 +188,8 @@ module _ {G : Geometry} (S : Sound G) (t : Time) (timed : Timed t) (w : Wanted) 
     pub missed-run : isFound (extentAt G d (w .log) 0) ≡ false → (n : ℕ) → LogRun G t w d (extended G t w d n)
     unfolding extended isCode logAnswer _and_
     missed-run h n =
-        let a : accepts G d (opening t (w .log)) ≡ false = open-accepts d sane t timed (w .log) (nm .log) ∙ and-fails-right (nameIs (w .log)) (isFound (extentAt G d (w .log) 0)) h in
+        let a : accepts G d (opening t (w .log)) ≡ false =
+        open-accepts d sane t timed (w .log) (nm .log) ∙ and-fails-right (nameIs (w .log)) (isFound (extentAt G d (w .log) 0)) h in
         let p : cond (eqb (o .answer .a) 255 and eqb (o .answer .h) 0) NoFirst (Other (o .answer .a) (o .answer .h)) ≡ NoFirst =
         ap (λ (b : Bool). cond b Logged (cond (eqb (o .answer .a) 255 and eqb (o .answer .h) 0) NoFirst (Other (o .answer .a) (o .answer .h)))) (sym a)
         ∙ open-by d sane t timed (w .log) (nm .log) Logged (λ x y. cond (eqb x 255 and eqb y 0) NoFirst (Other x y)) ∙ rw (name, h) in

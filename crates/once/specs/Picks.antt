@@ -209,13 +209,15 @@ module _ {G : Geometry} (S : Sound G) (countable : G .perBlock * G .blocks < 167
         -- what became of the log
         log-left : oneFile w ≡ false → (l : Logging) → LogRun G t w (left u) l → (l .pick ≡ logAnswer G w d)
             × Left G t w d (record { pick = l .pick; given = true; word = u .lent .buffer; disk = l .disk })
-        log-left apart l (stayed p n r) =
-            (p ∙ log-same S (BookAccess G t w d) d (left u) sane read w,
-            same n (restamped-then G (PickAccess G t w d) d (left u) (l .disk) (book-only (left u) read)
-            (restamped-more G (LogAccess G t w (left u)) (left u) (l .disk) (PickAccess G t w d) log-access r)))
-        log-left apart l (grew p r g) =
-            (p ∙ sym r ∙ log-same S (BookAccess G t w d) d (left u) sane read w,
-            more p (record { sane = sane; apart = apart; mid = left u; before = book-only (left u) read; log = g }))
+        log-left apart l (stayed p n r) = (
+          p ∙ log-same S (BookAccess G t w d) d (left u) sane read w,
+          same n (restamped-then G (PickAccess G t w d) d (left u) (l .disk) (book-only (left u) read)
+              (restamped-more G (LogAccess G t w (left u)) (left u) (l .disk) (PickAccess G t w d) log-access r)),
+        )
+        log-left apart l (grew p r g) = (
+          p ∙ sym r ∙ log-same S (BookAccess G t w d) d (left u) sane read w,
+          more p (record { sane = sane; apart = apart; mid = left u; before = book-only (left u) read; log = g }),
+        )
 
         given-run : PickRun G t w d buffer (fetched G t w m f buffer)
         unfolding fetched worded wordAnswer
@@ -259,7 +261,8 @@ module _ {G : Geometry} (S : Sound G) (countable : G .perBlock * G .blocks < 167
       ap (λ (b : Bool). cond b went (not-so (o .answer .a) (o .answer .h))) (sym a) ∙ open-any G d t (w .book) (nm .book) went not-so
 
   accepts-is-all : accepts G d (opening t (w .book))
-      ≡ cond (not (parametersAre G d t)) false (cond (not (diskIs G d)) false (cond (not (nameIs (w .book))) false (cond (not (isFound (extentAt G d (w .book) 0))) false true)))
+      ≡ cond (not (parametersAre G d t)) false (cond (not (diskIs G d)) false
+      (cond (not (nameIs (w .book))) false (cond (not (isFound (extentAt G d (w .book) 0))) false true)))
   accepts-is-all = as-test (accepts G d (opening t (w .book))) ∙ open-any G d t (w .book) (nm .book) true (λ x y. false)
 
   module _ (day : ltb lastDay (w .day) ≡ false) where

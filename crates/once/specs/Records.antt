@@ -55,7 +55,8 @@ module _ {A : Type 0} (went : A) (not-so : ℕ → ℕ → A) {G : Geometry} (S 
 
   -- 34, on a session that is not protected
   pub write-by : protected (d .session) ≡ false → answered went not-so G d (asking t 34 (atRecord f r) buffer)
-      ≡ cond (readOnlyIn (entryAt G (d .drive .image)) (At e) or readOnlyIn (entryAt G (d .drive .image)) (extentEntry G (seenOn G d) (d .session .user) f r)) (not-so 255 3)
+      ≡ cond (readOnlyIn (entryAt G (d .drive .image)) (At e)
+      or readOnlyIn (entryAt G (d .drive .image)) (extentEntry G (seenOn G d) (d .session .user) f r)) (not-so 255 3)
       (cond (not (isFound (extentEntry G (seenOn G d) (d .session .user) f r)) and not (someEmpty G d)) (not-so 5 0)
       (cond (eqb (blockIn G (entryAt G (d .drive .image)) r (extentEntry G (seenOn G d) (d .session .user) f r)) 0 and not (someFree G d)) (not-so 2 0) went))
   unfolding isCall kindOf isRandom timeRight

@@ -58,7 +58,8 @@ module _ (G : Geometry) (d : Disk) (t : Time) where
         bool-ext _ _
         (λ p. let f = fits-of G (opening t name .asked) (lentTo d (opening t name)) (d .session) p in
         and-both _ _ (long-is G (d .drive .image) (f .image-long)) (and-both _ _ (eq-eqb _ _ (f .map-long))
-        (and-both _ _ (le-leb _ _ (f .user-low)) (and-both _ _ (le-leb _ _ (f .place-low)) (time-of G (opening t name .asked) (lentTo d (opening t name)) (d .session) p)))))
+        (and-both _ _ (le-leb _ _ (f .user-low)) (and-both _ _ (le-leb _ _ (f .place-low))
+        (time-of G (opening t name .asked) (lentTo d (opening t name)) (d .session) p)))))
         (λ p. parameters-right G (opening t name .asked) (lentTo d (opening t name)) (d .session)
         record {
           image-long = long-says G (d .drive .image) (and-left _ _ p);

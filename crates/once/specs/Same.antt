@@ -92,7 +92,8 @@ module _ {G : Geometry} (S : Sound G) (P : Stamp → Type 0) (d t : Disk) (sane 
     pub locked-same : (ext : ℕ) → readOnlyIn (entryAt G (t .drive .image)) (extentAt G t name ext) ≡ readOnlyIn (entryAt G (d .drive .image)) (extentAt G d name ext)
     locked-same ext = ap (readOnlyIn (entryAt G (t .drive .image))) (extent-same ext) ∙ locked-by ext (extentAt G d name ext) refl
 
-    block-by : (r : ℕ) (x : Found) → extentAt G d name (r / extentRecords) ≡ x → blockIn G (entryAt G (t .drive .image)) r x ≡ blockIn G (entryAt G (d .drive .image)) r x
+    block-by : (r : ℕ) (x : Found) → extentAt G d name (r / extentRecords) ≡ x
+        → blockIn G (entryAt G (t .drive .image)) r x ≡ blockIn G (entryAt G (d .drive .image)) r x
     block-by r (At e) q = rw (row-same (r / extentRecords) e q)
     block-by r Nothing q = refl
 

@@ -122,7 +122,10 @@ module _ {G : Geometry} (S : Sound G) (t : Time) (timed : Timed t) (w : Wanted) 
       (ap (closed G t w (left (liftedCall G d q))) (ap (λ (o : Outcome). o .lent .fcb) (lifted-is G d q)) ∙ closed-is a)
 
   pub written-trouble : accepts G (openedUp d) q ≡ false
-      → written G t w d f n ≡ record { pick = troubleBy (outcomeOf G (openedUp d) q .answer .a) (outcomeOf G (openedUp d) q .answer .h); disk = left (liftedCall G d q) }
+      → written G t w d f n ≡ record {
+        pick = troubleBy (outcomeOf G (openedUp d) q .answer .a) (outcomeOf G (openedUp d) q .answer .h);
+        disk = left (liftedCall G d q);
+      }
   unfolding written writeTrouble isCode
   written-trouble a =
       rw (lifted-accepted G d q ∙ a)
@@ -138,11 +141,13 @@ module _ {G : Geometry} (S : Sound G) (t : Time) (timed : Timed t) (w : Wanted) 
   -- and in words of the directory
   module _ (e : ℕ) (k : Fresh G d f e) (low : n ≤ lastRecord) where
     pub written-by : written G t w d f n .pick
-        ≡ cond (readOnlyIn (entryAt G (d .drive .image)) (At e) or readOnlyIn (entryAt G (d .drive .image)) (extentEntry G (seenOn G d) (d .session .user) f n)) LogReadOnly
+        ≡ cond (readOnlyIn (entryAt G (d .drive .image)) (At e)
+        or readOnlyIn (entryAt G (d .drive .image)) (extentEntry G (seenOn G d) (d .session .user) f n)) LogReadOnly
         (cond (not (isFound (extentEntry G (seenOn G d) (d .session .user) f n)) and not (someEmpty G d)) DirectoryFull
         (cond (eqb (blockIn G (entryAt G (d .drive .image)) n (extentEntry G (seenOn G d) (d .session .user) f n)) 0 and not (someFree G d)) DiskFull Logged))
     unfolding _and_
     written-by =
         written-answer
-        ∙ write-by Logged troubleBy S (openedUp d) f e (fresh-lifted (openByte (d .session)) k) t timed n low (logRecord (w .year) (w .day)) (length-logRecord (w .year) (w .day))
+        ∙ write-by Logged troubleBy S (openedUp d) f e (fresh-lifted (openByte (d .session)) k)
+        t timed n low (logRecord (w .year) (w .day)) (length-logRecord (w .year) (w .day))
         (open-unprotected (d .session))

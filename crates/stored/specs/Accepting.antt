@@ -139,7 +139,8 @@ module _ {G : Geometry} (S : Sound G) (d : Disk) (f : Bytes) (e : ℕ) (k : Fres
   unfolding extentEntry
   own =
       ap (findFile G (entryAt G (d .drive .image)) (d .session .user) f 1) here
-      ∙ file-found G (entryAt G (d .drive .image)) (d .session .user) (k .sane .range .user) f 1 (extentOf f) e (k .cur .low) (k .cur .file) (k .sane .good .inv .dir)
+      ∙ file-found G (entryAt G (d .drive .image)) (d .session .user) (k .sane .range .user) f 1 (extentOf f) e
+      (k .cur .low) (k .cur .file) (k .sane .good .inv .dir)
 
   writes-there : Writes G lw (d .session) 34
   unfolding isRandom _or_

@@ -203,7 +203,8 @@ module _ {G : Geometry} (S : Sound G) (d : Disk) (m : Request) (number : m .aske
   make-only : OnlyNamed G (byName (d .session .user) (m .fcb)) (entryAt G (d .drive .image)) (entryAt G (new .drive .image))
   make-only =
       only-one (at .entry)
-      record { was = inr (at .void); is = file-named G (d .session .user) (m .fcb) 1 0 (entryAt G (new .drive .image) (at .entry)) (at .file) } (at .others) (at .dates)
+      record { was = inr (at .void); is = file-named G (d .session .user) (m .fcb) 1 0 (entryAt G (new .drive .image) (at .entry)) (at .file) }
+      (at .others) (at .dates)
 
   -- a block of the file after the make was the file's before: the new entry has none
   abbrev Made : Names

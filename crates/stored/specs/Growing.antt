@@ -90,7 +90,8 @@ record WroteOne (G : Geometry) (d : Disk) (f : Bytes) (x : ℕ) (v : Bytes) (o :
   cur : Cur G (seenOn G (left o)) (d .session .user) (o .lent .fcb) entry
   only : OnlyNamed G (byName (d .session .user) f) (entryAt G (d .drive .image)) (rowsOf G (o .lent))
   grown : Grown G (seenOn G d)
-      (viewOf G (closedImage G (o .lent .drive .image) entry (o .lent .fcb)) (closedMap G (entryAt G (o .lent .drive .image) entry) (o .lent .fcb) (o .lent .drive .map)))
+      (viewOf G (closedImage G (o .lent .drive .image) entry (o .lent .fcb))
+      (closedMap G (entryAt G (o .lent .drive .image) entry) (o .lent .fcb) (o .lent .drive .map)))
       (d .session .user) f x v
 
 module _ {G : Geometry} (S : Sound G) (d : Disk) (f : Bytes) (e : ℕ) (k : Fresh G d f e) (x : ℕ) (small : x < 262144) (a : Asked) (buffer : Bytes)
