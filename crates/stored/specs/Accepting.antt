@@ -31,7 +31,7 @@ use Rattle.rows.specs.Entries.{entry-stored, entry-left, record-kept}
 use Rattle.notes.specs.Free.{free-is, none-free}
 use Rattle.model.specs.declared.Asked.{Asked}
 use Rattle.model.specs.declared.Kind.{Kind}
-use Rattle.model.specs.declared.Kind.the-variants.{Quiet, User, Create, Write}
+use Rattle.model.specs.declared.Kind.the-variants.{Quiet, Create, Write}
 use Rattle.model.specs.Kinds.{kindOf, isCall, isRandom}
 use Rattle.model.specs.Lent.{Lent, Outcome, protected}
 use Rattle.model.specs.Target.{presentEntry}
@@ -45,25 +45,22 @@ use Rattle.fields.specs.Entering.{length-copied, row-copied, first-copied, name
 use Rattle.fields.specs.Making.{length-madeRow, user-made, zero-made, slot-made, extent-made, name-made, readOnly-made}
 use Rattle.fields.specs.Numbers.{threeValue, three-back, three-low, three-middle, three-high}
 use Rattle.table.specs.First.{_&_}
-use Rattle.table.specs.Own.{calling, kinds-apart}
+use Rattle.table.specs.Own.{calling}
 use Rattle.table.specs.Facts.{Makes, Writes, AcceptedCall}
 use Rattle.table.specs.Accept.{makes-of, writes-random}
-use Rattle.table.specs.Accepted.{accepted-carried}
 use Rattle.table.specs.Protection.{changesKind, by-kind, changer-stopped, lifted-spared}
 use Rattle.table.specs.Present.{numbers-extent}
-use Rattle.table.specs.Total.{InRange, step-range}
 use Rattle.effects.specs.View.{viewOf}
 use Rattle.effects.specs.Effect.{RecsStay}
 use Rattle.effects.specs.Cur.{Cur, cur-current}
 use Rattle.effects.specs.Alike.{Alike, dates-alike, used-row}
-use Rattle.demands.specs.Runs.{Request, Disk, lentTo, outcomeOf, left, accepts, after}
-use Rattle.demands.specs.Stamped.{stampedAs, stamps-alike, cur-on, step-good}
+use Rattle.demands.specs.Runs.{Request, Disk, lentTo, outcomeOf, left, accepts}
+use Rattle.demands.specs.Stamped.{stampedAs, stamps-alike, cur-on}
 use Rattle.demands.specs.StillCurrent.{created-cur}
-use Rattle.demands.specs.Protected.{lifted-stays}
-use Rattle.demands.specs.ReadBack.{user-stays, Wrote, wrote}
+use Rattle.demands.specs.ReadBack.{Wrote, wrote}
 use Rattle.demands.specs.Reading.{atRecord}
 use Rattle.stored.specs.Closed.{asks, Sane, seenOn, Begins, Fresh}
-use Rattle.stored.specs.Quiet.{passed-accepts, sane-ready, carried-is, sane-accepted, fresh-record, fresh-ready}
+use Rattle.stored.specs.Quiet.{lifted-left, range-left, sane-left, user-left, passed-accepts, sane-ready, carried, carried-is, sane-accepted, fresh-record, fresh-ready}
 use Rattle.stored.specs.Told.{extentEntry}
 use Rattle.stored.specs.Meeting.{met-extent, met-present, met-entry, met-locked}
 
@@ -71,16 +68,15 @@ use Rattle.stored.specs.Meeting.{met-extent, met-present, met-entry, met
 -- an accepted call that changes the disk has found the protection lifted, and every call leaves it so
 pub accepted-unprotected : (G : Geometry) (d : Disk) (q : Request) (k : Kind) → kindOf (q .asked .number) ≡ k → changesKind k ≡ true → accepts G d q ≡ true
     → protected (d .session) ≡ false
-unfolding outcomeOf
 accepted-unprotected G d q k kind changes accepted =
-    let c = accepted-carried G (q .asked) (lentTo d q) (d .session) accepted in
+    let c = carried G d q accepted in
     split (bool-cases (protected (d .session)))
     (λ p. not-both _ (changer-stopped G (q .asked) (lentTo d q) (d .session) p (sym (by-kind (q .asked .number) k kind) ∙ changes)) (c .facts .spared))
     (λ p. p)
 
 pub protection-left : (G : Geometry) (d : Disk) (q : Request) → protected (left (outcomeOf G d q) .session) ≡ protected (d .session)
-unfolding outcomeOf protected
-protection-left G d q = ap (λ (b : ℕ). eqb b 0) (lifted-stays G (q .asked) (lentTo d q) (d .session))
+unfolding protected
+protection-left G d q = ap (λ (b : ℕ). eqb b 0) (lifted-left G d q)
 
 -- ---- 16 after an accepted write
 module _ {G : Geometry} (S : Sound G) (d : Disk) (w : Request) (writes : kindOf (w .asked .number) ≡ Write) (accepted : accepts G d w ≡ true)
@@ -94,18 +90,10 @@ module _ {G : Geometry} (S : Sound G) (d : Disk) (w : Request) (writes : kindOf 
   k : Wrote G d w
   k = wrote S d w writes accepted
 
-  range : InRange G (mid .session)
-  unfolding outcomeOf
-  range = step-range G (w .asked) (lentTo d w) (d .session) (k .range)
-
-  user-left : mid .session .user ≡ d .session .user
-  unfolding after
-  user-left = user-stays G d w (λ z. kinds-apart Write User refl (sym writes ∙ z))
-
   found-mid : presentEntry G (mid .session .user) (lentTo mid c) ≡ At (k .entry)
   unfolding presentEntry
   found-mid =
-      ap (λ (u : ℕ). current G (entryAt G (mid .drive .image)) (mid .drive .map) u (outcomeOf G d w .lent .fcb)) user-left
+      ap (λ (u : ℕ). current G (entryAt G (mid .drive .image)) (mid .drive .map) u (outcomeOf G d w .lent .fcb)) (user-left G d w Write writes refl)
       ∙ cur-current G (mid .drive .image) (mid .drive .map) (d .session .user) (outcomeOf G d w .lent .fcb) (k .entry)
       (k .good .inv .dir) (k .range .user) (k .holds .cur)
 
@@ -113,7 +101,7 @@ module _ {G : Geometry} (S : Sound G) (d : Disk) (w : Request) (writes : kindOf 
   unfolding isCall kindOf timeRight
   close-accepted =
       passed-accepts G mid c refl
-      (sane-ready G mid record { good = k .good; range = range } (c .fcb) (k .fcb .long) (rw (k .fcb .first) (k .drive)) (calling 16 a) time buffer whole)
+      (sane-ready G mid record { good = k .good; range = range-left G d w (k .range) } (c .fcb) (k .fcb .long) (rw (k .fcb .first) (k .drive)) (calling 16 a) time buffer whole)
       (lifted-spared G (calling 16 a) (lentTo mid c) (mid .session) (protection-left G d w ∙ accepted-unprotected G d w Write writes refl accepted))
       (found-row (presentEntry G (mid .session .user) (lentTo mid c)) found-mid & tt)
 
@@ -186,8 +174,7 @@ module _ {G : Geometry} (S : Sound G) (d : Disk) (q : Request) (number : q .aske
   lm = lentTo d q
 
   facts : AcceptedCall G (q .asked) lm (d .session)
-  unfolding outcomeOf
-  facts = accepted-carried G (q .asked) (lentTo d q) (d .session) accepted .facts
+  facts = carried G d q accepted .facts
 
   creates : kindOf (q .asked .number) ≡ Create
   unfolding kindOf
@@ -258,8 +245,7 @@ module _ {G : Geometry} (S : Sound G) (d : Disk) (q : Request) (number : q .aske
   map-is = ap (λ (o : Outcome). o .lent .drive .map) made-is
 
   user-is : left (outcomeOf G d q) .session .user ≡ d .session .user
-  unfolding after
-  user-is = user-stays G d q (λ z. kinds-apart Create User refl (sym creates ∙ z))
+  user-is = user-left G d q Create creates refl
 
   -- the fields of the new row
   row-extent : extentOf row ≡ 0
@@ -293,13 +279,6 @@ module _ {G : Geometry} (S : Sound G) (d : Disk) (q : Request) (number : q .aske
       end-none (copied (q .fcb) row)
       (let z = zero-made (d .session .user) (q .fcb) 15 (omega arith) in let y = row-copied (q .fcb) row hf hr 15 (omega arith) (omega arith) in omega arith)
 
-  sane-after : Sane G (left (outcomeOf G d q))
-  unfolding outcomeOf
-  sane-after = record {
-    good = step-good S (q .asked) (lentTo d q) (d .session) (sane .good);
-    range = step-range G (q .asked) (lentTo d q) (d .session) (sane .range);
-  }
-
   cur-after : Cur G (seenOn G (left (outcomeOf G d q))) (d .session .user) (copied (q .fcb) row) new
   unfolding created createdAt row new
   cur-after =
@@ -313,7 +292,7 @@ module _ {G : Geometry} (S : Sound G) (d : Disk) (q : Request) (number : q .aske
       let slots : (j : ℕ) → j < slotCount → slotOf G (copied (q .fcb) row) j ≡ slotOf G (entryAt G (left (outcomeOf G d q) .drive .image) new) j =
       λ j h. slot-copied (q .fcb) row hf hr G j ∙ sym (ap (λ (r : Bytes). slotOf G r j) new-row) in
       record {
-        sane = sane-after;
+        sane = sane-left G d q S sane;
         long = length-copied (q .fcb) row hf hr ∙ begins .long;
         drive = rw (first-copied (q .fcb) row hf hr) (begins .drive);
         cur = rw user-is cur-after;
@@ -359,9 +338,8 @@ module _ (G : Geometry) (d : Disk) (q : Request) (number : q .asked .number ≡ 
 
   space-three : threeOf (outcomeOf G d q .lent .buffer)
       ≡ threeValue (freeRecords % 256) (freeRecords / 256 % 256) (freeRecords / 65536 % 256)
-  unfolding outcomeOf
   space-three =
-      let w : length (q .buffer) ≡ 128 = accepted-carried G (q .asked) (lentTo d q) (d .session) accepted .facts .ready .fits .buffer-long in
+      let w : length (q .buffer) ≡ 128 = carried G d q accepted .facts .ready .fits .buffer-long in
       let h : 3 ≤ length (q .buffer) = omega arith in
       rw (space-told, three-low (q .buffer) 0 freeRecords h, three-middle (q .buffer) 0 freeRecords h, three-high (q .buffer) 0 freeRecords h)
 

@@ -20,7 +20,7 @@ use Rattle.consistency.specs.Naming.{file-used, file-found}
 use Rattle.consistency.specs.Reflect.{used-no-dates, empty-no-dates, empty-elsewhere}
 use Rattle.rows.specs.Entries.{length-entryAt}
 use Rattle.model.specs.declared.Asked.{Asked}
-use Rattle.model.specs.declared.Kind.the-variants.{User, Close, Write}
+use Rattle.model.specs.declared.Kind.the-variants.{Close, Write}
 use Rattle.model.specs.Kinds.{kindOf, isRandom}
 use Rattle.model.specs.Lent.{Lent, rowsOf, Outcome}
 use Rattle.model.specs.Closing.{closedRow, closedImage, closedMap}
@@ -32,9 +32,6 @@ use Rattle.fields.specs.Closing.{file-closed, unchanged-end}
 use Rattle.fields.specs.Images.{row-closedImage, row-closedImage-other}
 use Rattle.table.specs.Facts.{AcceptedCall}
 use Rattle.table.specs.Accept.{writes-by}
-use Rattle.table.specs.Accepted.{accepted-carried}
-use Rattle.table.specs.Own.{kinds-apart}
-use Rattle.table.specs.Total.{step-range}
 use Rattle.table.specs.Plans as Plans
 use Rattle.invariant.specs.Good.{Good}
 use Rattle.effects.specs.View.{viewOf}
@@ -43,12 +40,12 @@ use Rattle.effects.specs.Effect.{NamesStay, NoneNew}
 use Rattle.effects.specs.Closed.{byName}
 use Rattle.effects.specs.Alike.{Alike}
 use Rattle.current.specs.Current.{fcb-says}
-use Rattle.demands.specs.Runs.{Request, Disk, lentTo, outcomeOf, left, accepts, after}
-use Rattle.demands.specs.Stamped.{stampedAs, stamps-alike, cur-on, step-good}
-use Rattle.demands.specs.ReadBack.{user-stays, wrote}
+use Rattle.demands.specs.Runs.{Request, Disk, lentTo, outcomeOf, left, accepts}
+use Rattle.demands.specs.Stamped.{stampedAs, stamps-alike, cur-on}
+use Rattle.demands.specs.ReadBack.{wrote}
 use Rattle.demands.specs.Reading.{atRecord, rest-atRecord}
 use Rattle.stored.specs.Closed.{asks, Sane, seenOn, Fresh}
-use Rattle.stored.specs.Quiet.{carried-is, fresh-record}
+use Rattle.stored.specs.Quiet.{sane-left, user-left, carried, carried-is, fresh-record}
 use Rattle.stored.specs.OnlyNamed.{OnlyNamed, only-one, only-then, only-alike, only-named, only-names, by-used}
 use Rattle.stored.specs.Meeting.{met-extent, met-record, met-present}
 use Rattle.stored.specs.Accepting.{close-accepted}
@@ -115,8 +112,7 @@ module _ {G : Geometry} (S : Sound G) (d : Disk) (f : Bytes) (e : ℕ) (k : Fres
   kx = fresh-record G d f e k x
 
   facts : AcceptedCall G (q .asked) lw (d .session)
-  unfolding outcomeOf
-  facts = accepted-carried G (q .asked) (lentTo d q) (d .session) accepted .facts
+  facts = carried G d q accepted .facts
 
   writes : kindOf 34 ≡ Write
   unfolding kindOf
@@ -145,9 +141,11 @@ module _ {G : Geometry} (S : Sound G) (d : Disk) (f : Bytes) (e : ℕ) (k : Fres
   same-name-as : SameName f 1 (atRecord f x) 1
   same-name-as i h = ap sevenBits (sym (rest-atRecord f x (k .long) (1 + i) (omega arith) (omega arith)))
 
+  mid-sane : Sane G mid
+  mid-sane = sane-left G d q S (k .sane)
+
   mid-good : Good G (mid .drive .image) (mid .drive .map)
-  unfolding outcomeOf
-  mid-good = step-good S (q .asked) (lentTo d q) (d .session) (k .sane .good)
+  mid-good = mid-sane .good
 
   -- what the write's own rule left, and then its stamps
   abbrev own-image : Bytes
@@ -176,8 +174,7 @@ module _ {G : Geometry} (S : Sound G) (d : Disk) (f : Bytes) (e : ℕ) (k : Fres
   handed-back i h = same-name-as i h ∙ sym (wrote S d q writes accepted .fcb .name i h)
 
   pub write-user : mid .session .user ≡ d .session .user
-  unfolding after
-  write-user = user-stays G d q (λ z. kinds-apart Write User refl (sym writes ∙ z))
+  write-user = user-left G d q Write writes refl
 
   -- the write changes entries of the file alone
   pub write-only : OnlyNamed G (byName (d .session .user) f) (entryAt G (d .drive .image)) (entryAt G (mid .drive .image))
@@ -205,8 +202,7 @@ module _ {G : Geometry} (S : Sound G) (d : Disk) (f : Bytes) (e : ℕ) (k : Fres
     shuts = refl
 
     close-facts : AcceptedCall G (c .asked) lc (mid .session)
-    unfolding outcomeOf
-    close-facts = accepted-carried G (c .asked) (lentTo mid c) (mid .session) then-closes .facts
+    close-facts = carried G mid c then-closes .facts
 
     present : presentEntry G (mid .session .user) lc ≡ At t
     unfolding presentEntry
@@ -232,11 +228,7 @@ module _ {G : Geometry} (S : Sound G) (d : Disk) (f : Bytes) (e : ℕ) (k : Fres
     end-alike = stamps-alike S (c .asked) lc (mid .session) close-facts mid-good Close shuts refl
 
     pub end-sane : Sane G end
-    unfolding outcomeOf
-    end-sane = record {
-      good = step-good S (c .asked) (lentTo mid c) (mid .session) mid-good;
-      range = step-range G (c .asked) (lentTo mid c) (mid .session) (step-range G (q .asked) (lentTo d q) (d .session) (k .sane .range));
-    }
+    end-sane = sane-left G mid c S mid-sane
 
     -- the file gained the record
     pub write-close-grown : Grown G (seenOn G d) (seenOn G end) (d .session .user) f x buffer
@@ -292,5 +284,4 @@ module _ {G : Geometry} (S : Sound G) (d : Disk) (f : Bytes) (e : ℕ) (k : Fres
     write-close-names = only-names user f (grown-only f write-close-grown)
 
     pub end-user : end .session .user ≡ d .session .user
-    unfolding after
-    end-user = user-stays G mid c (λ z. kinds-apart Close User refl (sym shuts ∙ z)) ∙ write-user
+    end-user = user-left G mid c Close shuts refl ∙ write-user
