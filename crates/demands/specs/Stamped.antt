@@ -56,7 +56,8 @@ use Rattle.effects.specs.Change.{where-after}
 use Rattle.effects.specs.Closed.{byName}
 use Rattle.effects.specs.Came.{present-cur}
 use Rattle.effects.specs.Write.{written-ok, reads-ok}
-use Rattle.effects.specs.Stamps.{Lies, lies, stamps-bytes, used-row, stamps-none, stamps-stay, stamps-effect, cur-stamped, holds-stamped, find-same}
+use Rattle.effects.specs.Alike.{Alike, alike-same, used-row, file-same, alike-stay, alike-none, alike-effect, cur-alike, holds-alike}
+use Rattle.effects.specs.Stamps.{Lies, lies, stamps-bytes, stamped-alike}
 use Rattle.table.specs.Accepted.{acceptedAnswer, refused-says, carried-says}
 use Rattle.demands.specs.StepOk.{MayWrite, StepOk, GoodOutcome, CarriedOk, Carries, carries-ok, refused-ok, names-plain, Named, named-close, named-create, named-read, named-write, carried, settles, ready-good}
 
@@ -188,9 +189,12 @@ module _ {G : Geometry} (S : Sound G) (asked : Asked) (l : Lent) (s : Session) (
     pub own-stamped : Stamped G (own .drive .image) (end .lent .drive .image) (own .drive .map) (stampsBy G asked l s k)
     own-stamped = stamped-all S (own .drive .map) xs (own .drive .image) (w .good) own-dates each
 
+    own-alike : Alike G (own .drive .image) (end .lent .drive .image)
+    own-alike = stamped-alike S (own .drive .map) xs (own .drive .image) (w .good) own-dates each
+
     stay : NamesStay G (viewOf G (own .drive .image) (own .drive .map)) (viewOf G (end .lent .drive .image) (own .drive .map)) (names (asked .number) (s .user) (l .fcb))
     stay =
-        stamps-stay S (own .drive .map) xs (own .drive .image) (w .good) own-dates each (names (asked .number) (s .user) (l .fcb))
+        alike-stay G (own .drive .image) (end .lent .drive .image) own-alike (own .drive .map) (names (asked .number) (s .user) (l .fcb))
         (names-used (asked .number) (s .user) (l .fcb) (fits .user-low))
 
     -- what is named after the own rule is so at the end
@@ -208,8 +212,9 @@ module _ {G : Geometry} (S : Sound G) (asked : Asked) (l : Lent) (s : Session) (
     bytes : Bytewise G (l .drive .image) (end .lent .drive .image) (names (asked .number) (s .user) (l .fcb)) (MayWrite G (asked .number) l s end)
     bytes i =
         split (stamps-bytes S (own .drive .map) (BesideNamed (end .lent .drive .image)) xs (own .drive .image) (w .good) own-dates each (at-end xs each (beside k q)) i)
-        (λ p. split (own-bytes i) (λ r. inl (p ∙ r)) (λ r. inr (by-rule (where-after G (names (asked .number) (s .user) (l .fcb)) (l .drive .image) (l .drive .map) (own .drive .image) (own .drive .map)
-        (end .lent .drive .image) (w .effect) (w .aside) (MayWrite G (asked .number) l s end) stay i r))))
+        (λ p. split (own-bytes i) (λ r. inl (p ∙ r)) (λ r. inr (by-rule (where-after G (names (asked .number) (s .user) (l .fcb))
+        (l .drive .image) (own .drive .image)
+        (end .lent .drive .image) (MayWrite G (asked .number) l s end) stay i r))))
         (λ p. inr (out p))
       where
         out : Lies G (BesideNamed (end .lent .drive .image)) i
@@ -221,7 +226,7 @@ module _ {G : Geometry} (S : Sound G) (asked : Asked) (l : Lent) (s : Session) (
     unfolding entryAfter
     after-same =
         ap (numberOf (G .entries))
-        (find-same S (own .drive .map) xs (own .drive .image) (w .good) own-dates each (s .user) (fits .user-low) (own .fcb) 1 (extentOf (own .fcb)))
+        (file-same G (own .drive .image) (end .lent .drive .image) own-alike (s .user) (fits .user-low) (own .fcb) 1 (extentOf (own .fcb)))
 
     book-same : (u : Book) → bookBy G (asked .number) (s .user) l (end .lent) u ≡ bookBy G (asked .number) (s .user) l own u
     unfolding bookBy writtenBook
@@ -234,22 +239,10 @@ module _ {G : Geometry} (S : Sound G) (asked : Asked) (l : Lent) (s : Session) (
         let mid = viewOf G (own .drive .image) (own .drive .map) in
         let v′ = viewOf G (end .lent .drive .image) (own .drive .map) in
         carries-ok G (asked .number) l s end fits (accepted-does G asked l s c k q)
-        (then-effect G v mid N (w .effect) (w .keeps) v′ (stamps-effect S (own .drive .map) xs (own .drive .image) (w .good) own-dates each N) stay
-        (inr (stamps-none S (own .drive .map) xs (own .drive .image) (w .good) own-dates each)))
+        (then-effect G v mid N (w .effect) (w .keeps) v′ (alike-effect G (own .drive .image) (end .lent .drive .image) own-alike (own .drive .map) (w .good) N) stay
+        (inr (alike-none G (own .drive .image) (end .lent .drive .image) own-alike (own .drive .map))))
         (then-keeps G v mid N (w .effect) (w .keeps) v′ (notes-stay G mid v′ N (λ b h. refl)))
         bytes (own-stamped .good) (λ u t b h. ap (λ (x : Book). x b) (book-same u) ∙ w .book u t b h)
-
-    -- what is current or holds after its own rule
-    pub cur-dated : (f : Bytes) (e : ℕ) → Cur G (viewOf G (own .drive .image) (own .drive .map)) (s .user) f e
-        → Cur G (viewOf G (end .lent .drive .image) (own .drive .map)) (s .user) f e
-    cur-dated f e h = cur-stamped S (own .drive .map) xs (own .drive .image) (w .good) own-dates each (s .user) (fits .user-low) f e h
-
-    pub holds-dated : (f : Bytes) (e rec : ℕ) (v : Bytes) → Holds G (viewOf G (own .drive .image) (own .drive .map)) (s .user) f e rec v
-        → Holds G (viewOf G (end .lent .drive .image) (own .drive .map)) (s .user) f e rec v
-    holds-dated f e rec v h = holds-stamped S (own .drive .map) xs (own .drive .image) (w .good) own-dates each (s .user) (fits .user-low) f e rec v h
-
-    pub row-dated : (k : ℕ) → k < G .entries → used (entryAt G (own .drive .image) k) ≡ true → entryAt G (end .lent .drive .image) k ≡ entryAt G (own .drive .image) k
-    row-dated k l u = used-row S (own .drive .map) xs (own .drive .image) (w .good) own-dates each k l u
 
   -- ---- with date entries or without
   module _ (k : Kind) (q : kindOf (asked .number) ≡ k) (z : same k Settle ≡ false) where
@@ -264,23 +257,24 @@ module _ {G : Geometry} (S : Sound G) (asked : Asked) (l : Lent) (s : Session) (
     abbrev left : Lent
     left = does G asked l s k .lent
 
+    -- the stamps change date entries alone
+    pub stamps-alike : Alike G (does G asked l s k .lent .drive .image) (stampedAs G asked l s k .lent .drive .image)
+    stamps-alike =
+        where-cases (λ (xs : List Stamp). Alike G (left .drive .image) (stampedOutcome G xs (does G asked l s k) .lent .drive .image)) (dated (rowsOf G l))
+        (stampsBy G asked l s k) (λ t. own-alike t k q z) (alike-same G (left .drive .image))
+
+    -- what is current or holds after its own rule
     pub cur-on : (f : Bytes) (e : ℕ) → Cur G (viewOf G (left .drive .image) (left .drive .map)) (s .user) f e
         → Cur G (viewOf G (stampedAs G asked l s k .lent .drive .image) (left .drive .map)) (s .user) f e
-    cur-on f e h =
-        where-cases (λ (xs : List Stamp). Cur G (viewOf G (stampedOutcome G xs (does G asked l s k) .lent .drive .image) (left .drive .map)) (s .user) f e) (dated (rowsOf G l)) (stampsBy G asked l s k)
-        (λ t. cur-dated t k q z f e h) h
+    cur-on = cur-alike G _ _ stamps-alike (left .drive .map) (own-change k q z .good) S (s .user) (fits .user-low)
 
     pub holds-on : (f : Bytes) (e rec : ℕ) (v : Bytes) → Holds G (viewOf G (left .drive .image) (left .drive .map)) (s .user) f e rec v
         → Holds G (viewOf G (stampedAs G asked l s k .lent .drive .image) (left .drive .map)) (s .user) f e rec v
-    holds-on f e rec v h =
-        where-cases (λ (xs : List Stamp). Holds G (viewOf G (stampedOutcome G xs (does G asked l s k) .lent .drive .image) (left .drive .map)) (s .user) f e rec v) (dated (rowsOf G l)) (stampsBy G asked l s k)
-        (λ t. holds-dated t k q z f e rec v h) h
+    holds-on = holds-alike G _ _ stamps-alike (left .drive .map) (own-change k q z .good) S (s .user) (fits .user-low)
 
     pub row-on : (e : ℕ) → e < G .entries → used (entryAt G (left .drive .image) e) ≡ true
         → entryAt G (stampedAs G asked l s k .lent .drive .image) e ≡ entryAt G (left .drive .image) e
-    row-on e h u =
-        where-cases (λ (xs : List Stamp). entryAt G (stampedOutcome G xs (does G asked l s k) .lent .drive .image) e ≡ entryAt G (left .drive .image) e) (dated (rowsOf G l)) (stampsBy G asked l s k)
-        (λ t. row-dated t k q z e h u) refl
+    row-on = used-row G _ _ stamps-alike
 
 -- ---- every call
 pub not-login : (n : ℕ) (k : Kind) → kindOf n ≡ k → same k Settle ≡ false → n ≡ 13 → ⊥

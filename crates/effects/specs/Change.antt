@@ -37,7 +37,15 @@ no-change G N W img map g = record {
   book = λ u t. t;
 }
 
--- ---- where the bytes of a second change lie, seen from before the first
+-- ---- a byte that the first of two changes touched lies where it lay
+module _ (G : Geometry) (N : Names) (img mid img′ : Bytes) (W : ℕ → Type 0)
+    (stay : (e : ℕ) → e < G .entries → N (entryAt G mid e) ≡ true → N (entryAt G img′ e) ≡ true) where
+  pub where-after : (i : ℕ) → Ruled G img mid N W i → Ruled G img img′ N W i
+  where-after i (in-entry e p n) = in-entry e p n
+  where-after i (in-new e p z n) = in-new e p z (stay e (p .low) n)
+  where-after i (in-record d p a) = in-record d p a
+
+-- ---- where the bytes of the second lie, seen from before the first
 module _ (G : Geometry) (N : Names) (img map mid mid-map img′ : Bytes) (w : Effect G (viewOf G img map) (viewOf G mid mid-map) N)
     (a : AsideStay G (viewOf G img map) (viewOf G mid mid-map)) where
   -- an entry is named, or it is empty, or it stays: another file's, a label or a date entry
@@ -68,18 +76,11 @@ module _ (G : Geometry) (N : Names) (img map mid mid-map img′ : Bytes) (w : Ef
       go (none y) = in-new e p y n
   where-before W stay i (in-record d p a) = in-record d p a
 
-  -- a byte that the first change touched lies where it lay
-  pub where-after : (W : ℕ → Type 0) → ((e : ℕ) → e < G .entries → N (entryAt G mid e) ≡ true → N (entryAt G img′ e) ≡ true)
-      → (i : ℕ) → Ruled G img mid N W i → Ruled G img img′ N W i
-  where-after W stay i (in-entry e p n) = in-entry e p n
-  where-after W stay i (in-new e p z n) = in-new e p z (stay e (p .low) n)
-  where-after W stay i (in-record d p a) = in-record d p a
-
   -- so one frame follows another
   pub then-frame : (W : ℕ → Type 0) → NamesStay G (viewOf G mid mid-map) (viewOf G img′ mid-map) N
       → RuleBytes G img mid N W → RuleBytes G mid img′ N W → RuleBytes G img img′ N W
   then-frame W stay first second i =
-      split (second i) (λ q. split (first i) (λ p. inl (q ∙ p)) (λ p. inr (where-after W stay i p))) (λ p. inr (where-before W stay i p))
+      split (second i) (λ q. split (first i) (λ p. inl (q ∙ p)) (λ p. inr (where-after G N img mid img′ W stay i p))) (λ p. inr (where-before W stay i p))
 
 module _ (G : Geometry) (N : Names) (W : ℕ → Type 0) (B C : Book → Book) (img map mid mid-map img′ map′ : Bytes) where
   pub then-change : Change G N W B img map mid mid-map → Change G N W C mid mid-map img′ map′

@@ -44,6 +44,14 @@ AsideStay G s t = (e : ℕ) → e < G .entries → used (s .rows e) ≡ false �
 pub none-one : (G : Geometry) (s t : View) → NoneNew G s t → (e k : ℕ) → NewRow G (s .rows) (t .rows) e → NewRow G (s .rows) (t .rows) k → e ≡ k
 none-one G s t none e k a b = absurd (a .changed (none e (a .low) (a .was)))
 
+-- of two steps the one that makes no entry has no part in what changed
+module _ (G : Geometry) (s t u : View) (e : ℕ) (c : NewRow G (s .rows) (u .rows) e) where
+  pub new-later : NoneNew G s t → NewRow G (t .rows) (u .rows) e
+  new-later none = let q = none e (c .low) (c .was) in record { low = c .low; was = ap empty q ∙ c .was; changed = λ p. c .changed (p ∙ q) }
+
+  pub new-earlier : NoneNew G t u → NewRow G (s .rows) (t .rows) e
+  new-earlier none = record { low = c .low; was = c .was; changed = λ q. c .changed (none e (c .low) (ap empty q ∙ c .was) ∙ q) }
+
 -- ---- nothing done
 pub nothing-done : (G : Geometry) (s : View) (N : Names) → Effect G s s N
 nothing-done G s N = record { row = λ e f. refl; new = λ e l z. inl refl; one-new = none-one G s s (λ e l z. refl); dat = λ b k e l m f. refl }
@@ -82,14 +90,8 @@ module _ (G : Geometry) (s t : View) (N : Names) (w : Effect G s t N) where
 
     -- what changed from s to u did so in the one step of the two that makes an entry
     then-new : (u : View) → Effect G t u N → NoneNew G s t ⊎ NoneNew G t u → (e k : ℕ) → NewRow G (s .rows) (u .rows) e → NewRow G (s .rows) (u .rows) k → e ≡ k
-    then-new u x (inl none) e k a b = x .one-new e k (on e a) (on k b)
-      where
-        on : (i : ℕ) → NewRow G (s .rows) (u .rows) i → NewRow G (t .rows) (u .rows) i
-        on i c = let q = none i (c .low) (c .was) in record { low = c .low; was = ap empty q ∙ c .was; changed = λ p. c .changed (p ∙ q) }
-    then-new u x (inr none) e k a b = w .one-new e k (back e a) (back k b)
-      where
-        back : (i : ℕ) → NewRow G (s .rows) (u .rows) i → NewRow G (s .rows) (t .rows) i
-        back i c = record { low = c .low; was = c .was; changed = λ q. c .changed (none i (c .low) (ap empty q ∙ c .was) ∙ q) }
+    then-new u x (inl none) e k a b = x .one-new e k (new-later G s t u e a none) (new-later G s t u k b none)
+    then-new u x (inr none) e k a b = w .one-new e k (new-earlier G s t u e a none) (new-earlier G s t u k b none)
 
     pub then-effect : (u : View) → Effect G t u N → NamesStay G t u N → NoneNew G s t ⊎ NoneNew G t u → Effect G s u N
     then-effect u x stay made = record {

@@ -1,3 +1,4 @@
+pub mod Alike
 pub mod View
 pub mod Effect
 pub mod Steps

@@ -81,14 +81,26 @@ pub record OneRecord (G : Geometry) (img map : Bytes) (N : Names) (b rec d : ℕ
   pub theirs : Theirs G img map N b
 
 -- ---- a naming that has more, and more records allowed
-pub frame-more : (G : Geometry) (img img′ : Bytes) (M N : Names) (U W : ℕ → Type 0) → ((r : Bytes) → M r ≡ true → N r ≡ true)
-    → ((d : ℕ) → U d → W d) → RuleBytes G img img′ M U → RuleBytes G img img′ N W
-frame-more G img img′ M N U W more wide f i = split (f i) (λ q. inl q) (λ p. inr (go p))
-  where
-    go : Ruled G img img′ M U i → Ruled G img img′ N W i
-    go (in-entry e p n) = in-entry e p (more (entryAt G img e) n)
-    go (in-new e p z n) = in-new e p z (more (entryAt G img′ e) n)
-    go (in-record d p w) = in-record d p (wide d w)
+module _ (G : Geometry) (img img′ : Bytes) (M N : Names) (U W : ℕ → Type 0) (more : (r : Bytes) → M r ≡ true → N r ≡ true) (wide : (d : ℕ) → U d → W d) where
+  ruled-more : (i : ℕ) → Ruled G img img′ M U i → Ruled G img img′ N W i
+  ruled-more i (in-entry e p n) = in-entry e p (more (entryAt G img e) n)
+  ruled-more i (in-new e p z n) = in-new e p z (more (entryAt G img′ e) n)
+  ruled-more i (in-record d p w) = in-record d p (wide d w)
+
+  pub frame-more : RuleBytes G img img′ M U → RuleBytes G img img′ N W
+  frame-more f i = split (f i) (λ q. inl q) (λ p. inr (ruled-more i p))
+
+  where-more : (i : ℕ) → Where G img img′ M U i → Where G img img′ N W i
+  where-more i (by-rule p) = by-rule (ruled-more i p)
+  where-more i (in-stamp e which p t n) = in-stamp e which p t (split n (λ h. inl (more (entryAt G img e) h)) (λ h. inr (more (entryAt G img′ e) h)))
+
+  -- with the stamps
+  pub frame-wider : Frame G img img′ M U → Frame G img img′ N W
+  frame-wider w = record {
+    byte = λ i. split (w .byte i) (λ q. inl q) (λ p. inr (where-more i p));
+    one-new = w .one-new;
+    image-length = w .image-length;
+  }
 
 -- ---- one entry stored, one record written
 module _ {G : Geometry} (S : Sound G) (img : Bytes) (long : Long G img) where

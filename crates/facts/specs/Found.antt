@@ -105,3 +105,16 @@ module _ (p : ℕ → Bool) (i n : ℕ) where
 
   pub look-end : (e : ℕ) → firstIn p e n ≡ firstIn p i n → n ≤ e → Nothing ≡ foundBelow n (firstIn p i n)
   look-end e q h = sym (rw (← q, first-end p e n h) (found-nothing n e h))
+
+-- two tests that agree find the same
+pub find-cong : (n : ℕ) (p q : ℕ → Bool) → ((k : ℕ) → k < n → p k ≡ q k) → foundBelow n (firstIn p 0 n) ≡ foundBelow n (firstIn q 0 n)
+find-cong n p q same =
+    found-cases (foundBelow n (firstIn q 0 n))
+    (λ k h. let w = first-says q 0 n k h in
+    first-is-at p 0 n k record {
+      low = w .low;
+      below = w .below;
+      holds = same k (w .below) ∙ w .holds;
+      before = λ j a b. same j (let c = w .below in omega arith) ∙ w .before j a b;
+    } ∙ sym h)
+    (λ h. none-is p 0 n (λ j a b. same j b ∙ none-says q 0 n h j a b) ∙ sym h)

@@ -7,7 +7,7 @@ use native.Mathlib.Omega.{arith}
 use lib.Dec.{eqb}
 use lib.ListN.{length, getD, set, length-set, List·getD-eq-default}
 use lib.Seq.{getD-set-same, getD-set-other}
-use borrow.Author.Tests.{eqb-true, eqb-false, eq-eqb, ne-eqb, ltb-true, ltb-false, not-true}
+use borrow.Author.Tests.{eqb-true, eqb-false, eq-eqb, ne-eqb, ltb-true, ltb-false, le-ltb, not-true}
 use Rattle.lists.specs.Cases.{split, bool-cases, lt-or-le, eq-or-ne, not-both}
 use Rattle.lists.specs.Tests.{_and_, and-not, and-left, and-right, and-both, and-then, and-fails-left, and-fails-right, cond-or, or-then, or-neither, or-cases}
 use Rattle.lists.specs.Below.{anyBelow, any-at, any-some, any-never, any-empty}
@@ -73,9 +73,9 @@ module _ (G : Geometry) (es fs : Bytes) where
         (λ m j h q. rw (any-never (takesSlot G es fs) slotCount none j h) q)
 
   -- where the FCB's slots are the entry's, none is taken
-  pub takes-none : ((j : ℕ) → slotIn G fs j ≡ slotIn G es j) → anyBelow (takesSlot G es fs) slotCount ≡ false
+  pub takes-none : ((j : ℕ) → j < slotCount → slotIn G fs j ≡ slotIn G es j) → anyBelow (takesSlot G es fs) slotCount ≡ false
   unfolding takesSlot
-  takes-none same = any-empty (takesSlot G es fs) slotCount (λ j h. rw (same j) (and-not (eqb (slotIn G es j) 0)))
+  takes-none same = any-empty (takesSlot G es fs) slotCount (λ j h. rw (same j h) (and-not (eqb (slotIn G es j) 0)))
 
 module _ (G : Geometry) (row fcb : Bytes) (j : ℕ) where
   -- slot j is taken exactly when the entry has 0 there and the FCB doesn't
@@ -249,10 +249,19 @@ module _ (G : Geometry) (row fcb : Bytes) where
   unfolding closeChanges
   keeps-intro n e = or-then _ _ n ∙ e
 
+  -- an FCB that has the entry's slots, and ends no later
+  pub nothing-to-close : ((j : ℕ) → j < slotCount → slotOf G fcb j ≡ slotOf G row j) → fcbEnd fcb ≤ endOf row → closeChanges G row fcb ≡ false
+  unfolding endsLater slotOf
+  nothing-to-close slots end = keeps-intro (takes-none G (slotsOf row) (slotsOf fcb) slots) (le-ltb (endOf row) (fcbEnd fcb) end)
+
   module _ (keeps : closeChanges G row fcb ≡ false) where
     neither : (anyBelow (takesSlot G (slotsOf row) (slotsOf fcb)) slotCount ≡ false) × (endsLater row fcb ≡ false)
     unfolding closeChanges
     neither = or-neither _ _ keeps
+
+    pub unchanged-end : fcbEnd fcb ≤ endOf row
+    unfolding endsLater
+    unchanged-end = ltb-false (endOf row) (fcbEnd fcb) (neither .1)
 
     pub row-kept : length row ≡ 32 → closedRow G row fcb ≡ row
     unfolding closedRow slotsOf

@@ -5,16 +5,15 @@ use mathlib.Core.Bool.{false}
 use Prim.Native.Nat.{ℕ, _≤_}
 use native.Mathlib.Omega.{arith}
 use lib.ListN.{length}
-use borrow.Author.Tests.{le-ltb}
 use Rattle.lists.specs.Cases.{split, eq-or-ne}
 use Rattle.format.specs.Diskette.{Bytes, Geometry}
-use Rattle.format.specs.Entries.{countOf, slotsOf, slotOf, endOf}
+use Rattle.format.specs.Entries.{countOf, endOf}
 use Rattle.format.specs.Fcb.{fcbEnd}
 use Rattle.facts.specs.Counts.{count-by-end, end-none, end-some}
-use Rattle.model.specs.Closing.{endsLater, closedRow, closeChanges}
+use Rattle.model.specs.Closing.{closedRow, closeChanges}
 use Rattle.model.specs.Entering.{entered}
 use Rattle.fields.specs.Entering.{slot-entered, extent-entered, count-entered}
-use Rattle.fields.specs.Closing.{takes-none, keeps-intro, row-kept}
+use Rattle.fields.specs.Closing.{nothing-to-close, row-kept}
 
 module _ (G : Geometry) (fcb row : Bytes) (ext : ℕ) (hf : 32 ≤ length fcb) (hr : length row ≡ 32) where
   -- an FCB that has taken an entry ends no later than the entry
@@ -28,10 +27,7 @@ module _ (G : Geometry) (fcb row : Bytes) (ext : ℕ) (hf : 32 ≤ length fcb) (
       split (eq-or-ne (countOf f) 0) (λ z. let e = end-none f z in omega arith) (λ n. let e = end-some f n in omega arith)
 
   pub opened-keeps : closeChanges G row (entered fcb row ext) ≡ false
-  unfolding endsLater slotOf
-  opened-keeps =
-      let f : Bytes = entered fcb row ext in
-      keeps-intro G row f (takes-none G (slotsOf row) (slotsOf f) (slot-entered fcb row ext hf G)) (le-ltb (endOf row) (fcbEnd f) entered-ends)
+  opened-keeps = nothing-to-close G row (entered fcb row ext) (λ j l. slot-entered fcb row ext hf G j) entered-ends
 
   pub opened-closed : closedRow G row (entered fcb row ext) ≡ row
   opened-closed = row-kept G row (entered fcb row ext) opened-keeps hr

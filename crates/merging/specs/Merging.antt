@@ -20,7 +20,7 @@ use Rattle.slots.specs.Slots.{slotsSame, same-slot}
 -- ---- slots that are the same: nothing is taken
 pub same-none : (G : Geometry) (es fs : Bytes) → length es ≤ slotBytes → length fs ≤ slotBytes → slotsSame es fs ≡ true
     → anyBelow (takesSlot G es fs) slotCount ≡ false
-same-none G es fs l k same = takes-none G es fs (same-slot G es fs l k same)
+same-none G es fs l k same = takes-none G es fs (λ j h. same-slot G es fs l k same j)
 
 -- ---- the end
 module _ (row fcb : Bytes) where

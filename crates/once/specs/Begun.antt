@@ -1,14 +1,14 @@
 -- A log that is missing: the look at the space, the make, and the first record. And so the second half of a run, whatever the log.
 use mathlib.Core.Path.{_≡_, refl, ap, sym, _∙_, subst}
 use mathlib.Core.Bool.{Bool, true, false, cond, not}
-use Prim.Native.Nat.{ℕ, _*_, _/_, _≤_, _<_}
+use Prim.Native.Nat.{ℕ, _*_, _≤_, _<_}
 use native.Mathlib.Omega.{arith}
 use lib.Dec.{eqb}
 use borrow.Author.Tests.{eqb-true, eqb-false}
 use Rattle.lists.specs.Cases.{split, bool-cases, eq-or-ne, not-both}
 use Rattle.lists.specs.Tests.{_and_, and-both, and-fails-left, and-fails-right}
 use Rattle.format.specs.Diskette.{Bytes, Geometry, Sound}
-use Rattle.format.specs.Entries.{entryAt, named, used, isFile, endOf, findNamed}
+use Rattle.format.specs.Entries.{entryAt, named, isFile, endOf, findNamed}
 use Rattle.format.specs.Dates.{isDates}
 use Rattle.format.specs.Notes.{findFree}
 use Rattle.format.specs.Fcb.{randomOf}
@@ -19,20 +19,18 @@ use Rattle.facts.specs.Found.{FoundAt, is-found, none-says, found-cases}
 use Rattle.facts.specs.Find.{file-says}
 use Rattle.facts.specs.Naming.{file-named}
 use Rattle.consistency.specs.Naming.{named-used}
-use Rattle.model.specs.declared.Kind.the-variants.{Quiet}
+use Rattle.consistency.specs.Reflect.{used-no-dates}
 use Rattle.model.specs.Kinds.{kindOf}
-use Rattle.model.specs.Lent.{Outcome, protected, withLifted}
+use Rattle.model.specs.Lent.{Outcome}
 use Rattle.model.specs.Table.{timeRight}
 use Rattle.model.specs.Calls.{fileSize}
-use Rattle.fields.specs.Agree.{SameName}
-use Rattle.fields.specs.Numbers.{threeValue}
 use Rattle.fields.specs.Size.{size-high}
 use Rattle.demands.specs.Runs.{Request, Disk, outcomeOf, left, accepts, liftedBy}
 use Rattle.stored.specs.Closed.{Sane, seenOn, First, Fresh, Restamped}
 use Rattle.stored.specs.Restamped.{sane-restamped}
 use Rattle.stored.specs.Quiet.{quiet-same}
 use Rattle.stored.specs.Looking.{size-told}
-use Rattle.stored.specs.Accepting.{MadeAt, made-at, fresh-write-accepted, space-free, space-none, threeOf}
+use Rattle.stored.specs.Accepting.{MadeAt, made-at, fresh-write-accepted, space-free, space-none}
 use Rattle.stored.specs.Grown.{Grown}
 use Rattle.stored.specs.Growing.{thenClosed}
 use Rattle.stored.specs.Frames.{FileBlock, make-write-close-frame}
@@ -41,11 +39,11 @@ use Rattle.effects.specs.Closed.{byName}
 use Rattle.picking.specs.declared.Wanted.{Wanted}
 use Rattle.picking.specs.declared.Time.{Time}
 use Rattle.picking.specs.declared.Pick.{Pick}
-use Rattle.picking.specs.declared.Pick.the-variants.{Logged, DirectoryFull, DiskFull, Other}
-use Rattle.picking.specs.Picker.{Logging, fcbOf, blank, logRecord, spaceIn, callAt, accepted, isCode, sizing, spacing, making, writing, liftedCall, written, made, begun, extended, logged}
+use Rattle.picking.specs.declared.Pick.the-variants.{Logged, DirectoryFull, Other}
+use Rattle.picking.specs.Picker.{Logging, fcbOf, blank, logRecord, spaceIn, callAt, isCode, sizing, spacing, making, writing, liftedCall, written, made, begun, extended, logged}
 use Rattle.once.specs.Bytes.{Named, begins-fcbOf, length-blank, length-logRecord}
 use Rattle.once.specs.Calls.{Timed, size-by, size-accepts, space-accepts, make-by, as-test}
-use Rattle.once.specs.Grew.{used-no-dates, grown-made}
+use Rattle.once.specs.Grew.{grown-made}
 use Rattle.once.specs.Growth.{LogGrew, write-grew}
 use Rattle.once.specs.Lifting.{openByte, openedUp, open-unprotected, lifted-is}
 use Rattle.once.specs.Logs.{isLogged, LogAccess, LogRun, stayed, grew, run-before, found-run, missed-run}
@@ -123,7 +121,11 @@ module _ {G : Geometry} (S : Sound G) (countable : G .perBlock * G .blocks < 167
       k = fresh-lifted (d .session .lifted) (at .fresh)
 
       first : First G (seenOn G after) (after .session .user) log
-      first = record { entry = at .entry; low = at .low; file = ap (λ (u : ℕ). isFile G u log 1 0 (entryAt G (after .drive .image) (at .entry))) (at .user) ∙ at .file }
+      first = record {
+        entry = at .entry;
+        low = at .low;
+        file = ap (λ (u : ℕ). isFile G u log 1 0 (entryAt G (after .drive .image) (at .entry))) (at .user) ∙ at .file;
+      }
 
       -- it has no record yet
       size-zero : sizeIs G after (w .log) ≡ 0
@@ -195,7 +197,8 @@ module _ {G : Geometry} (S : Sound G) (countable : G .perBlock * G .blocks < 167
         ap (λ (b : Bool). cond b Logged (cond (eqb (o .answer .a) 255 and eqb (o .answer .h) 0) DirectoryFull (Other (o .answer .a) (o .answer .h)))) (sym a)
         ∙ make-told Logged (λ x y. cond (eqb x 255 and eqb y 0) DirectoryFull (Other x y)) ∙ rw some in
         let told : made G t w d .pick ≡ DirectoryFull =
-        rw (lifted-accepted G d q ∙ a) (ap (λ (x : Outcome). cond (eqb (x .answer .a) 255 and eqb (x .answer .h) 0) DirectoryFull (Other (x .answer .a) (x .answer .h))) (lifted-is G d q) ∙ p) in
+        rw (lifted-accepted G d q ∙ a) (ap (λ (x : Outcome).
+        cond (eqb (x .answer .a) 255 and eqb (x .answer .h) 0) DirectoryFull (Other (x .answer .a) (x .answer .h))) (lifted-is G d q) ∙ p) in
         let left-is : made G t w d .disk ≡ left (liftedCall G d q) = rw (lifted-accepted G d q ∙ a) in
         stayed (told ∙ sym (answer-is ∙ rw (room, some))) (ap isLogged told)
         (subst (Restamped G (LogAccess G t w d) d) (sym left-is) (lifted-refused G d q (LogAccess G t w d) a)))

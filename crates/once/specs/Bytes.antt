@@ -2,7 +2,7 @@
 use mathlib.Core.Path.{_≡_, refl, ap, sym, _∙_}
 use mathlib.Core.Logic.{_⊎_, inl, inr}
 use mathlib.Core.Bool.{true}
-use mathlib.Core.List.{[], _∷_, _++_}
+use mathlib.Core.List.{_∷_, _++_}
 use Prim.Native.Nat.{ℕ, _+_, _/_, _%_, _≤_, _<_}
 use native.Mathlib.Omega.{arith}
 use lib.Dec.{eqb}
@@ -18,7 +18,7 @@ use Rattle.format.specs.Entries.{exOf}
 use Rattle.format.specs.Fcb.{fcbBytes, crOf}
 use Rattle.stored.specs.Closed.{Begins}
 use Rattle.picking.specs.declared.Wanted.{Wanted}
-use Rattle.picking.specs.Picker.{digit, fcbOf, blank, stampOf, logRecord, hasStamp}
+use Rattle.picking.specs.Picker.{fcbOf, blank, stampOf, logRecord, hasStamp}
 
 -- the names are eleven bytes each
 pub record Named (w : Wanted) : Type 0 where
@@ -117,48 +117,18 @@ module _ (y d z e : ℕ) (h : hasStamp y d (logRecord z e) ≡ true) where
       sym (List·getD-append (stampOf z e) tail 0 i (omega (arith, length-stampOf z e)))
       ∙ eqb-true _ _ (all-at (λ (k : ℕ). eqb (getD (stampOf z e ++ tail) k 0) (getD (stampOf y d) k 0)) 9 h i b)
 
-  five : digit z 10000 ≡ digit y 10000
-  unfolding stampOf
-  five = digits 0 (omega arith)
-
-  four : digit z 1000 ≡ digit y 1000
-  unfolding stampOf
-  four = digits 1 (omega arith)
-
-  three : digit z 100 ≡ digit y 100
-  unfolding stampOf
-  three = digits 2 (omega arith)
-
-  two : digit z 10 ≡ digit y 10
-  unfolding stampOf
-  two = digits 3 (omega arith)
-
-  one : digit z 1 ≡ digit y 1
-  unfolding stampOf
-  one = digits 4 (omega arith)
-
-  hundreds : digit e 100 ≡ digit d 100
-  unfolding stampOf
-  hundreds = digits 6 (omega arith)
-
-  tens : digit e 10 ≡ digit d 10
-  unfolding stampOf
-  tens = digits 7 (omega arith)
-
-  ones : digit e 1 ≡ digit d 1
-  unfolding stampOf
-  ones = digits 8 (omega arith)
-
   pub same-day : d ≤ 999 → e ≤ 999 → e ≡ d
+  unfolding stampOf
   same-day a b =
-      let p : e / 100 ≡ d / 100 = top 100 e d (omega arith) (omega arith) hundreds in
-      let q : e / 10 ≡ d / 10 = next (e / 10) (d / 10) (over10 e ∙ p ∙ sym (over10 d)) (last (e / 10) (d / 10) tens) in
-      next e d q (last e d (ones-of e d ones))
+      let p : e / 100 ≡ d / 100 = top 100 e d (omega arith) (omega arith) (digits 6 (omega arith)) in
+      let q : e / 10 ≡ d / 10 = next (e / 10) (d / 10) (over10 e ∙ p ∙ sym (over10 d)) (last (e / 10) (d / 10) (digits 7 (omega arith))) in
+      next e d q (last e d (ones-of e d (digits 8 (omega arith))))
 
   pub same-year : y ≤ 99999 → z ≤ 99999 → z ≡ y
+  unfolding stampOf
   same-year a b =
-      let p : z / 10000 ≡ y / 10000 = top 10000 z y (omega arith) (omega arith) five in
-      let q : z / 1000 ≡ y / 1000 = next (z / 1000) (y / 1000) (over1000 z ∙ p ∙ sym (over1000 y)) (last (z / 1000) (y / 1000) four) in
-      let r : z / 100 ≡ y / 100 = next (z / 100) (y / 100) (over100 z ∙ q ∙ sym (over100 y)) (last (z / 100) (y / 100) three) in
-      let t : z / 10 ≡ y / 10 = next (z / 10) (y / 10) (over10 z ∙ r ∙ sym (over10 y)) (last (z / 10) (y / 10) two) in
-      next z y t (last z y (ones-of z y one))
+      let p : z / 10000 ≡ y / 10000 = top 10000 z y (omega arith) (omega arith) (digits 0 (omega arith)) in
+      let q : z / 1000 ≡ y / 1000 = next (z / 1000) (y / 1000) (over1000 z ∙ p ∙ sym (over1000 y)) (last (z / 1000) (y / 1000) (digits 1 (omega arith))) in
+      let r : z / 100 ≡ y / 100 = next (z / 100) (y / 100) (over100 z ∙ q ∙ sym (over100 y)) (last (z / 100) (y / 100) (digits 2 (omega arith))) in
+      let t : z / 10 ≡ y / 10 = next (z / 10) (y / 10) (over10 z ∙ r ∙ sym (over10 y)) (last (z / 10) (y / 10) (digits 3 (omega arith))) in
+      next z y t (last z y (ones-of z y (digits 4 (omega arith))))

@@ -1,29 +1,27 @@
 -- The picker's calls that look for a name, 15, 35, 46 and 22: what they answer on a disk that is right, in words of the directory.
-use mathlib.Core.Path.{_≡_, refl, ap, sym, _∙_}
+use mathlib.Core.Path.{_≡_, refl, ap, _∙_}
 use mathlib.Core.Bool.{Bool, true, false, cond, not}
 use Prim.Native.Nat.{ℕ, _≤_}
-use native.Mathlib.Omega.{arith}
 use lib.Dec.{ltb}
 use lib.ListN.{length, getD}
 use Rattle.lists.specs.Tests.{_and_}
 use Rattle.format.specs.Diskette.{Bytes, Geometry, recordBytes}
-use Rattle.format.specs.Names.{nameBytes, nameRight}
-use Rattle.format.specs.Entries.{entryAt, exOf, findFile, findEmpty}
+use Rattle.format.specs.Names.{nameBytes}
+use Rattle.format.specs.Entries.{entryAt, exOf, findFile}
 use Rattle.format.specs.Dates.{bcd}
 use Rattle.format.specs.Found.{isFound}
-use Rattle.format.specs.declared.Found.{Found}
 use Rattle.model.specs.Kinds.{kindOf, isCall}
 use Rattle.model.specs.Lent.{protected}
 use Rattle.model.specs.Table.{timeRight, anyNamed, askedEntry}
 use Rattle.table.specs.Facts.{Ready}
 use Rattle.table.specs.Protection.{lifted-spared, other-spared}
-use Rattle.invariant.specs.Good.{good-consistent, good-right}
 use Rattle.demands.specs.Runs.{Disk, lentTo, accepts}
-use Rattle.stored.specs.Closed.{Sane, Begins}
+use Rattle.stored.specs.Closed.{Sane}
+use Rattle.stored.specs.Quiet.{sane-ready}
 use Rattle.picking.specs.declared.Time.{Time}
 use Rattle.picking.specs.Picker.{fcbOf, blank, asking, opening, sizing, spacing, making}
 use Rattle.once.specs.Bytes.{length-blank, ex-fcbOf, begins-fcbOf}
-use Rattle.once.specs.Deciding.{answered, decided, answered-own}
+use Rattle.once.specs.Deciding.{answered, answered-own}
 use Rattle.once.specs.Table.{nameIs, hasEntry, extentAt, someEmpty}
 
 -- an answer as a test
@@ -46,20 +44,7 @@ module _ {G : Geometry} (d : Disk) (sane : Sane G d) (t : Time) (timed : Timed t
   pub ready-call : (n : ℕ) (f buffer : Bytes) → length f ≡ 36 → getD f 0 0 ≤ 1 → length buffer ≡ recordBytes
       → Ready G (asking t n f buffer .asked) (lentTo d (asking t n f buffer)) (d .session)
   unfolding timeRight
-  ready-call n f buffer hf drive hb = record {
-    fits = record {
-      image-long = sane .good .image-long;
-      map-long = sane .good .map-long;
-      fcb-long = hf;
-      buffer-long = hb;
-      user-low = sane .range .user;
-      place-low = sane .range .place;
-    };
-    time = timed;
-    drive = λ u. drive;
-    image-right = good-consistent G (d .drive .image) (d .drive .map) (sane .good);
-    map-right = λ z. good-right G (d .drive .image) (d .drive .map) (sane .good);
-  }
+  ready-call n f buffer hf drive hb = sane-ready G d sane f hf drive (asking t n f buffer .asked) timed buffer hb
 
   module _ (name : Bytes) (h : length name ≡ nameBytes) where
     ready-name : (n : ℕ) → Ready G (asking t n (fcbOf name) blank .asked) (lentTo d (asking t n (fcbOf name) blank)) (d .session)

@@ -1,6 +1,6 @@
 -- What follows from a call's answer, told by the rows of the table of refusals.
-use mathlib.Core.Path.{_≡_, refl, ap, sym, _∙_}
-use mathlib.Core.Bool.{Bool, true, false, cond, not}
+use mathlib.Core.Path.{_≡_, refl, sym, _∙_}
+use mathlib.Core.Bool.{true, false, cond}
 use mathlib.Core.List.{List, [], _∷_}
 use Prim.Native.Nat.{ℕ}
 use Rattle.lists.specs.Cases.{split, bool-cases}
@@ -53,7 +53,8 @@ module _ {A : Type 0} (went : A) (not-so : ℕ → ℕ → A) (G : Geometry) (d 
   answered-rows t =
       rows-cases (rowsFor G (q .asked) (lentTo d q) (d .session))
       (λ n. rw (carried-says G (q .asked) (lentTo d q) (d .session)
-      (total-accepted G (q .asked) (lentTo d q) (d .session) (verdict-rows G (q .asked) (lentTo d q) (d .session) t ∙ none-passed (rowsFor G (q .asked) (lentTo d q) (d .session)) n)))
+      (total-accepted G (q .asked) (lentTo d q) (d .session)
+      (verdict-rows G (q .asked) (lentTo d q) (d .session) t ∙ none-passed (rowsFor G (q .asked) (lentTo d q) (d .session)) n)))
       (sym (decided-none went not-so (rowsFor G (q .asked) (lentTo d q) (d .session)) n)))
       (λ c n. answered-refused c (total-refused G (q .asked) (lentTo d q) (d .session) c
       (verdict-rows G (q .asked) (lentTo d q) (d .session) t ∙ decides-refused c (rowsFor G (q .asked) (lentTo d q) (d .session)) n))

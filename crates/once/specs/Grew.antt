@@ -1,30 +1,23 @@
 -- A log that gained one record, seen from an earlier disk: before stamps that were put, and before the log was made.
-use mathlib.Core.Path.{_≡_, refl, ap, sym, _∙_, subst}
+use mathlib.Core.Path.{_≡_, ap, sym, _∙_}
 use mathlib.Core.Logic.{_⊎_, inl, inr}
 use mathlib.Core.Bool.{true, false}
-use Prim.Native.Nat.{ℕ, _/_, _%_, _≤_, _<_}
+use Prim.Native.Nat.{ℕ, _/_, _≤_, _<_}
 use native.Mathlib.Omega.{arith}
-use Rattle.lists.specs.Cases.{split, bool-cases, eq-or-ne, not-both}
+use Rattle.lists.specs.Cases.{split, eq-or-ne, not-both}
 use Rattle.format.specs.Diskette.{Bytes, Geometry, Sound, extentRecords}
-use Rattle.format.specs.Entries.{entryAt, slotOf, isFile, named, empty, used, endOf}
+use Rattle.format.specs.Entries.{entryAt, slotOf, isFile, named, empty, endOf}
 use Rattle.format.specs.Dates.{isDates}
 use Rattle.format.specs.Notes.{noteAt}
 use Rattle.facts.specs.Naming.{file-named}
 use Rattle.consistency.specs.Naming.{file-used, file-found}
-use Rattle.consistency.specs.Reflect.{used-full, dates-unused, dates-full}
+use Rattle.consistency.specs.Reflect.{used-full, used-no-dates}
 use Rattle.model.specs.Stamps.{Stamp}
 use Rattle.demands.specs.Runs.{Request, Disk, outcomeOf, left}
 use Rattle.stored.specs.Closed.{Sane, seenOn, Restamped}
 use Rattle.stored.specs.Restamped.{row-restamped, recs-restamped, dates-restamped, empty-restamped}
 use Rattle.stored.specs.Accepting.{MadeAt}
-use Rattle.stored.specs.Grown.{Grown, grown-file}
-
--- an empty entry is no date entry
-empty-no-dates : (r : Bytes) → empty r ≡ true → isDates r ≡ false
-empty-no-dates r h = split (bool-cases (isDates r)) (λ t. not-both (empty r) h (dates-full r t)) (λ t. t)
-
-pub used-no-dates : (r : Bytes) → used r ≡ true → isDates r ≡ false
-used-no-dates r h = split (bool-cases (isDates r)) (λ t. not-both (used r) h (dates-unused r t)) (λ t. t)
+use Rattle.stored.specs.Grown.{Grown, grown-before, grown-file}
 
 -- ---- before stamps that were put
 module _ {G : Geometry} (S : Sound G) (P : Stamp → Type 0) (d m : Disk) (sane : Sane G d) (w : Restamped G P d m) (t : Disk)
@@ -39,33 +32,17 @@ module _ {G : Geometry} (S : Sound G) (P : Stamp → Type 0) (d m : Disk) (sane 
       ⊎ ((empty (rows (g .entry)) ≡ true) × ((j : ℕ) → slotOf G (g .base) j ≡ 0) × (endOf (g .base) ≤ r))
   was =
       split (g .was)
-      (λ x. inl (sym (plain-row (g .entry) (g .low) (ap isDates (x .0)
-      ∙ used-no-dates (g .base) (file-used G (d .session .user) f 1 (r / extentRecords) (g .base) (x .1) (sane .range .user)))) ∙ x .0, x .1))
+      (λ x. inl (
+        sym (plain-row (g .entry) (g .low) (ap isDates (x .0)
+            ∙ used-no-dates (g .base) (file-used G (d .session .user) f 1 (r / extentRecords) (g .base) (x .1) (sane .range .user)))) ∙ x .0,
+        x .1,
+      ))
       (λ x. inr (sym (empty-restamped S P d m sane w (g .entry) (g .low)) ∙ x .0, x .1, x .2))
 
-  note-same : (y : ℕ) → noteAt (m .drive .map) y ≡ noteAt (d .drive .map) y
-  note-same y = ap (λ (n : Bytes). noteAt n y) (w .map)
-
   pub grown-restamped : Grown G (seenOn G d) (seenOn G t) (d .session .user) f r v
-  grown-restamped = record {
-    entry = g .entry;
-    low = g .low;
-    base = g .base;
-    was = was;
-    file = g .file;
-    kept = g .kept;
-    end = g .end;
-    others = λ e low h q. let z = dates-restamped S P d m sane w e low ∙ h in g .others e low z q ∙ plain-row e low z;
-    dates = λ e low. g .dates e low ∙ dates-restamped S P d m sane w e low;
-    block = g .block;
-    below = g .below;
-    past = g .past;
-    slot = g .slot;
-    origin = split (g .origin) (λ z. inl (sym (note-same (g .block)) ∙ z)) (λ z. inr z);
-    notes = λ y h. split (g .notes y h) (λ z. inl (z ∙ note-same y)) (λ z. inr z);
-    recs = λ x a b q. g .recs x a b q ∙ recs-restamped S P d m sane w x a b;
-    new = g .new;
-  }
+  grown-restamped =
+      grown-before g was (λ e low h q. plain-row e low h) (dates-restamped S P d m sane w) (λ y. ap (λ (n : Bytes). noteAt n y) (w .map))
+      (recs-restamped S P d m sane w)
 
 -- ---- before the log was made: its only entry is the new one
 module _ {G : Geometry} (S : Sound G) (d : Disk) (q : Request) (made : MadeAt G d q) (sane : Sane G d)
@@ -91,7 +68,7 @@ module _ {G : Geometry} (S : Sound G) (d : Disk) (q : Request) (made : MadeAt G 
       ap (named false user (q .fcb) 1) (x .0) ∙ file-named G user (q .fcb) 1 0 (g .base) (x .1) in
       not-both _ (ap (named false user (q .fcb) 1) (sym (row-before (g .entry) (g .low) (ap isDates (x .0) ∙ used-no-dates (g .base)
       (file-used G user (q .fcb) 1 0 (g .base) (x .1) (sane .range .user))) z)) ∙ h) (none (g .entry) (g .low)))
-      (λ x. absurd (z (same-entry))))
+      (λ x. absurd (z same-entry)))
     where
       -- two entries of one extent are one
       same-entry : g .entry ≡ made .entry
@@ -106,32 +83,15 @@ module _ {G : Geometry} (S : Sound G) (d : Disk) (q : Request) (made : MadeAt G 
   base-is =
       split (g .was) (λ x. sym (x .0) ∙ ap (entryAt G (m .drive .image)) only-made)
       (λ x. not-both (empty (entryAt G (m .drive .image) (made .entry))) (ap (λ (e : ℕ). empty (entryAt G (m .drive .image) e)) (sym only-made) ∙ x .0)
-      (used-full (entryAt G (m .drive .image) (made .entry)) (file-used G user (q .fcb) 1 0 (entryAt G (m .drive .image) (made .entry)) (made .file) (sane .range .user))))
-
-  made-note : (y : ℕ) → noteAt (m .drive .map) y ≡ noteAt (d .drive .map) y
-  made-note y = ap (λ (n : Bytes). noteAt n y) (made .map)
+      (used-full (entryAt G (m .drive .image) (made .entry))
+      (file-used G user (q .fcb) 1 0 (entryAt G (m .drive .image) (made .entry)) (made .file) (sane .range .user))))
 
   pub grown-made : Grown G (seenOn G d) (seenOn G t) (d .session .user) (q .fcb) 0 v
-  grown-made = record {
-    entry = g .entry;
-    low = g .low;
-    base = g .base;
-    was = inr (
-      ap (λ (e : ℕ). empty (entryAt G (d .drive .image) e)) only-made ∙ made .void,
-      (λ j. ap (λ (x : Bytes). slotOf G x j) base-is ∙ made .slots j),
-      (let z : endOf (g .base) ≡ 0 = ap endOf base-is ∙ made .end in omega arith),
-    );
-    file = g .file;
-    kept = g .kept;
-    end = g .end;
-    others = λ e low h z. let k = made .dates e low ∙ h in g .others e low k z ∙ row-before e low k (λ y. z (y ∙ sym only-made));
-    dates = λ e low. g .dates e low ∙ made .dates e low;
-    block = g .block;
-    below = g .below;
-    past = g .past;
-    slot = g .slot;
-    origin = split (g .origin) (λ z. inl (sym (made-note (g .block)) ∙ z)) (λ z. inr z);
-    notes = λ y h. split (g .notes y h) (λ z. inl (z ∙ made-note y)) (λ z. inr z);
-    recs = λ x a b z. g .recs x a b z ∙ made .recs x a b;
-    new = g .new;
-  }
+  grown-made =
+      grown-before g
+      (inr (
+        ap (λ (e : ℕ). empty (entryAt G (d .drive .image) e)) only-made ∙ made .void,
+        (λ j. ap (λ (x : Bytes). slotOf G x j) base-is ∙ made .slots j),
+        (let z : endOf (g .base) ≡ 0 = ap endOf base-is ∙ made .end in omega arith),
+      ))
+      (λ e low h z. row-before e low h (λ y. z (y ∙ sym only-made))) (made .dates) (λ y. ap (λ (n : Bytes). noteAt n y) (made .map)) (made .recs)

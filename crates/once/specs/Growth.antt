@@ -9,14 +9,15 @@ use Rattle.model.specs.declared.Asked.{Asked}
 use Rattle.model.specs.Stamps.{Stamp}
 use Rattle.model.specs.Table.{timeRight}
 use Rattle.fields.specs.Agree.{SameName, named-asked}
-use Rattle.effects.specs.Where.{Frame, one-more}
+use Rattle.effects.specs.Where.{Frame, one-more, frame-wider}
+use Rattle.effects.specs.Alike.{alike-none}
 use Rattle.effects.specs.Closed.{byName}
 use Rattle.table.specs.Total.{range-lifted}
 use Rattle.demands.specs.Runs.{Request, Disk, outcomeOf, left, accepts, liftedBy}
 use Rattle.stored.specs.Closed.{Sane, seenOn, First, Fresh, Access, Restamped}
 use Rattle.stored.specs.Restamped.{restamped-alike}
-use Rattle.stored.specs.OnlyNamed.{by-used, none-alike}
-use Rattle.stored.specs.Frames.{FileBlock, frame-wider, frame-then, write-close-frame, restamped-only, block-restamped, access-frame}
+use Rattle.stored.specs.OnlyNamed.{by-used}
+use Rattle.stored.specs.Frames.{FileBlock, frame-then, write-close-frame, restamped-only, block-restamped, access-frame}
 use Rattle.stored.specs.Accepting.{MadeAt}
 use Rattle.stored.specs.Grown.{Grown, grown-named, grown-file, grown-only}
 use Rattle.stored.specs.Growing.{write-close-grown, end-sane, end-user}
@@ -75,7 +76,7 @@ module _ {G : Geometry} (S : Sound G) (a : Asked) (w : Wanted) (d m : Disk) (san
     grown = grown-restamped S P d m sane r e File (sizeIs G d (w .log)) (logRecord (w .year) (w .day)) grown-on;
     frame = frame-then S (byName (d .session .user) File) (by-used (d .session .user) File (sane .range .user)) Blocks (d .drive .image) (m .drive .image) (e .drive .image)
         (restamped-only S P d m sane r (byName (d .session .user) File)) (grown-only File grown-on) (d .drive .map) (m .drive .map) (e .drive .map)
-        (inl (none-alike G (d .drive .image) (m .drive .image) (d .drive .map) (m .drive .map) (restamped-alike S P d m sane r)))
+        (inl (alike-none G (d .drive .image) (m .drive .image) (restamped-alike S P d m sane r) (d .drive .map)))
         (access-frame S a File d m sane r Blocks) frame-on;
   }
 

@@ -1,6 +1,6 @@
 -- The protection lifted for one call: the call is that of a session whose protection is lifted, and the byte that says so is afterwards what it was.
-use mathlib.Core.Path.{_≡_, refl, ap, sym, _∙_}
-use mathlib.Core.Bool.{true, false, cond}
+use mathlib.Core.Path.{_≡_, ap, sym}
+use mathlib.Core.Bool.{false, cond}
 use Prim.Native.Nat.{ℕ}
 use borrow.Author.Tests.{eqb-true}
 use Rattle.lists.specs.Cases.{split, bool-cases}

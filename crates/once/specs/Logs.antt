@@ -1,38 +1,33 @@
 -- A run's second half, the log: its answer is that of the table, and the disk is the same but for access stamps of the log, or has the log grown.
 use mathlib.Core.Path.{_≡_, refl, ap, sym, _∙_, subst}
-use mathlib.Core.Bool.{Bool, true, false, cond, not}
-use Prim.Native.Nat.{ℕ, _*_, _/_, _≤_, _<_}
+use mathlib.Core.Bool.{Bool, true, false, cond}
+use Prim.Native.Nat.{ℕ, _≤_, _<_}
 use native.Mathlib.Omega.{arith}
 use lib.Dec.{eqb, leb}
-use borrow.Author.Tests.{leb-false, eq-eqb, eqb-true, eqb-false}
+use borrow.Author.Tests.{leb-false}
 use Rattle.lists.specs.Cases.{split, bool-cases, cond-either}
-use Rattle.lists.specs.Tests.{_and_, _or_, and-both, and-fails-right}
+use Rattle.lists.specs.Tests.{_and_, and-both, and-fails-right}
 use Rattle.lists.specs.Below.{anyBelow, any-cong}
-use Rattle.format.specs.Diskette.{Bytes, Geometry, Sound, recordBytes, extentRecords}
+use Rattle.format.specs.Diskette.{Bytes, Geometry, Sound}
 use Rattle.format.specs.Entries.{entryAt, findFile}
-use Rattle.format.specs.Fcb.{randomOf}
 use Rattle.format.specs.Found.{isFound}
-use Rattle.format.specs.declared.Found.{Found}
-use Rattle.format.specs.declared.Found.the-variants.{At, Nothing}
+use Rattle.format.specs.declared.Found.the-variants.{At}
 use Rattle.facts.specs.Find.{file-says}
-use Rattle.model.specs.declared.Kind.the-variants.{Quiet}
-use Rattle.model.specs.Kinds.{kindOf}
 use Rattle.model.specs.Lent.{Outcome, ended}
 use Rattle.model.specs.Stamps.{Stamp}
 use Rattle.model.specs.Table.{askedEntry}
-use Rattle.model.specs.Target.{readOnlyIn}
 use Rattle.fields.specs.Agree.{SameName}
 use Rattle.demands.specs.Runs.{Disk, lentTo, outcomeOf, left, accepts}
 use Rattle.stored.specs.Closed.{Sane, seenOn, First, Fresh, Access, Restamped}
-use Rattle.stored.specs.Restamped.{restamped-none, restamped-more, restamped-then, sane-restamped, access-before, fresh-restamped}
-use Rattle.stored.specs.Quiet.{quiet-same, opened-ended, refused-same}
-use Rattle.stored.specs.Looking.{Opening, opening-of, opened-restamped, size-small, size-told, size-some}
+use Rattle.stored.specs.Restamped.{restamped-none, restamped-more, restamped-then, access-before}
+use Rattle.stored.specs.Quiet.{opened-ended}
+use Rattle.stored.specs.Looking.{Opening, opening-of, opened-restamped, size-small}
 use Rattle.stored.specs.Told.{extentEntry, bytesStored, entry-named, told-named, bytes-named}
 use Rattle.picking.specs.declared.Wanted.{Wanted}
 use Rattle.picking.specs.declared.Time.{Time}
 use Rattle.picking.specs.declared.Pick.{Pick}
 use Rattle.picking.specs.declared.Pick.the-variants.{Logged, Again, DayOver, NoBook, NoWord, OneFile, NoFirst, LogFull, LogReadOnly, DirectoryFull, DiskFull, Other}
-use Rattle.picking.specs.Picker.{Logging, Search, fcbOf, blank, hasStamp, fullLog, callAt, accepted, isCode, opening, sizing, writing, searched, added, written, extended}
+use Rattle.picking.specs.Picker.{Logging, fcbOf, blank, hasStamp, fullLog, callAt, isCode, opening, writing, searched, added, written, extended}
 use Rattle.once.specs.Bytes.{Named, begins-fcbOf, ex-fcbOf}
 use Rattle.once.specs.Calls.{Timed, open-by, open-accepts}
 use Rattle.once.specs.Growth.{LogGrew, grew-restamped, write-grew}
@@ -92,7 +87,8 @@ module _ {G : Geometry} (S : Sound G) (t : Time) (timed : Timed t) (w : Wanted) 
   run-before d m sane r l (stayed p n s) =
       stayed (p ∙ log-same S (LogAccess G t w d) d m sane r w) n
       (restamped-then G (LogAccess G t w d) d m (l .disk) r (restamped-more G (LogAccess G t w m) m (l .disk) (LogAccess G t w d) (access-on d m sane r) s))
-  run-before d m sane r l (grew p q g) = grew p (sym (log-same S (LogAccess G t w d) d m sane r w) ∙ q) (grew-restamped S (callAt t 0) w d m sane r (l .disk) g)
+  run-before d m sane r l (grew p q g) = grew p (sym (log-same S (LogAccess G t w d) d m sane r w) ∙ q)
+      (grew-restamped S (callAt t 0) w d m sane r (l .disk) g)
 
   sizes-small : (d : Disk) → Sane G d → sizeIs G d (w .log) ≤ 262144
   unfolding sizeIs
@@ -132,13 +128,15 @@ module _ {G : Geometry} (S : Sound G) (t : Time) (timed : Timed t) (w : Wanted) 
         grew (ap (λ (l : Logging). l .pick) is) (sym told ∙ ap (λ (l : Logging). l .pick) is)
         (subst (LogGrew G w d) (sym (ap (λ (l : Logging). l .disk) is)) (write-grew S t timed w d f e k same n refl (omega arith) first-is a)))
         (λ a. let is = written-trouble S t timed w d f n a in
-        stayed told (ap (λ (l : Logging). isLogged (l .pick)) is ∙ never-logged (outcomeOf G (openedUp d) (writing t w f n) .answer .a) (outcomeOf G (openedUp d) (writing t w f n) .answer .h))
+        stayed told (ap (λ (l : Logging). isLogged (l .pick)) is
+        ∙ never-logged (outcomeOf G (openedUp d) (writing t w f n) .answer .a) (outcomeOf G (openedUp d) (writing t w f n) .answer .h))
         (subst (Restamped G (LogAccess G t w d) d) (sym (ap (λ (l : Logging). l .disk) is)) (lifted-refused G d (writing t w f n) (LogAccess G t w d) a)))
 
     -- what the search finds is the table's row
     has-is : (r : ℕ) → hasAt G d f w r ≡ (recordIs G d (w .log) r and hasStamp (w .year) (w .day) (bytesAre G d (w .log) r))
     has-is r =
-        ap (λ (b : Bool). b and hasStamp (w .year) (w .day) (bytesStored G (seenOn G d) (d .session .user) f r)) (told-named G (seenOn G d) (d .session .user) log f same r)
+        ap (λ (b : Bool). b and hasStamp (w .year) (w .day) (bytesStored G (seenOn G d) (d .session .user) f r))
+        (told-named G (seenOn G d) (d .session .user) log f same r)
         ∙ ap (λ (v : Bytes). recordIs G d (w .log) r and hasStamp (w .year) (w .day) v) (bytes-named G (seenOn G d) (d .session .user) log f same r)
 
     found-is : anyBelow (hasAt G d f w) n ≡ hasDay G w d
@@ -190,7 +188,8 @@ module _ {G : Geometry} (S : Sound G) (t : Time) (timed : Timed t) (w : Wanted) 
     pub missed-run : isFound (extentAt G d (w .log) 0) ≡ false → (n : ℕ) → LogRun G t w d (extended G t w d n)
     unfolding extended isCode logAnswer _and_
     missed-run h n =
-        let a : accepts G d (opening t (w .log)) ≡ false = open-accepts d sane t timed (w .log) (nm .log) ∙ and-fails-right (nameIs (w .log)) (isFound (extentAt G d (w .log) 0)) h in
+        let a : accepts G d (opening t (w .log)) ≡ false =
+        open-accepts d sane t timed (w .log) (nm .log) ∙ and-fails-right (nameIs (w .log)) (isFound (extentAt G d (w .log) 0)) h in
         let p : cond (eqb (o .answer .a) 255 and eqb (o .answer .h) 0) NoFirst (Other (o .answer .a) (o .answer .h)) ≡ NoFirst =
         ap (λ (b : Bool). cond b Logged (cond (eqb (o .answer .a) 255 and eqb (o .answer .h) 0) NoFirst (Other (o .answer .a) (o .answer .h)))) (sym a)
         ∙ open-by d sane t timed (w .log) (nm .log) Logged (λ x y. cond (eqb x 255 and eqb y 0) NoFirst (Other x y)) ∙ rw (name, h) in

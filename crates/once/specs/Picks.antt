@@ -7,13 +7,11 @@ use Prim.Native.Nat.{ℕ, _*_, _≤_, _<_}
 use native.Mathlib.Omega.{arith}
 use lib.Dec.{eqb, ltb}
 use lib.ListN.{length}
-use borrow.Author.Tests.{eqb-true, eqb-false, eq-eqb, ltb-false}
-use Rattle.lists.specs.Cases.{split, bool-cases, refute, clash}
-use Rattle.lists.specs.Tests.{_and_, _or_, and-left, and-right, and-both, and-fails-left, and-fails-right}
-use Rattle.format.specs.Diskette.{Bytes, Geometry, Sound, recordBytes, lastRecord}
+use borrow.Author.Tests.{eqb-true, eqb-false, ltb-false}
+use Rattle.lists.specs.Cases.{split, bool-cases, refute}
+use Rattle.lists.specs.Tests.{_and_, _or_, and-both, and-fails-left, and-fails-right}
+use Rattle.format.specs.Diskette.{Bytes, Geometry, Sound, recordBytes}
 use Rattle.format.specs.Found.{isFound}
-use Rattle.format.specs.declared.Found.{Found}
-use Rattle.format.specs.declared.Found.the-variants.{At, Nothing}
 use Rattle.model.specs.Kinds.{kindOf, isCall}
 use Rattle.model.specs.Lent.{Outcome}
 use Rattle.model.specs.Stamps.{Stamp}
@@ -22,14 +20,14 @@ use Rattle.table.specs.Reflect.{fits-of}
 use Rattle.demands.specs.Runs.{Request, Disk, lentTo, outcomeOf, left, accepts}
 use Rattle.stored.specs.Closed.{Sane, seenOn, Fresh, Access, Restamped}
 use Rattle.stored.specs.Restamped.{restamped-none, restamped-more, restamped-then, sane-restamped, access-before}
-use Rattle.stored.specs.Quiet.{refused-same, fresh-record, fresh-read-same}
+use Rattle.stored.specs.Quiet.{fresh-record, fresh-read-same}
 use Rattle.stored.specs.Looking.{Opening, opening-of, opened-restamped}
-use Rattle.stored.specs.Told.{extentEntry, isStored, bytesStored, told-named, bytes-named, stored-found}
+use Rattle.stored.specs.Told.{extentEntry, isStored, told-named, bytes-named}
 use Rattle.picking.specs.declared.Wanted.{Wanted}
 use Rattle.picking.specs.declared.Time.{Time}
 use Rattle.picking.specs.declared.Pick.{Pick}
-use Rattle.picking.specs.declared.Pick.the-variants.{Logged, DayOver, NoBook, NoWord, OneFile, Other}
-use Rattle.picking.specs.Picker.{Picked, Logging, fcbOf, blank, oneFile, lastDay, callAt, accepted, isCode, opening, reading, logged, worded, fetched, looked, picked}
+use Rattle.picking.specs.declared.Pick.the-variants.{Logged, NoBook, NoWord, Other}
+use Rattle.picking.specs.Picker.{Picked, Logging, fcbOf, blank, oneFile, lastDay, callAt, isCode, opening, reading, logged, worded, fetched, looked, picked}
 use Rattle.once.specs.Begun.{log-run}
 use Rattle.once.specs.Bytes.{Named, begins-fcbOf}
 use Rattle.once.specs.Calls.{Timed, as-test}
@@ -211,13 +209,15 @@ module _ {G : Geometry} (S : Sound G) (countable : G .perBlock * G .blocks < 167
         -- what became of the log
         log-left : oneFile w ≡ false → (l : Logging) → LogRun G t w (left u) l → (l .pick ≡ logAnswer G w d)
             × Left G t w d (record { pick = l .pick; given = true; word = u .lent .buffer; disk = l .disk })
-        log-left apart l (stayed p n r) =
-            (p ∙ log-same S (BookAccess G t w d) d (left u) sane read w,
-            same n (restamped-then G (PickAccess G t w d) d (left u) (l .disk) (book-only (left u) read)
-            (restamped-more G (LogAccess G t w (left u)) (left u) (l .disk) (PickAccess G t w d) log-access r)))
-        log-left apart l (grew p r g) =
-            (p ∙ sym r ∙ log-same S (BookAccess G t w d) d (left u) sane read w,
-            more p refl (record { sane = sane; apart = apart; mid = left u; before = book-only (left u) read; log = g }))
+        log-left apart l (stayed p n r) = (
+          p ∙ log-same S (BookAccess G t w d) d (left u) sane read w,
+          same n (restamped-then G (PickAccess G t w d) d (left u) (l .disk) (book-only (left u) read)
+              (restamped-more G (LogAccess G t w (left u)) (left u) (l .disk) (PickAccess G t w d) log-access r)),
+        )
+        log-left apart l (grew p r g) = (
+          p ∙ sym r ∙ log-same S (BookAccess G t w d) d (left u) sane read w,
+          more p refl (record { sane = sane; apart = apart; mid = left u; before = book-only (left u) read; log = g }),
+        )
 
         given-run : PickRun G t w d buffer (fetched G t w m f buffer)
         unfolding fetched worded wordAnswer
@@ -261,7 +261,8 @@ module _ {G : Geometry} (S : Sound G) (countable : G .perBlock * G .blocks < 167
       ap (λ (b : Bool). cond b went (not-so (o .answer .a) (o .answer .h))) (sym a) ∙ open-any G d t (w .book) (nm .book) went not-so
 
   accepts-is-all : accepts G d (opening t (w .book))
-      ≡ cond (not (parametersAre G d t)) false (cond (not (diskIs G d)) false (cond (not (nameIs (w .book))) false (cond (not (isFound (extentAt G d (w .book) 0))) false true)))
+      ≡ cond (not (parametersAre G d t)) false (cond (not (diskIs G d)) false
+      (cond (not (nameIs (w .book))) false (cond (not (isFound (extentAt G d (w .book) 0))) false true)))
   accepts-is-all = as-test (accepts G d (opening t (w .book))) ∙ open-any G d t (w .book) (nm .book) true (λ x y. false)
 
   module _ (day : ltb lastDay (w .day) ≡ false) where

@@ -1,6 +1,6 @@
 -- The picker's record calls, 33 and 34 through an FCB that has nothing to close: what they answer, in words of the directory.
-use mathlib.Core.Path.{_≡_, refl, ap, sym, _∙_}
-use mathlib.Core.Bool.{Bool, true, false, cond, not}
+use mathlib.Core.Path.{_≡_, refl, _∙_}
+use mathlib.Core.Bool.{false, cond, not}
 use Prim.Native.Nat.{ℕ, _≤_, _<_}
 use native.Mathlib.Omega.{arith}
 use lib.Dec.{eqb, ltb}
@@ -8,8 +8,7 @@ use lib.ListN.{length}
 use borrow.Author.Tests.{le-ltb}
 use Rattle.lists.specs.Tests.{_and_, _or_}
 use Rattle.format.specs.Diskette.{Bytes, Geometry, Sound, recordBytes, lastRecord}
-use Rattle.format.specs.Entries.{entryAt, findEmpty}
-use Rattle.format.specs.Notes.{findFree}
+use Rattle.format.specs.Entries.{entryAt}
 use Rattle.format.specs.Fcb.{randomOf}
 use Rattle.format.specs.Found.{isFound}
 use Rattle.format.specs.declared.Found.the-variants.{At}
@@ -18,7 +17,7 @@ use Rattle.model.specs.Lent.{protected}
 use Rattle.model.specs.Table.{timeRight}
 use Rattle.model.specs.Target.{readOnlyIn}
 use Rattle.table.specs.Protection.{lifted-spared, unchanged-spared}
-use Rattle.demands.specs.Runs.{Disk, lentTo}
+use Rattle.demands.specs.Runs.{Disk}
 use Rattle.demands.specs.Reading.{atRecord, random-atRecord}
 use Rattle.stored.specs.Closed.{Fresh, seenOn}
 use Rattle.stored.specs.Quiet.{fresh-record, fresh-ready, fresh-unmoved}
@@ -27,7 +26,7 @@ use Rattle.stored.specs.Meeting.{met-present, met-entry, met-block, met-there, 
 use Rattle.picking.specs.declared.Time.{Time}
 use Rattle.picking.specs.Picker.{asking, reading}
 use Rattle.once.specs.Calls.{Timed}
-use Rattle.once.specs.Deciding.{answered, decided, answered-own}
+use Rattle.once.specs.Deciding.{answered, answered-own}
 use Rattle.once.specs.Table.{someEmpty, someFree}
 
 module _ {A : Type 0} (went : A) (not-so : ℕ → ℕ → A) {G : Geometry} (S : Sound G) (d : Disk) (f : Bytes) (e : ℕ) (k : Fresh G d f e) (t : Time) (timed : Timed t)
@@ -56,7 +55,8 @@ module _ {A : Type 0} (went : A) (not-so : ℕ → ℕ → A) {G : Geometry} (S 
 
   -- 34, on a session that is not protected
   pub write-by : protected (d .session) ≡ false → answered went not-so G d (asking t 34 (atRecord f r) buffer)
-      ≡ cond (readOnlyIn (entryAt G (d .drive .image)) (At e) or readOnlyIn (entryAt G (d .drive .image)) (extentEntry G (seenOn G d) (d .session .user) f r)) (not-so 255 3)
+      ≡ cond (readOnlyIn (entryAt G (d .drive .image)) (At e)
+      or readOnlyIn (entryAt G (d .drive .image)) (extentEntry G (seenOn G d) (d .session .user) f r)) (not-so 255 3)
       (cond (not (isFound (extentEntry G (seenOn G d) (d .session .user) f r)) and not (someEmpty G d)) (not-so 5 0)
       (cond (eqb (blockIn G (entryAt G (d .drive .image)) r (extentEntry G (seenOn G d) (d .session .user) f r)) 0 and not (someFree G d)) (not-so 2 0) went))
   unfolding isCall kindOf isRandom timeRight

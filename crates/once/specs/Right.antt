@@ -1,27 +1,26 @@
 -- A disk, a session and a time that are right, as tests and as facts; and the open of a name on any disk at all.
-use mathlib.Core.Path.{_≡_, refl, ap, sym, _∙_}
-use mathlib.Core.Bool.{Bool, true, false, cond, not}
+use mathlib.Core.Path.{_≡_, refl, _∙_}
+use mathlib.Core.Bool.{true, cond, not}
 use Prim.Native.Nat.{ℕ}
 use native.Mathlib.Omega.{arith}
 use lib.ListN.{length}
 use borrow.Author.Tests.{eqb-true, eq-eqb, leb-true, le-leb}
 use Rattle.lists.specs.Cases.{split, bool-cases, bool-ext}
 use Rattle.lists.specs.Tests.{and-left, and-right, and-both}
-use Rattle.format.specs.Diskette.{Bytes, Geometry, isLong}
+use Rattle.format.specs.Diskette.{Bytes, Geometry}
 use Rattle.format.specs.Names.{nameBytes}
 use Rattle.format.specs.Found.{isFound}
 use Rattle.facts.specs.Long.{long-says, long-is}
 use Rattle.model.specs.Kinds.{kindOf, isCall}
 use Rattle.model.specs.Table.{timeRight, parametersRight, diskRight}
 use Rattle.table.specs.Reflect.{fits-of, time-of, parameters-right, image-of, map-of, disk-right}
-use Rattle.table.specs.Protection.{other-spared}
 use Rattle.invariant.specs.Good.{good-of, good-consistent, good-right}
 use Rattle.demands.specs.Runs.{Disk, lentTo}
 use Rattle.stored.specs.Closed.{Sane}
 use Rattle.picking.specs.declared.Time.{Time}
 use Rattle.picking.specs.Picker.{opening}
 use Rattle.once.specs.Bytes.{length-blank, begins-fcbOf}
-use Rattle.once.specs.Calls.{Timed, ready-call, open-by}
+use Rattle.once.specs.Calls.{Timed, open-by}
 use Rattle.once.specs.Deciding.{answered, answered-rows}
 use Rattle.once.specs.Table.{parametersAre, diskIs, nameIs, extentAt}
 
@@ -59,7 +58,8 @@ module _ (G : Geometry) (d : Disk) (t : Time) where
         bool-ext _ _
         (λ p. let f = fits-of G (opening t name .asked) (lentTo d (opening t name)) (d .session) p in
         and-both _ _ (long-is G (d .drive .image) (f .image-long)) (and-both _ _ (eq-eqb _ _ (f .map-long))
-        (and-both _ _ (le-leb _ _ (f .user-low)) (and-both _ _ (le-leb _ _ (f .place-low)) (time-of G (opening t name .asked) (lentTo d (opening t name)) (d .session) p)))))
+        (and-both _ _ (le-leb _ _ (f .user-low)) (and-both _ _ (le-leb _ _ (f .place-low))
+        (time-of G (opening t name .asked) (lentTo d (opening t name)) (d .session) p)))))
         (λ p. parameters-right G (opening t name .asked) (lentTo d (opening t name)) (d .session)
         record {
           image-long = long-says G (d .drive .image) (and-left _ _ p);

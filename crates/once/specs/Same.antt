@@ -1,14 +1,12 @@
 -- Stamps change no row of the table of answers: a disk that differs in stamps alone has the same log and the same book.
 use mathlib.Core.Path.{_≡_, refl, ap, sym, _∙_, subst}
-use mathlib.Core.Bool.{Bool, true, false, cond, not}
-use Prim.Native.Nat.{ℕ, _/_, _%_, _≤_, _<_}
-use native.Mathlib.Omega.{arith}
-use lib.Dec.{eqb, leb}
+use mathlib.Core.Bool.{true, false}
+use Prim.Native.Nat.{ℕ, _/_, _≤_}
 use Rattle.lists.specs.Cases.{bool-ext}
-use Rattle.lists.specs.Tests.{_and_, _or_, and-left, and-right, and-both}
+use Rattle.lists.specs.Tests.{_and_, and-left, and-right, and-both}
 use Rattle.lists.specs.Below.{anyBelow, any-cong}
 use Rattle.format.specs.Diskette.{Bytes, Geometry, Sound, extentRecords}
-use Rattle.format.specs.Entries.{entryAt, findFile, findEmpty, findNamed, used}
+use Rattle.format.specs.Entries.{entryAt}
 use Rattle.format.specs.Notes.{findFree}
 use Rattle.format.specs.Found.{isFound}
 use Rattle.format.specs.declared.Found.{Found}
@@ -17,10 +15,11 @@ use Rattle.facts.specs.Find.{file-says}
 use Rattle.consistency.specs.Naming.{file-used}
 use Rattle.model.specs.Stamps.{Stamp}
 use Rattle.model.specs.Target.{readOnlyIn}
+use Rattle.effects.specs.Alike.{used-row}
 use Rattle.demands.specs.Runs.{Disk}
 use Rattle.stored.specs.Closed.{Sane, seenOn, Stored, Restamped}
-use Rattle.stored.specs.Restamped.{sane-restamped, restamped-alike, used-row, findEmpty-restamped, findNamed-restamped, findFile-restamped, size-restamped, stored-restamped, stored-before}
-use Rattle.stored.specs.Told.{blockIn, isStored, bytesStored, stored-is, stored-bytes, is-stored}
+use Rattle.stored.specs.Restamped.{sane-restamped, restamped-alike, findEmpty-restamped, findNamed-restamped, findFile-restamped, size-restamped, stored-restamped, stored-before}
+use Rattle.stored.specs.Told.{blockIn, stored-is, stored-bytes, is-stored}
 use Rattle.picking.specs.declared.Wanted.{Wanted}
 use Rattle.picking.specs.Picker.{fcbOf, hasStamp}
 use Rattle.once.specs.Table.{hasEntry, extentAt, sizeIs, recordIs, bytesAre, someEmpty, someFree, hasDay, nextEntry, logLocked, noBlock, growing, beginning, logAnswer}
@@ -93,7 +92,8 @@ module _ {G : Geometry} (S : Sound G) (P : Stamp → Type 0) (d t : Disk) (sane 
     pub locked-same : (ext : ℕ) → readOnlyIn (entryAt G (t .drive .image)) (extentAt G t name ext) ≡ readOnlyIn (entryAt G (d .drive .image)) (extentAt G d name ext)
     locked-same ext = ap (readOnlyIn (entryAt G (t .drive .image))) (extent-same ext) ∙ locked-by ext (extentAt G d name ext) refl
 
-    block-by : (r : ℕ) (x : Found) → extentAt G d name (r / extentRecords) ≡ x → blockIn G (entryAt G (t .drive .image)) r x ≡ blockIn G (entryAt G (d .drive .image)) r x
+    block-by : (r : ℕ) (x : Found) → extentAt G d name (r / extentRecords) ≡ x
+        → blockIn G (entryAt G (t .drive .image)) r x ≡ blockIn G (entryAt G (d .drive .image)) r x
     block-by r (At e) q = rw (row-same (r / extentRecords) e q)
     block-by r Nothing q = refl
 

@@ -1,22 +1,21 @@
 -- The search of the log: reads through the FCB that an open handed back leave the disk, so it finds exactly whether a record has the year and day.
-use mathlib.Core.Path.{_≡_, refl, ap, sym, _∙_, subst}
-use mathlib.Core.Bool.{Bool, true, false, cond}
+use mathlib.Core.Path.{_≡_, refl, ap, sym, _∙_}
+use mathlib.Core.Bool.{Bool, true, false}
 use Prim.Native.Nat.{ℕ, _+_, _≤_, _<_}
 use native.Mathlib.Omega.{arith}
 use lib.ListN.{length}
 use Rattle.lists.specs.Cases.{split, bool-cases, bool-ext}
-use Rattle.lists.specs.Tests.{_and_, _or_, and-left, and-right, and-both, or-then, or-left}
+use Rattle.lists.specs.Tests.{_and_, and-left, and-right, and-both, or-then, or-left}
 use Rattle.lists.specs.Below.{anyBelow, any-none, any-next}
-use Rattle.lists.specs.Fold.{foldBelow, fold-builds}
-use Rattle.format.specs.Diskette.{Bytes, Geometry, Sound, recordBytes, lastRecord}
+use Rattle.lists.specs.Fold.{fold-builds}
+use Rattle.format.specs.Diskette.{Bytes, Geometry, Sound, recordBytes}
 use Rattle.model.specs.Lent.{Outcome, ended}
 use Rattle.model.specs.Table.{timeRight}
 use Rattle.demands.specs.Runs.{Disk, outcomeOf, left, accepts}
-use Rattle.demands.specs.Reading.{atRecord}
-use Rattle.stored.specs.Closed.{Fresh, Stored, seenOn}
+use Rattle.stored.specs.Closed.{Fresh, seenOn}
 use Rattle.stored.specs.Quiet.{fresh-record, fresh-read-disk}
-use Rattle.stored.specs.Reading.{stored-accepted, stored-read, accepted-stored}
-use Rattle.stored.specs.Told.{isStored, bytesStored, stored-is, stored-bytes, is-stored}
+use Rattle.stored.specs.Reading as Reading
+use Rattle.stored.specs.Told.{isStored, bytesStored}
 use Rattle.picking.specs.declared.Wanted.{Wanted}
 use Rattle.picking.specs.declared.Time.{Time}
 use Rattle.picking.specs.Picker.{Search, blank, callAt, reading, hasStamp, accepted, tells, look, searched}
@@ -32,23 +31,15 @@ module _ {G : Geometry} (S : Sound G) (d : Disk) (f : Bytes) (e : ℕ) (k : Fres
   abbrev user : ℕ
   user = d .session .user
 
-  time : timeRight (callAt t 0) ≡ true
-  unfolding timeRight
-  time = timed
-
   -- ---- 33 of a record is accepted exactly where it is stored, and gives its bytes
   module _ (r : ℕ) (small : r < 16777216) (buffer : Bytes) (hb : length buffer ≡ recordBytes) where
-    stored-of : isStored G (seenOn G d) user f r ≡ true → Stored G (seenOn G d) user f r (bytesStored G (seenOn G d) user f r)
-    stored-of = is-stored G (seenOn G d) user f r
-
     pub read-accepted : accepts G d (reading t f r buffer) ≡ isStored G (seenOn G d) user f r
-    read-accepted =
-        bool-ext _ _
-        (λ a. stored-is G (seenOn G d) user f r _ (k .sane .good .inv .dir) (k .sane .range .user) (accepted-stored S (callAt t 0) d f e k r buffer small a))
-        (λ h. stored-accepted S (callAt t 0) d f e k r buffer _ (stored-of h) time hb)
+    unfolding timeRight
+    read-accepted = Reading.read-accepted S (callAt t 0) d f e k r buffer small timed hb
 
     pub read-gives : isStored G (seenOn G d) user f r ≡ true → outcomeOf G d (reading t f r buffer) .lent .buffer ≡ bytesStored G (seenOn G d) user f r
-    read-gives h = stored-read S (callAt t 0) d f e k r buffer _ (stored-of h) time hb
+    unfolding timeRight
+    read-gives = Reading.read-gives S (callAt t 0) d f e k r buffer small timed hb
 
   -- ---- the search
   module _ (w : Wanted) (over : d .session ≡ ended (d .session)) where

@@ -1,7 +1,7 @@
 -- The picker's answers as a table, in words of the directory and the map: the first row that holds decides. Nothing here speaks of calls, but for the
 -- codes of the refusals that have no name of their own: 255, 4 for a length, the session or the time, 255, 1 for a damaged disk, 255, 9 for a bad name.
 use mathlib.Core.Bool.{Bool, false, cond, not}
-use Prim.Native.Nat.{ℕ, _/_, _%_}
+use Prim.Native.Nat.{ℕ, _/_}
 use lib.Dec.{eqb, leb, ltb}
 use lib.ListN.{length}
 use Rattle.lists.specs.Tests.{_and_, _or_}

@@ -16,7 +16,7 @@ use Rattle.invariant.specs.Good.{Good}
 use Rattle.invariant.specs.Stamps.{stamped-all}
 use Rattle.effects.specs.View.{viewOf, NewRow}
 use Rattle.effects.specs.Effect.{none-one}
-use Rattle.effects.specs.Where.{Where, in-stamp}
+use Rattle.effects.specs.Where.{Where, in-stamp, frame-wider}
 use Rattle.effects.specs.Closed.{byName}
 use Rattle.effects.specs.Stamps.{Lies, lies}
 use Rattle.demands.specs.Runs.{Disk}
@@ -24,7 +24,7 @@ use Rattle.stored.specs.Closed.{Sane, seenOn, Restamped}
 use Rattle.stored.specs.Restamped.{unstamped, sane-restamped, restamped-alike}
 use Rattle.stored.specs.OnlyNamed.{OnlyNamed, by-used}
 use Rattle.stored.specs.Grown.{grown-only}
-use Rattle.stored.specs.Frames.{FileBlock, frame-wider, touched-second, restamped-bytes, restamped-beside, restamped-only, block-restamped}
+use Rattle.stored.specs.Frames.{FileBlock, touched-second, restamped-bytes, restamped-beside, restamped-only, block-restamped}
 use Rattle.picking.specs.declared.Wanted.{Wanted}
 use Rattle.picking.specs.declared.Time.{Time}
 use Rattle.picking.specs.declared.Pick.{Pick}

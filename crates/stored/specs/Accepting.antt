@@ -7,14 +7,13 @@ use native.Mathlib.Omega.{arith}
 use native.Mathlib.Nat.{mul-le-mul-left}
 use lib.Dec.{eqb}
 use lib.ListN.{length, getD}
-use borrow.Author.Tests.{eq-eqb, ne-eqb, le-ltb, ltb-false}
-use Rattle.lists.specs.Cases.{split, bool-cases, eq-or-ne, not-both, refute}
-use Rattle.lists.specs.Tests.{_or_, and-left, and-right, and-fails-left, and-fails-right, or-neither}
-use Rattle.lists.specs.Below.{any-empty}
+use borrow.Author.Tests.{eq-eqb, ne-eqb}
+use Rattle.lists.specs.Cases.{split, bool-cases, eq-or-ne, not-both}
+use Rattle.lists.specs.Tests.{_or_, and-left, and-right}
 use Rattle.lists.specs.Count.{count-high, count-empty, count-zero}
 use Rattle.lists.specs.Splice.{splice}
 use Rattle.format.specs.Diskette.{Bytes, Geometry, Sound, recordBytes, slotCount, extentRecords, extents}
-use Rattle.format.specs.Entries.{entryAt, withEntry, slotsOf, slotOf, extentOf, runOf, countOf, countIn, endOf, readOnly, empty, used, isFile}
+use Rattle.format.specs.Entries.{entryAt, withEntry, slotOf, extentOf, runOf, countOf, countIn, endOf, readOnly, empty, used, isFile, findFile}
 use Rattle.format.specs.Dates.{isDates}
 use Rattle.format.specs.Notes.{noteAt, freeNote, findFree, freeCount, isFree}
 use Rattle.format.specs.Fcb.{fcbEnd, fcbRight, current}
@@ -27,64 +26,57 @@ use Rattle.facts.specs.Naming.{named-intro, file-intro}
 use Rattle.facts.specs.Found.{FoundAt, FirstAt, found-cases, found-row, at-not-nothing}
 use Rattle.facts.specs.Find.{emptyTest, empty-says}
 use Rattle.consistency.specs.Reflect.{low-used, used-no-dates, empty-no-dates}
+use Rattle.consistency.specs.Naming.{file-found}
 use Rattle.rows.specs.Entries.{entry-stored, entry-left, record-kept}
 use Rattle.notes.specs.Free.{free-is, none-free}
 use Rattle.model.specs.declared.Asked.{Asked}
-use Rattle.model.specs.declared.Session.{Session}
 use Rattle.model.specs.declared.Kind.{Kind}
-use Rattle.model.specs.declared.Kind.the-variants.{Quiet, User, Create, Write}
+use Rattle.model.specs.declared.Kind.the-variants.{Quiet, Create, Write}
 use Rattle.model.specs.Kinds.{kindOf, isCall, isRandom}
 use Rattle.model.specs.Lent.{Lent, Outcome, protected}
-use Rattle.model.specs.Closing.{takesSlot, endsLater, closeChanges}
-use Rattle.model.specs.Target.{targetExtent, presentEntry, stays, targetEntry, readOnlyThere, blockThere}
+use Rattle.model.specs.Target.{presentEntry}
 use Rattle.model.specs.Entering.{copied, madeRow, threeBytes}
 use Rattle.model.specs.Calls.{createdAt, created, space}
 use Rattle.model.specs.Step.{told}
-use Rattle.model.specs.Table.{timeRight, ownRows}
+use Rattle.model.specs.Table.{timeRight}
 use Rattle.fields.specs.Agree.{SameName}
-use Rattle.fields.specs.Closing.{takes-row, takes-fcb, keeps-intro}
+use Rattle.fields.specs.Closing.{nothing-to-close}
 use Rattle.fields.specs.Entering.{length-copied, row-copied, first-copied, name-copied, slot-copied, extent-copied}
 use Rattle.fields.specs.Making.{length-madeRow, user-made, zero-made, slot-made, extent-made, name-made, readOnly-made}
 use Rattle.fields.specs.Numbers.{threeValue, three-back, three-low, three-middle, three-high}
-use Rattle.fields.specs.Target.{extent-random}
-use Rattle.table.specs.First.{_&_, NoneHolds}
-use Rattle.table.specs.Own.{calling, kinds-apart}
-use Rattle.table.specs.Reflect.{missed, either-missed}
+use Rattle.table.specs.First.{_&_}
+use Rattle.table.specs.Own.{calling}
 use Rattle.table.specs.Facts.{Makes, Writes, AcceptedCall}
-use Rattle.table.specs.Accept.{random-low, makes-of, passes}
-use Rattle.table.specs.Accepted.{carried-says, accepted-carried}
+use Rattle.table.specs.Accept.{makes-of, writes-random}
 use Rattle.table.specs.Protection.{changesKind, by-kind, changer-stopped, lifted-spared}
-use Rattle.table.specs.Present.{stays-within, target-present, numbers-extent}
-use Rattle.table.specs.Total.{InRange, total-accepted, step-range}
-use Rattle.invariant.specs.Good.{good-consistent, good-right}
+use Rattle.table.specs.Present.{numbers-extent}
 use Rattle.effects.specs.View.{viewOf}
 use Rattle.effects.specs.Effect.{RecsStay}
 use Rattle.effects.specs.Cur.{Cur, cur-current}
-use Rattle.demands.specs.Runs.{Request, Disk, lentTo, outcomeOf, left, accepts, after}
-use Rattle.demands.specs.Stamped.{stampedAs, cur-on, step-good}
+use Rattle.effects.specs.Alike.{Alike, dates-alike, used-row}
+use Rattle.demands.specs.Runs.{Request, Disk, lentTo, outcomeOf, left, accepts}
+use Rattle.demands.specs.Stamped.{stampedAs, stamps-alike, cur-on}
 use Rattle.demands.specs.StillCurrent.{created-cur}
-use Rattle.demands.specs.Protected.{lifted-stays}
-use Rattle.demands.specs.ReadBack.{user-stays, Wrote, wrote}
-use Rattle.demands.specs.Reading.{atRecord, random-atRecord, extent-atRecord}
+use Rattle.demands.specs.ReadBack.{Wrote, wrote}
+use Rattle.demands.specs.Reading.{atRecord}
 use Rattle.stored.specs.Closed.{asks, Sane, seenOn, Begins, Fresh}
-use Rattle.stored.specs.Restamped.{Alike, dates-alike, used-row}
-use Rattle.stored.specs.OnlyNamed.{stamps-alike}
-use Rattle.stored.specs.Quiet.{carried-is, sane-accepted, fresh-record, fresh-ready, fresh-present}
+use Rattle.stored.specs.Quiet.{lifted-left, range-left, sane-left, user-left, passed-accepts, sane-ready, carried, carried-is, sane-accepted, fresh-record, fresh-ready}
+use Rattle.stored.specs.Told.{extentEntry}
+use Rattle.stored.specs.Meeting.{met-extent, met-present, met-entry, met-locked}
 
 -- ---- the session
 -- an accepted call that changes the disk has found the protection lifted, and every call leaves it so
 pub accepted-unprotected : (G : Geometry) (d : Disk) (q : Request) (k : Kind) → kindOf (q .asked .number) ≡ k → changesKind k ≡ true → accepts G d q ≡ true
     → protected (d .session) ≡ false
-unfolding outcomeOf
 accepted-unprotected G d q k kind changes accepted =
-    let c = accepted-carried G (q .asked) (lentTo d q) (d .session) accepted in
+    let c = carried G d q accepted in
     split (bool-cases (protected (d .session)))
     (λ p. not-both _ (changer-stopped G (q .asked) (lentTo d q) (d .session) p (sym (by-kind (q .asked .number) k kind) ∙ changes)) (c .facts .spared))
     (λ p. p)
 
 pub protection-left : (G : Geometry) (d : Disk) (q : Request) → protected (left (outcomeOf G d q) .session) ≡ protected (d .session)
-unfolding outcomeOf protected
-protection-left G d q = ap (λ (b : ℕ). eqb b 0) (lifted-stays G (q .asked) (lentTo d q) (d .session))
+unfolding protected
+protection-left G d q = ap (λ (b : ℕ). eqb b 0) (lifted-left G d q)
 
 -- ---- 16 after an accepted write
 module _ {G : Geometry} (S : Sound G) (d : Disk) (w : Request) (writes : kindOf (w .asked .number) ≡ Write) (accepted : accepts G d w ≡ true)
@@ -98,66 +90,22 @@ module _ {G : Geometry} (S : Sound G) (d : Disk) (w : Request) (writes : kindOf 
   k : Wrote G d w
   k = wrote S d w writes accepted
 
-  range : InRange G (mid .session)
-  unfolding outcomeOf
-  range = step-range G (w .asked) (lentTo d w) (d .session) (k .range)
-
-  user-left : mid .session .user ≡ d .session .user
-  unfolding after
-  user-left = user-stays G d w (λ z. kinds-apart Write User refl (sym writes ∙ z))
-
   found-mid : presentEntry G (mid .session .user) (lentTo mid c) ≡ At (k .entry)
   unfolding presentEntry
   found-mid =
-      ap (λ (u : ℕ). current G (entryAt G (mid .drive .image)) (mid .drive .map) u (outcomeOf G d w .lent .fcb)) user-left
+      ap (λ (u : ℕ). current G (entryAt G (mid .drive .image)) (mid .drive .map) u (outcomeOf G d w .lent .fcb)) (user-left G d w Write writes refl)
       ∙ cur-current G (mid .drive .image) (mid .drive .map) (d .session .user) (outcomeOf G d w .lent .fcb) (k .entry)
       (k .good .inv .dir) (k .range .user) (k .holds .cur)
 
   pub close-accepted : accepts G (left (outcomeOf G d w)) (asks a 16 (outcomeOf G d w .lent .fcb) buffer) ≡ true
-  unfolding outcomeOf isCall kindOf timeRight
+  unfolding isCall kindOf timeRight
   close-accepted =
-      carried-says G (c .asked) (lentTo mid c) (mid .session)
-      (total-accepted G (c .asked) (lentTo mid c) (mid .session)
-      (passes G (calling 16 a) (lentTo mid c) (mid .session) refl
-      record {
-        fits = record {
-          image-long = k .good .image-long;
-          map-long = k .good .map-long;
-          fcb-long = k .fcb .long;
-          buffer-long = whole;
-          user-low = range .user;
-          place-low = range .place;
-        };
-        time = time;
-        drive = λ u. rw (k .fcb .first) (k .drive);
-        image-right = good-consistent G (mid .drive .image) (mid .drive .map) (k .good);
-        map-right = λ z. good-right G (mid .drive .image) (mid .drive .map) (k .good);
-      }
+      passed-accepts G mid c refl
+      (sane-ready G mid record { good = k .good; range = range-left G d w (k .range) } (c .fcb) (k .fcb .long) (rw (k .fcb .first) (k .drive)) (calling 16 a) time buffer whole)
       (lifted-spared G (calling 16 a) (lentTo mid c) (mid .session) (protection-left G d w ∙ accepted-unprotected G d w Write writes refl accepted))
-      (found-row (presentEntry G (mid .session .user) (lentTo mid c)) found-mid & tt)))
-
--- ---- an FCB that has nothing to close
--- its blocks are its entry's, and its end is no later
-pub nothing-to-close : (G : Geometry) (row fcb : Bytes) → ((j : ℕ) → j < slotCount → slotOf G fcb j ≡ slotOf G row j) → fcbEnd fcb ≤ endOf row
-    → closeChanges G row fcb ≡ false
-unfolding endsLater
-nothing-to-close G row fcb slots end =
-    keeps-intro G row fcb
-    (any-empty (takesSlot G (slotsOf row) (slotsOf fcb)) slotCount
-    (λ j h. sym (refute _ (λ t. takes-fcb G row fcb j t (slots j h ∙ takes-row G row fcb j t))))) (le-ltb (endOf row) (fcbEnd fcb) end)
-
-pub unchanged-end : (G : Geometry) (row fcb : Bytes) → closeChanges G row fcb ≡ false → fcbEnd fcb ≤ endOf row
-unfolding closeChanges endsLater
-unchanged-end G row fcb h = ltb-false (endOf row) (fcbEnd fcb) (or-neither _ _ h .1)
+      (found-row (presentEntry G (mid .session .user) (lentTo mid c)) found-mid & tt)
 
 -- ---- 34 through a fresh FCB, in its own extent
--- the rows of 34
-writes-random : (G : Geometry) (asked : Asked) (l : Lent) (s : Session) → Writes G l s 34 → NoneHolds (ownRows G (calling 34 asked) l s)
-unfolding isRandom
-writes-random G asked l s o =
-    random-low 34 (l .fcb) refl (o .extent) & missed _ (o .entry) & o .writable & either-missed _ _ (o .room)
-    & split (eq-or-ne (blockThere G 34 (s .user) l) 0) (λ z. and-fails-right _ _ (missed _ (o .block z))) (λ z. and-fails-left _ _ (ne-eqb _ _ z)) & tt
-
 module _ {G : Geometry} (S : Sound G) (d : Disk) (f : Bytes) (e : ℕ) (k : Fresh G d f e) (unprotected : protected (d .session) ≡ false)
     (a : Asked) (time : timeRight a ≡ true) (buffer : Bytes) (whole : length buffer ≡ recordBytes)
     (writable : readOnly (entryAt G (d .drive .image) e) ≡ false) (r : ℕ) (here : r / extentRecords ≡ extentOf f) (free : FoundAt (findFree G (d .drive .map))) where
@@ -167,47 +115,36 @@ module _ {G : Geometry} (S : Sound G) (d : Disk) (f : Bytes) (e : ℕ) (k : Fres
   abbrev lw : Lent
   lw = lentTo d q
 
-  at : presentEntry G (d .session .user) lw ≡ At e
-  at = fresh-present G d (atRecord f r) e (fresh-record G d f e k r) buffer
-
   low : extentOf f < extents
   unfolding fcbRight
   low = numbers-extent f (and-left _ _ (and-right _ _ (k .cur .right)))
 
-  to-extent : targetExtent 34 (atRecord f r) ≡ extentOf f
-  unfolding isRandom
-  to-extent =
-      let l = low in
-      extent-random 34 (atRecord f r) refl ∙ ap (λ (x : ℕ). x / 128) (random-atRecord f r (k .long) (omega arith)) ∙ here
+  small : r < 16777216
+  small = let l = low in omega arith
 
-  there : stays 34 (atRecord f r) ≡ true
-  unfolding stays
-  there = eq-eqb _ _ (to-extent ∙ sym (extent-atRecord f r (k .long)))
-
-  target : targetEntry G 34 (d .session .user) lw ≡ At e
-  target = target-present G 34 (d .session .user) lw e at (stays-within G 34 (d .session .user) lw there)
-
-  unlocked : readOnlyThere G 34 (d .session .user) lw ≡ false
-  unfolding readOnlyThere _or_
-  unlocked = rw (at, target, writable)
+  -- the record's extent is the FCB's own
+  own : extentEntry G (seenOn G d) (d .session .user) f r ≡ At e
+  unfolding extentEntry
+  own =
+      ap (findFile G (entryAt G (d .drive .image)) (d .session .user) f 1) here
+      ∙ file-found G (entryAt G (d .drive .image)) (d .session .user) (k .sane .range .user) f 1 (extentOf f) e
+      (k .cur .low) (k .cur .file) (k .sane .good .inv .dir)
 
   writes-there : Writes G lw (d .session) 34
+  unfolding isRandom _or_
   writes-there = record {
-    entry = record { place = e; is = at };
-    writable = unlocked;
-    extent = rw to-extent low;
-    room = λ z. absurd (at-not-nothing e (sym target ∙ z));
+    entry = record { place = e; is = met-present S 34 refl d f e k r small buffer };
+    writable = met-locked S 34 refl d f e k r small buffer ∙ rw (own, writable);
+    extent = rw (met-extent S 34 refl d f e k r small buffer, here) low;
+    room = λ z. absurd (at-not-nothing e (sym (met-entry S 34 refl d f e k r small buffer ∙ own) ∙ z));
     block = λ z. free;
   }
 
   pub fresh-write-accepted : accepts G d (asks a 34 (atRecord f r) buffer) ≡ true
-  unfolding outcomeOf isCall kindOf timeRight
+  unfolding isCall kindOf timeRight
   fresh-write-accepted =
-      carried-says G (q .asked) lw (d .session)
-      (total-accepted G (q .asked) lw (d .session)
-      (passes G (calling 34 a) lw (d .session) refl
-      (fresh-ready G d (atRecord f r) e (fresh-record G d f e k r) (calling 34 a) time buffer whole)
-      (lifted-spared G (calling 34 a) lw (d .session) unprotected) (writes-random G a lw (d .session) writes-there)))
+      passed-accepts G d q refl (fresh-ready G d (atRecord f r) e (fresh-record G d f e k r) (calling 34 a) time buffer whole)
+      (lifted-spared G (calling 34 a) lw (d .session) unprotected) (writes-random G a lw (d .session) writes-there)
 
 -- ---- 22 hands back a fresh FCB, of an entry that was empty and has no record yet; all else stays, but for stamps
 pub record MadeAt (G : Geometry) (d : Disk) (q : Request) : Type 0 where
@@ -237,8 +174,7 @@ module _ {G : Geometry} (S : Sound G) (d : Disk) (q : Request) (number : q .aske
   lm = lentTo d q
 
   facts : AcceptedCall G (q .asked) lm (d .session)
-  unfolding outcomeOf
-  facts = accepted-carried G (q .asked) (lentTo d q) (d .session) accepted .facts
+  facts = carried G d q accepted .facts
 
   creates : kindOf (q .asked .number) ≡ Create
   unfolding kindOf
@@ -309,8 +245,7 @@ module _ {G : Geometry} (S : Sound G) (d : Disk) (q : Request) (number : q .aske
   map-is = ap (λ (o : Outcome). o .lent .drive .map) made-is
 
   user-is : left (outcomeOf G d q) .session .user ≡ d .session .user
-  unfolding after
-  user-is = user-stays G d q (λ z. kinds-apart Create User refl (sym creates ∙ z))
+  user-is = user-left G d q Create creates refl
 
   -- the fields of the new row
   row-extent : extentOf row ≡ 0
@@ -344,13 +279,6 @@ module _ {G : Geometry} (S : Sound G) (d : Disk) (q : Request) (number : q .aske
       end-none (copied (q .fcb) row)
       (let z = zero-made (d .session .user) (q .fcb) 15 (omega arith) in let y = row-copied (q .fcb) row hf hr 15 (omega arith) (omega arith) in omega arith)
 
-  sane-after : Sane G (left (outcomeOf G d q))
-  unfolding outcomeOf
-  sane-after = record {
-    good = step-good S (q .asked) (lentTo d q) (d .session) (sane .good);
-    range = step-range G (q .asked) (lentTo d q) (d .session) (sane .range);
-  }
-
   cur-after : Cur G (seenOn G (left (outcomeOf G d q))) (d .session .user) (copied (q .fcb) row) new
   unfolding created createdAt row new
   cur-after =
@@ -364,7 +292,7 @@ module _ {G : Geometry} (S : Sound G) (d : Disk) (q : Request) (number : q .aske
       let slots : (j : ℕ) → j < slotCount → slotOf G (copied (q .fcb) row) j ≡ slotOf G (entryAt G (left (outcomeOf G d q) .drive .image) new) j =
       λ j h. slot-copied (q .fcb) row hf hr G j ∙ sym (ap (λ (r : Bytes). slotOf G r j) new-row) in
       record {
-        sane = sane-after;
+        sane = sane-left G d q S sane;
         long = length-copied (q .fcb) row hf hr ∙ begins .long;
         drive = rw (first-copied (q .fcb) row hf hr) (begins .drive);
         cur = rw user-is cur-after;
@@ -410,9 +338,8 @@ module _ (G : Geometry) (d : Disk) (q : Request) (number : q .asked .number ≡ 
 
   space-three : threeOf (outcomeOf G d q .lent .buffer)
       ≡ threeValue (freeRecords % 256) (freeRecords / 256 % 256) (freeRecords / 65536 % 256)
-  unfolding outcomeOf
   space-three =
-      let w : length (q .buffer) ≡ 128 = accepted-carried G (q .asked) (lentTo d q) (d .session) accepted .facts .ready .fits .buffer-long in
+      let w : length (q .buffer) ≡ 128 = carried G d q accepted .facts .ready .fits .buffer-long in
       let h : 3 ≤ length (q .buffer) = omega arith in
       rw (space-told, three-low (q .buffer) 0 freeRecords h, three-middle (q .buffer) 0 freeRecords h, three-high (q .buffer) 0 freeRecords h)
 

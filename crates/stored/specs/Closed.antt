@@ -85,7 +85,3 @@ pub record Restamped (G : Geometry) (P : Stamp → Type 0) (d t : Disk) : Type 0
   pub user : t .session .user ≡ d .session .user
   pub lifted : t .session .lifted ≡ d .session .lifted
   pub range : InRange G (d .session) → InRange G (t .session)
-
--- no stamp is allowed
-abbrev pub NoStamp : Stamp → Type 0
-NoStamp x = ⊥

@@ -30,9 +30,11 @@ use Rattle.table.specs.Own.{kinds-apart}
 use Rattle.invariant.specs.Good.{Good}
 use Rattle.invariant.specs.Updates.{dates-beside}
 use Rattle.fields.specs.Stamps.{InStamp}
-use Rattle.effects.specs.View.{viewOf, Names, NewRow, Mine, listed, pending}
-use Rattle.effects.specs.Effect.{Effect, NoneNew, none-one, more-effect}
-use Rattle.effects.specs.Where.{Ruled, in-entry, in-new, in-record, Where, by-rule, in-stamp, Bytewise, Frame, Theirs, was-free, was-theirs, OneRecord, theirs-more, one-more}
+use Rattle.effects.specs.View.{viewOf, Names, Mine, listed, pending}
+use Rattle.effects.specs.Effect.{Effect, NoneNew, none-one, new-later, new-earlier, more-effect}
+use Rattle.effects.specs.Change.{where-after}
+use Rattle.effects.specs.Where.{in-entry, in-new, in-record, Where, by-rule, in-stamp, Bytewise, Frame, Theirs, was-free, was-theirs, OneRecord, theirs-more, one-more, frame-wider}
+use Rattle.effects.specs.Alike.{used-row, used-alike, alike-none}
 use Rattle.effects.specs.Closed.{byName}
 use Rattle.effects.specs.Stamps.{Lies, lies, stamps-bytes}
 use Rattle.demands.specs.StepOk.{MayWrite}
@@ -40,8 +42,8 @@ use Rattle.demands.specs.Stamped.{step-ok}
 use Rattle.demands.specs.Runs.{Request, Disk, lentTo, outcomeOf, left, accepts}
 use Rattle.demands.specs.Reading.{rest-atRecord}
 use Rattle.stored.specs.Closed.{Sane, seenOn, Begins, Fresh, Access, Restamped}
-use Rattle.stored.specs.Restamped.{unstamped, used-row, used-restamped, sane-restamped, restamped-alike}
-use Rattle.stored.specs.OnlyNamed.{OnlyNamed, only-one, only-stay, only-alike, none-alike, only-named, by-used}
+use Rattle.stored.specs.Restamped.{unstamped, sane-restamped, restamped-alike}
+use Rattle.stored.specs.OnlyNamed.{OnlyNamed, only-one, only-stay, only-alike, only-named, by-used}
 use Rattle.stored.specs.Quiet.{sane-accepted}
 use Rattle.stored.specs.Grown.{grown-only}
 use Rattle.stored.specs.Accepting.{MadeAt, made-at}
@@ -53,25 +55,6 @@ pub record FileBlock (G : Geometry) (img map : Bytes) (user : ℕ) (f : Bytes) (
   pub place : ℕ
   pub one : OneRecord G img map (byName user f) block place x
 
--- ---- a naming that has more, and more records allowed
-pub frame-wider : (G : Geometry) (img img′ : Bytes) (M N : Names) (U W : ℕ → Type 0) → ((r : Bytes) → M r ≡ true → N r ≡ true)
-    → ((x : ℕ) → U x → W x) → Frame G img img′ M U → Frame G img img′ N W
-frame-wider G img img′ M N U W more wide w = record {
-  byte = λ i. split (w .byte i) (λ q. inl q) (λ p. inr (go i p));
-  one-new = w .one-new;
-  image-length = w .image-length;
-}
-  where
-    ruled : (i : ℕ) → Ruled G img img′ M U i → Ruled G img img′ N W i
-    ruled i (in-entry e p n) = in-entry e p (more (entryAt G img e) n)
-    ruled i (in-new e p z n) = in-new e p z (more (entryAt G img′ e) n)
-    ruled i (in-record x p u) = in-record x p (wide x u)
-
-    go : (i : ℕ) → Where G img img′ M U i → Where G img img′ N W i
-    go i (by-rule p) = by-rule (ruled i p)
-    go i (in-stamp e which p t (inl n)) = in-stamp e which p t (inl (more (entryAt G img e) n))
-    go i (in-stamp e which p t (inr n)) = in-stamp e which p t (inr (more (entryAt G img′ e) n))
-
 -- ---- changes follow one another, where only named entries change, and one of the two makes none
 module _ {G : Geometry} (S : Sound G) (N : Names) (sure : (r : Bytes) → N r ≡ true → used r ≡ true) (W : ℕ → Type 0) (img mid img′ : Bytes)
     (first : OnlyNamed G N (entryAt G img) (entryAt G mid)) (second : OnlyNamed G N (entryAt G mid) (entryAt G img′)) where
@@ -80,9 +63,7 @@ module _ {G : Geometry} (S : Sound G) (N : Names) (sure : (r : Bytes) → N r �
 
   -- a byte that the first touched lies where it lay
   touched-first : (i : ℕ) → Where G img mid N W i → Where G img img′ N W i
-  touched-first i (by-rule (in-entry e p n)) = by-rule (in-entry e p n)
-  touched-first i (by-rule (in-new e p z n)) = by-rule (in-new e p z (stay e (p .low) n))
-  touched-first i (by-rule (in-record x p w)) = by-rule (in-record x p w)
+  touched-first i (by-rule p) = by-rule (where-after G N img mid img′ W stay i p)
   touched-first i (in-stamp e which p t (inl n)) = in-stamp e which p t (inl n)
   touched-first i (in-stamp e which p t (inr n)) = in-stamp e which p t (inr (stay e (p .low) n))
 
@@ -107,23 +88,18 @@ module _ {G : Geometry} (S : Sound G) (N : Names) (sure : (r : Bytes) → N r �
   bytes-then a b i =
       split (b i) (λ q. split (a i) (λ p. inl (q ∙ p)) (λ p. inr (touched-first i p))) (λ p. inr (touched-second i p))
 
-  -- what changed did so in the one of the two that makes an entry
-  none-first : ((e : ℕ) → e < G .entries → empty (entryAt G img e) ≡ true → entryAt G mid e ≡ entryAt G img e)
-      → (e : ℕ) → NewRow G (entryAt G img) (entryAt G img′) e → NewRow G (entryAt G mid) (entryAt G img′) e
-  none-first none e c = let q = none e (c .low) (c .was) in record { low = c .low; was = ap empty q ∙ c .was; changed = λ p. c .changed (p ∙ q) }
-
-  none-second : ((e : ℕ) → e < G .entries → empty (entryAt G mid e) ≡ true → entryAt G img′ e ≡ entryAt G mid e)
-      → (e : ℕ) → NewRow G (entryAt G img) (entryAt G img′) e → NewRow G (entryAt G img) (entryAt G mid) e
-  none-second none e c = record { low = c .low; was = c .was; changed = λ q. c .changed (none e (c .low) (ap empty q ∙ c .was) ∙ q) }
-
   pub frame-then : (map mid-map map′ : Bytes) → NoneNew G (viewOf G img map) (viewOf G mid mid-map) ⊎ NoneNew G (viewOf G mid mid-map) (viewOf G img′ map′)
       → Frame G img mid N W → Frame G mid img′ N W → Frame G img img′ N W
-  frame-then map mid-map map′ made a b = record {
-    byte = bytes-then (a .byte) (b .byte);
-    one-new = λ e k x y. split made
-        (λ none. b .one-new e k (none-first none e x) (none-first none k y)) (λ none. a .one-new e k (none-second none e x) (none-second none k y));
-    image-length = b .image-length ∙ a .image-length;
-  }
+  frame-then map mid-map map′ made a b =
+      let s = viewOf G img map in
+      let t = viewOf G mid mid-map in
+      let u = viewOf G img′ map′ in
+      record {
+        byte = bytes-then (a .byte) (b .byte);
+        one-new = λ e k x y. split made (λ none. b .one-new e k (new-later G s t u e x none) (new-later G s t u k y none))
+            (λ none. a .one-new e k (new-earlier G s t u e x none) (new-earlier G s t u k y none));
+        image-length = b .image-length ∙ a .image-length;
+      }
 
 -- ---- one call whose FCB has the name in f
 -- a call that goes by no pattern and renames nothing names by its FCB's name
@@ -233,7 +209,8 @@ module _ {G : Geometry} (S : Sound G) (d : Disk) (m : Request) (number : m .aske
   make-only : OnlyNamed G (byName (d .session .user) (m .fcb)) (entryAt G (d .drive .image)) (entryAt G (new .drive .image))
   make-only =
       only-one (at .entry)
-      record { was = inr (at .void); is = file-named G (d .session .user) (m .fcb) 1 0 (entryAt G (new .drive .image) (at .entry)) (at .file) } (at .others) (at .dates)
+      record { was = inr (at .void); is = file-named G (d .session .user) (m .fcb) 1 0 (entryAt G (new .drive .image) (at .entry)) (at .file) }
+      (at .others) (at .dates)
 
   -- a block of the file after the make was the file's before: the new entry has none
   abbrev Made : Names
@@ -340,7 +317,8 @@ module _ {G : Geometry} (S : Sound G) (P : Stamp → Type 0) (d t : Disk) (sane 
   restamped-only N = only-alike N (d .drive .image) (t .drive .image) (restamped-alike S P d t sane w)
 
   row-same : (e : ℕ) → e < G .entries → used (entryAt G (t .drive .image) e) ≡ true → entryAt G (t .drive .image) e ≡ entryAt G (d .drive .image) e
-  row-same e l u = used-row G (d .drive .image) (t .drive .image) (restamped-alike S P d t sane w) e l (sym (used-restamped S P d t sane w e l) ∙ u)
+  row-same e l u = used-row G (d .drive .image) (t .drive .image) (restamped-alike S P d t sane w) e l 
+      (sym (used-alike G (d .drive .image) (t .drive .image) (restamped-alike S P d t sane w) e l) ∙ u)
 
   -- whose a block is
   mine-restamped : (b e : ℕ) → Mine G (seenOn G t) b e → Mine G (seenOn G d) b e × (entryAt G (t .drive .image) e ≡ entryAt G (d .drive .image) e)
@@ -372,7 +350,7 @@ pub access-frame : {G : Geometry} (S : Sound G) (a : Asked) (f : Bytes) (d t : D
     → (W : ℕ → Type 0) → Frame G (d .drive .image) (t .drive .image) (byName (d .session .user) f) W
 access-frame {G} S a f d t sane w W = record {
   byte = λ i. split (restamped-bytes S P d t sane w i) (λ q. inl q) (λ p. out i p);
-  one-new = none-one G (seenOn G d) (seenOn G t) (none-alike G (d .drive .image) (t .drive .image) (d .drive .map) (t .drive .map) (restamped-alike S P d t sane w));
+  one-new = none-one G (seenOn G d) (seenOn G t) (alike-none G (d .drive .image) (t .drive .image) (restamped-alike S P d t sane w) (d .drive .map));
   image-length = sane-restamped S P d t sane w .good .image-long ∙ sym (sane .good .image-long);
 }
   where

@@ -20,7 +20,7 @@ use Rattle.consistency.specs.Naming.{file-used, file-found}
 use Rattle.consistency.specs.Reflect.{used-no-dates, empty-no-dates, empty-elsewhere}
 use Rattle.rows.specs.Entries.{length-entryAt}
 use Rattle.model.specs.declared.Asked.{Asked}
-use Rattle.model.specs.declared.Kind.the-variants.{User, Close, Write}
+use Rattle.model.specs.declared.Kind.the-variants.{Close, Write}
 use Rattle.model.specs.Kinds.{kindOf, isRandom}
 use Rattle.model.specs.Lent.{Lent, rowsOf, Outcome}
 use Rattle.model.specs.Closing.{closedRow, closedImage, closedMap}
@@ -28,31 +28,27 @@ use Rattle.model.specs.Target.{targetExtent, targetRecord, presentEntry}
 use Rattle.model.specs.Calls.{written, closedAt, closed}
 use Rattle.model.specs.Table.{timeRight}
 use Rattle.fields.specs.Agree.{SameName, same-name, named-cong}
-use Rattle.fields.specs.Closing.{file-closed}
+use Rattle.fields.specs.Closing.{file-closed, unchanged-end}
 use Rattle.fields.specs.Images.{row-closedImage, row-closedImage-other}
-use Rattle.fields.specs.Target.{extent-random, record-random}
 use Rattle.table.specs.Facts.{AcceptedCall}
 use Rattle.table.specs.Accept.{writes-by}
-use Rattle.table.specs.Accepted.{accepted-carried}
-use Rattle.table.specs.Own.{kinds-apart}
-use Rattle.table.specs.Total.{step-range}
 use Rattle.table.specs.Plans as Plans
 use Rattle.invariant.specs.Good.{Good}
 use Rattle.effects.specs.View.{viewOf}
 use Rattle.effects.specs.Cur.{Cur, cur-current, cur-uses, cur-named}
 use Rattle.effects.specs.Effect.{NamesStay, NoneNew}
 use Rattle.effects.specs.Closed.{byName}
+use Rattle.effects.specs.Alike.{Alike}
 use Rattle.current.specs.Current.{fcb-says}
-use Rattle.demands.specs.Runs.{Request, Disk, lentTo, outcomeOf, left, accepts, after}
-use Rattle.demands.specs.Stamped.{stampedAs, cur-on, step-good}
-use Rattle.demands.specs.ReadBack.{user-stays, wrote}
-use Rattle.demands.specs.Protected.{lifted-stays}
-use Rattle.demands.specs.Reading.{atRecord, rest-atRecord, random-atRecord}
+use Rattle.demands.specs.Runs.{Request, Disk, lentTo, outcomeOf, left, accepts}
+use Rattle.demands.specs.Stamped.{stampedAs, stamps-alike, cur-on}
+use Rattle.demands.specs.ReadBack.{wrote}
+use Rattle.demands.specs.Reading.{atRecord, rest-atRecord}
 use Rattle.stored.specs.Closed.{asks, Sane, seenOn, Fresh}
-use Rattle.stored.specs.Quiet.{carried-is, fresh-record, fresh-present}
-use Rattle.stored.specs.Restamped.{Alike}
-use Rattle.stored.specs.OnlyNamed.{stamps-alike, OnlyNamed, only-one, only-then, only-alike, only-named, only-names, by-used}
-use Rattle.stored.specs.Accepting.{unchanged-end, close-accepted}
+use Rattle.stored.specs.Quiet.{sane-left, user-left, carried, carried-is, fresh-record}
+use Rattle.stored.specs.OnlyNamed.{OnlyNamed, only-one, only-then, only-alike, only-named, only-names, by-used}
+use Rattle.stored.specs.Meeting.{met-extent, met-record, met-present}
+use Rattle.stored.specs.Accepting.{close-accepted}
 use Rattle.stored.specs.Grown.{Grown, grown-named, grown-stamped, grown-only, grown-file}
 use Rattle.stored.specs.Writing.{Closable, written-closable}
 
@@ -91,7 +87,8 @@ record WroteOne (G : Geometry) (d : Disk) (f : Bytes) (x : ℕ) (v : Bytes) (o :
   cur : Cur G (seenOn G (left o)) (d .session .user) (o .lent .fcb) entry
   only : OnlyNamed G (byName (d .session .user) f) (entryAt G (d .drive .image)) (rowsOf G (o .lent))
   grown : Grown G (seenOn G d)
-      (viewOf G (closedImage G (o .lent .drive .image) entry (o .lent .fcb)) (closedMap G (entryAt G (o .lent .drive .image) entry) (o .lent .fcb) (o .lent .drive .map)))
+      (viewOf G (closedImage G (o .lent .drive .image) entry (o .lent .fcb))
+      (closedMap G (entryAt G (o .lent .drive .image) entry) (o .lent .fcb) (o .lent .drive .map)))
       (d .session .user) f x v
 
 module _ {G : Geometry} (S : Sound G) (d : Disk) (f : Bytes) (e : ℕ) (k : Fresh G d f e) (x : ℕ) (small : x < 262144) (a : Asked) (buffer : Bytes)
@@ -115,8 +112,7 @@ module _ {G : Geometry} (S : Sound G) (d : Disk) (f : Bytes) (e : ℕ) (k : Fres
   kx = fresh-record G d f e k x
 
   facts : AcceptedCall G (q .asked) lw (d .session)
-  unfolding outcomeOf
-  facts = accepted-carried G (q .asked) (lentTo d q) (d .session) accepted .facts
+  facts = carried G d q accepted .facts
 
   writes : kindOf 34 ≡ Write
   unfolding kindOf
@@ -127,15 +123,16 @@ module _ {G : Geometry} (S : Sound G) (d : Disk) (f : Bytes) (e : ℕ) (k : Fres
 
   to-extent : targetExtent 34 (atRecord f x) ≡ x / extentRecords
   unfolding isRandom
-  to-extent = extent-random 34 (atRecord f x) refl ∙ ap (λ (y : ℕ). y / 128) (random-atRecord f x (k .long) (omega arith))
+  to-extent = met-extent S 34 refl d f e k x (omega arith) buffer
 
   to-record : targetRecord 34 (atRecord f x) ≡ x % extentRecords
   unfolding isRandom
-  to-record = record-random 34 (atRecord f x) refl ∙ ap (λ (y : ℕ). y % 128) (random-atRecord f x (k .long) (omega arith))
+  to-record = met-record S 34 refl d f e k x (omega arith) buffer
 
   closable : Closable G user x lw (written G (d .session) lw 34 .lent)
+  unfolding isRandom
   closable =
-      written-closable S 34 lw (d .session) (k .sane .good) (facts .ready .fits) e (fresh-present G d (atRecord f x) e kx buffer) (k .cur .low)
+      written-closable S 34 lw (d .session) (k .sane .good) (facts .ready .fits) e (met-present S 34 refl d f e k x (omega arith) buffer) (k .cur .low)
       (fcb-says (atRecord f x) (kx .cur .right) .cr)
       record { slots = kx .slots; end = unchanged-end G (entryAt G (d .drive .image) e) (atRecord f x) (kx .same) }
       (kx .same) (rw to-extent (omega arith)) x to-extent to-record (writes-by G (q .asked) lw (d .session) (facts .none) writes)
@@ -144,9 +141,11 @@ module _ {G : Geometry} (S : Sound G) (d : Disk) (f : Bytes) (e : ℕ) (k : Fres
   same-name-as : SameName f 1 (atRecord f x) 1
   same-name-as i h = ap sevenBits (sym (rest-atRecord f x (k .long) (1 + i) (omega arith) (omega arith)))
 
+  mid-sane : Sane G mid
+  mid-sane = sane-left G d q S (k .sane)
+
   mid-good : Good G (mid .drive .image) (mid .drive .map)
-  unfolding outcomeOf
-  mid-good = step-good S (q .asked) (lentTo d q) (d .session) (k .sane .good)
+  mid-good = mid-sane .good
 
   -- what the write's own rule left, and then its stamps
   abbrev own-image : Bytes
@@ -175,8 +174,7 @@ module _ {G : Geometry} (S : Sound G) (d : Disk) (f : Bytes) (e : ℕ) (k : Fres
   handed-back i h = same-name-as i h ∙ sym (wrote S d q writes accepted .fcb .name i h)
 
   pub write-user : mid .session .user ≡ d .session .user
-  unfolding after
-  write-user = user-stays G d q (λ z. kinds-apart Write User refl (sym writes ∙ z))
+  write-user = user-left G d q Write writes refl
 
   -- the write changes entries of the file alone
   pub write-only : OnlyNamed G (byName (d .session .user) f) (entryAt G (d .drive .image)) (entryAt G (mid .drive .image))
@@ -204,8 +202,7 @@ module _ {G : Geometry} (S : Sound G) (d : Disk) (f : Bytes) (e : ℕ) (k : Fres
     shuts = refl
 
     close-facts : AcceptedCall G (c .asked) lc (mid .session)
-    unfolding outcomeOf
-    close-facts = accepted-carried G (c .asked) (lentTo mid c) (mid .session) then-closes .facts
+    close-facts = carried G mid c then-closes .facts
 
     present : presentEntry G (mid .session .user) lc ≡ At t
     unfolding presentEntry
@@ -231,11 +228,7 @@ module _ {G : Geometry} (S : Sound G) (d : Disk) (f : Bytes) (e : ℕ) (k : Fres
     end-alike = stamps-alike S (c .asked) lc (mid .session) close-facts mid-good Close shuts refl
 
     pub end-sane : Sane G end
-    unfolding outcomeOf
-    end-sane = record {
-      good = step-good S (c .asked) (lentTo mid c) (mid .session) mid-good;
-      range = step-range G (c .asked) (lentTo mid c) (mid .session) (step-range G (q .asked) (lentTo d q) (d .session) (k .sane .range));
-    }
+    end-sane = sane-left G mid c S mid-sane
 
     -- the file gained the record
     pub write-close-grown : Grown G (seenOn G d) (seenOn G end) (d .session .user) f x buffer
@@ -286,18 +279,9 @@ module _ {G : Geometry} (S : Sound G) (d : Disk) (f : Bytes) (e : ℕ) (k : Fres
             → findFile G (entryAt G (end .drive .image)) user f 1 (x / 128) ≡ At i
         found i h w = file-found G (entryAt G (end .drive .image)) user hu f 1 (x / 128) i h w (end-sane .good .inv .dir)
 
-    -- names stay, over the close and over both calls
-    module _ (u : ℕ) (low : u ≤ 15) (h : Bytes) where
-      pub close-names : NamesStay G (seenOn G mid) (seenOn G end) (byName u h)
-      close-names = only-names user f close-only u low h
-
-      pub write-close-names : NamesStay G (seenOn G d) (seenOn G end) (byName u h)
-      write-close-names = only-names user f (grown-only f write-close-grown) u low h
+    -- names stay
+    pub write-close-names : (u : ℕ) → u ≤ 15 → (h : Bytes) → NamesStay G (seenOn G d) (seenOn G end) (byName u h)
+    write-close-names = only-names user f (grown-only f write-close-grown)
 
     pub end-user : end .session .user ≡ d .session .user
-    unfolding after
-    end-user = user-stays G mid c (λ z. kinds-apart Close User refl (sym shuts ∙ z)) ∙ write-user
-
-    pub end-lifted : end .session .lifted ≡ d .session .lifted
-    unfolding outcomeOf
-    end-lifted = lifted-stays G (c .asked) (lentTo mid c) (mid .session) ∙ lifted-stays G (q .asked) (lentTo d q) (d .session)
+    end-user = user-left G mid c Close shuts refl ∙ write-user

@@ -25,9 +25,10 @@ use Rattle.fields.specs.Agree.{SameName, isFile-asked}
 use Rattle.fields.specs.Target.{place-below}
 use Rattle.fields.specs.Size.{size-covers, size-high}
 use Rattle.effects.specs.View.{View, viewOf, Right, stands-low, stands-high, stands-not-spare, spare-free}
+use Rattle.effects.specs.Effect.{RecsStay}
 use Rattle.effects.specs.Closed.{byName}
+use Rattle.effects.specs.Alike.{Alike, dates-alike, used-row}
 use Rattle.stored.specs.Closed.{Stored}
-use Rattle.stored.specs.Restamped.{Alike, dates-alike, used-row}
 use Rattle.stored.specs.OnlyNamed.{OnlyNamed, only-one}
 
 -- the slot of record r in an entry that covers its extent
@@ -124,6 +125,33 @@ grown-stamped {G} S {s} {img} {img′} map {user} {f} {r} {v} hu g w =
       new = w .recs (placeIn G (g .block) (r % 128)) (block-past G (g .block) (r % 128 % G .perBlock) (g .past)) (place-below S (g .block) (r % 128) (g .below))
           ∙ g .new;
     }
+
+-- and seen from an earlier disk s′, which has the same rows but for date entries and the entry itself, the same notes and the same records
+pub grown-before : {G : Geometry} {s s′ t : View} {user : ℕ} {f : Bytes} {r : ℕ} {v : Bytes} (g : Grown G s t user f r v)
+    → ((s′ .rows (g .entry) ≡ g .base) × (isFile G user f 1 (r / extentRecords) (g .base) ≡ true))
+    ⊎ ((empty (s′ .rows (g .entry)) ≡ true) × ((j : ℕ) → slotOf G (g .base) j ≡ 0) × (endOf (g .base) ≤ r))
+    → ((e : ℕ) → e < G .entries → isDates (s .rows e) ≡ false → (e ≡ g .entry → ⊥) → s .rows e ≡ s′ .rows e)
+    → ((e : ℕ) → e < G .entries → isDates (s .rows e) ≡ isDates (s′ .rows e))
+    → ((y : ℕ) → s .notes y ≡ s′ .notes y) → RecsStay G s′ s → Grown G s′ t user f r v
+grown-before g was rows dates notes recs = record {
+  entry = g .entry;
+  low = g .low;
+  base = g .base;
+  was = was;
+  file = g .file;
+  kept = g .kept;
+  end = g .end;
+  others = λ e low h q. let z = dates e low ∙ h in g .others e low z q ∙ rows e low z q;
+  dates = λ e low. g .dates e low ∙ dates e low;
+  block = g .block;
+  below = g .below;
+  past = g .past;
+  slot = g .slot;
+  origin = split (g .origin) (λ z. inl (sym (notes (g .block)) ∙ z)) (λ z. inr z);
+  notes = λ y h. split (g .notes y h) (λ z. inl (z ∙ notes y)) (λ z. inr z);
+  recs = λ x a b q. g .recs x a b q ∙ recs x a b;
+  new = g .new;
+}
 
 -- only entries of the file change
 pub grown-only : {G : Geometry} {s t : View} {user : ℕ} {r : ℕ} {v : Bytes} (f : Bytes) → Grown G s t user f r v → OnlyNamed G (byName user f) (s .rows) (t .rows)

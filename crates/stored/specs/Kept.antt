@@ -19,9 +19,6 @@ use Rattle.stored.specs.Closed.{First, Stored}
 
 -- an FCB of the same name tells the same
 module _ (G : Geometry) (s : View) (user : ℕ) (f g : Bytes) (same : SameName g 1 f 1) where
-  pub first-name : First G s user f → First G s user g
-  first-name h = record { entry = h .entry; low = h .low; file = isFile-asked g 1 f 1 same G user 0 (s .rows (h .entry)) ∙ h .file }
-
   pub stored-name : (r : ℕ) (v : Bytes) → Stored G s user f r v → Stored G s user g r v
   stored-name r v h = record {
     entry = h .entry;

@@ -1,17 +1,16 @@
 -- Opening a file, reading a record of it and asking for its size, by the calls, tell what its entries say.
 use mathlib.Core.Path.{_≡_, refl, ap, sym, _∙_, subst}
-use mathlib.Core.Bool.{true, false, not}
+use mathlib.Core.Bool.{true, false}
 use Prim.Native.Nat.{ℕ, _/_, _≤_, _<_}
 use native.Mathlib.Omega.{arith}
 use lib.ListN.{length}
-use borrow.Author.Tests.{le-ltb}
-use Rattle.lists.specs.Cases.{not-both, refute}
+use Rattle.lists.specs.Cases.{not-both}
 use Rattle.lists.specs.Splice.{copies, length-copies}
 use Rattle.format.specs.Diskette.{Bytes, Geometry, Sound, recordBytes, extentRecords}
 use Rattle.format.specs.Names.{nameRight}
 use Rattle.format.specs.Entries.{entryAt, exOf, isFile, named, findFile, findNamed}
 use Rattle.format.specs.Fcb.{randomOf}
-use Rattle.facts.specs.Found.{FirstAt, FoundAt, found-cases, none-says}
+use Rattle.facts.specs.Found.{FirstAt, found-cases, none-says}
 use Rattle.facts.specs.Find.{fileTest, file-says}
 use Rattle.facts.specs.Names.{nameBits, like-at, right-cong}
 use Rattle.facts.specs.Naming.{named-like, file-named, file-like}
@@ -19,34 +18,27 @@ use Rattle.facts.specs.Counts.{count-by-end}
 use Rattle.consistency.specs.Naming.{named-used, file-found}
 use Rattle.consistency.specs.Reflect.{numbers-intro}
 use Rattle.model.specs.declared.Asked.{Asked}
-use Rattle.model.specs.declared.Session.{Session}
 use Rattle.model.specs.declared.Kind.the-variants.{Quiet}
 use Rattle.model.specs.Kinds.{kindOf, isCall}
 use Rattle.model.specs.Lent.{Lent, Outcome}
 use Rattle.model.specs.Calls.{fileSize, sized}
 use Rattle.model.specs.Stamps.{timeStamp}
 use Rattle.model.specs.Step.{told}
-use Rattle.model.specs.Table.{timeRight, askedEntry, ownRows}
+use Rattle.model.specs.Table.{timeRight, askedEntry}
 use Rattle.fields.specs.Agree.{SameName}
 use Rattle.fields.specs.Entering.{name-entered}
 use Rattle.fields.specs.Numbers.{random-three}
 use Rattle.fields.specs.Size.{size-covers, size-high, end-high}
 use Rattle.table.specs.Own.{calling}
-use Rattle.table.specs.First.{_&_, NoneHolds}
-use Rattle.table.specs.Facts.{Opens}
-use Rattle.table.specs.Reflect.{missed}
-use Rattle.table.specs.Accept.{own-at, sizes-right}
+use Rattle.table.specs.Accept.{opens-right, sizes-right}
 use Rattle.table.specs.Protection.{other-spared}
-use Rattle.demands.specs.Runs.{Disk, lentTo, outcomeOf, left, accepts}
+use Rattle.demands.specs.Runs.{Disk, outcomeOf, left, accepts}
 use Rattle.demands.specs.Reading.{atRecord}
 use Rattle.stored.specs.Closed.{asks, Sane, seenOn, Begins, First, Stored, Access, Restamped}
 use Rattle.stored.specs.Kept.{stored-name}
-use Rattle.stored.specs.Restamped.{restamped-more, restamped-then, stored-restamped, stored-before}
-use Rattle.stored.specs.Quiet.{passed-accepts, carried, carried-is, sane-accepted, sane-ready, OpenedAt, opened-at, open-same, fresh-record, fresh-read-same}
+use Rattle.stored.specs.Restamped.{restamped-more, stored-restamped, stored-before}
+use Rattle.stored.specs.Quiet.{passed-accepts, carried, carried-is, sane-accepted, sane-ready, OpenedAt, opened-at, open-same}
 use Rattle.stored.specs.Reading.{stored-accepted, stored-read, accepted-stored}
-
-opens-right : (G : Geometry) (a : Asked) (l : Lent) (s : Session) → Opens G l s → NoneHolds (ownRows G (calling 15 a) l s)
-opens-right G a l s o = ap not (o .name) & le-ltb _ _ (o .ex) & missed _ (o .entry) & tt
 
 -- ---- asking by the name in f, on a disk that is right
 module _ (G : Geometry) (d : Disk) (sane : Sane G d) (f : Bytes) where
@@ -58,7 +50,6 @@ module _ (G : Geometry) (d : Disk) (sane : Sane G d) (f : Bytes) where
       ∙ sane .good .inv .dir .fine e low (named-used false (d .session .user) f 1 row h (sane .range .user)) .name
 
   module _ (begins : Begins f) (a : Asked) (time : timeRight a ≡ true) (buffer : Bytes) (hb : length buffer ≡ recordBytes) where
-    -- ---- 15
     pub open-accepted : First G (seenOn G d) (d .session .user) f → accepts G d (asks a 15 f buffer) ≡ true
     unfolding askedEntry isCall kindOf timeRight
     open-accepted e =
@@ -75,7 +66,6 @@ module _ (G : Geometry) (d : Disk) (sane : Sane G d) (f : Bytes) where
           };
         })
 
-    -- ---- 35
     pub size-accepted : (e : ℕ) → e < G .entries → named false (d .session .user) f 1 (entryAt G (d .drive .image) e) ≡ true
         → accepts G d (asks a 35 f buffer) ≡ true
     unfolding isCall kindOf timeRight findNamed
@@ -88,11 +78,6 @@ module _ (G : Geometry) (d : Disk) (sane : Sane G d) (f : Bytes) where
           some = found-cases (findNamed G (entryAt G (d .drive .image)) false (d .session .user) f 1) (λ k q. record { place = k; is = q })
               (λ q. not-both _ h (none-says (λ (k : ℕ). named false (d .session .user) f 1 (entryAt G (d .drive .image) k)) 0 (G .entries) q e (omega arith) low));
         })
-
-    -- so where it is refused, no entry has the name
-    pub size-refused : accepts G d (asks a 35 f buffer) ≡ false → (e : ℕ) → e < G .entries
-        → named false (d .session .user) f 1 (entryAt G (d .drive .image) e) ≡ false
-    size-refused x e low = sym (refute _ (λ h. not-both _ (size-accepted e low h) x))
 
 -- the size that the entries tell
 abbrev pub sizeOn : Geometry → Disk → Bytes → ℕ
@@ -120,12 +105,6 @@ module _ (G : Geometry) (d : Disk) (sane : Sane G d) (f : Bytes) where
   size-told hf a buffer x =
       ap (λ (o : Outcome). randomOf (o .lent .fcb)) (carried-is G d (asks a 35 f buffer) x Quiet refl)
       ∙ random-three f (sizeOn G d f) hf (omega (arith, size-small))
-
--- and where it is accepted, some entry has the name
-pub size-some : (G : Geometry) (d : Disk) (f : Bytes) (a : Asked) (buffer : Bytes) → accepts G d (asks a 35 f buffer) ≡ true
-    → FoundAt (findNamed G (entryAt G (d .drive .image)) false (d .session .user) f 1)
-unfolding kindOf
-size-some G d f a buffer x = own-at G (calling 35 a) (lentTo d (asks a 35 f buffer)) (d .session) (carried G d (asks a 35 f buffer) x .facts) refl .1 refl .some
 
 -- ---- what an accepted open of extent 0 tells
 pub record Opening (G : Geometry) (a : Asked) (d : Disk) (f buffer : Bytes) : Type 0 where
@@ -221,12 +200,6 @@ module _ {G : Geometry} (S : Sound G) (a : Asked) (d : Disk) (f : Bytes) (begins
     look-stored small y =
         from-opened r (outcomeOf G t (asks a 33 (atRecord g r) buffer) .lent .buffer)
         (accepted-stored S a t g (o .at .entry) (o .at .fresh) r buffer small y)
-
-    -- accepted or refused, the read leaves image and map as the open left them
-    pub look-restamped : Restamped G (Access G a (d .drive .image) user f) d (left (outcomeOf G t (asks a 33 (atRecord g r) buffer)))
-    look-restamped =
-        restamped-then G (Access G a (d .drive .image) user f) d t (left (outcomeOf G t (asks a 33 (atRecord g r) buffer))) restamped
-        (fresh-read-same G t (asks a 33 (atRecord g r) buffer) (o .at .entry) refl (fresh-record G t g (o .at .entry) (o .at .fresh) r) _)
 
 -- ---- both ways, as one: record r of the file that f names, through a fresh open of extent 0, is v
 abbrev pub blankBuffer : Bytes

@@ -1,49 +1,30 @@
 -- What 33 and 34 meet through a fresh FCB: at any record, what the entry of its extent says.
-use mathlib.Core.Path.{_≡_, refl, ap, sym, _∙_, subst}
-use mathlib.Core.Bool.{Bool, true, false, not, cond}
-use Prim.Native.Nat.{ℕ, _+_, _*_, _/_, _%_, _-_, _≤_, _<_, max, min}
+use mathlib.Core.Path.{_≡_, refl, ap, sym, _∙_}
+use mathlib.Core.Bool.{true}
+use Prim.Native.Nat.{ℕ, _/_, _%_, _<_, max}
 use native.Mathlib.Omega.{arith}
-use lib.Dec.{eqb, ltb}
-use lib.ListN.{length, getD}
-use borrow.Author.Tests.{ltb-false}
 use Rattle.lists.specs.Cases.{split, bool-cases}
-use Rattle.lists.specs.Tests.{_and_, _or_, or-neither}
-use Rattle.format.specs.Diskette.{Bytes, Geometry, Sound, extentRecords, slotsOn}
-use Rattle.format.specs.Entries.{entryAt, isFile, findFile, slotOf, slotFor, countIn, endOf}
-use Rattle.format.specs.Fcb.{fcbCountIn, fcbEnd, randomOf}
+use Rattle.lists.specs.Tests.{_or_}
+use Rattle.format.specs.Diskette.{Bytes, Geometry, Sound, extentRecords}
+use Rattle.format.specs.Entries.{entryAt, findFile, slotOf, slotFor, countIn}
+use Rattle.format.specs.Fcb.{fcbCountIn}
 use Rattle.format.specs.declared.Found.{Found}
 use Rattle.format.specs.declared.Found.the-variants.{At, Nothing}
-use Rattle.facts.specs.Found.{found-cases}
-use Rattle.facts.specs.Slots.{slot-for-below}
-use Rattle.facts.specs.Counts.{count-by-end, fcb-count-by-end}
+use Rattle.facts.specs.Slots.{slot-for-low}
+use Rattle.rows.specs.Entries.{length-entryAt}
 use Rattle.model.specs.Kinds.{isRandom}
 use Rattle.model.specs.Lent.{Lent, lend}
-use Rattle.model.specs.Closing.{closeChanges, endsLater}
+use Rattle.model.specs.Closing.{closedRow}
 use Rattle.model.specs.Target.{targetExtent, targetRecord, targetSlot, presentEntry, within, readOnlyIn, targetEntry, rowSlot, blockThere, countAt, countThere, recordThere, readOnlyThere}
 use Rattle.fields.specs.Agree.{SameName, name-cong}
+use Rattle.fields.specs.Closing.{count-closed, row-kept}
 use Rattle.fields.specs.Target.{extent-random, record-random}
-use Rattle.table.specs.Present.{target-present, within-block, make-beyond}
-use Rattle.effects.specs.Cur.{cur-current}
+use Rattle.table.specs.Present.{target-present}
 use Rattle.demands.specs.Runs.{Disk}
 use Rattle.demands.specs.Reading.{atRecord, rest-atRecord, random-atRecord}
 use Rattle.stored.specs.Closed.{Fresh, seenOn}
 use Rattle.stored.specs.Quiet.{fresh-record, fresh-present}
 use Rattle.stored.specs.Told.{blockIn, countedIn, extentEntry, isStored, entry-named}
-
--- an FCB whose close changes nothing counts no more than its entry, in any extent
-pub fresh-count : (G : Geometry) (row f : Bytes) → closeChanges G row f ≡ false → (ext : ℕ) → max (fcbCountIn f ext) (countIn row ext) ≡ countIn row ext
-unfolding closeChanges endsLater
-fresh-count G row f same ext =
-    let h : fcbEnd f ≤ endOf row = ltb-false (endOf row) (fcbEnd f) (or-neither _ _ same .1) in
-    let a : fcbCountIn f ext ≡ min extentRecords (fcbEnd f - extentRecords * ext) = fcb-count-by-end f ext in
-    let b : countIn row ext ≡ min extentRecords (endOf row - extentRecords * ext) = count-by-end row ext in
-    larger (fcbCountIn f ext) (countIn row ext) (most (fcbEnd f) (endOf row) ext _ _ h a b)
-  where
-    most : (x y ext a b : ℕ) → x ≤ y → a ≡ min extentRecords (x - extentRecords * ext) → b ≡ min extentRecords (y - extentRecords * ext) → a ≤ b
-    most x y ext a b h p q = omega arith
-
-    larger : (a b : ℕ) → a ≤ b → max a b ≡ b
-    larger a b h = omega arith
 
 module _ {G : Geometry} (S : Sound G) (n : ℕ) (random : isRandom n ≡ true) (d : Disk) (f : Bytes) (e : ℕ) (k : Fresh G d f e) (r : ℕ)
     (small : r < 16777216) (buffer : Bytes) where
@@ -65,7 +46,7 @@ module _ {G : Geometry} (S : Sound G) (n : ℕ) (random : isRandom n ≡ true) (
   pub met-extent : targetExtent n g ≡ r / extentRecords
   met-extent = extent-random n g random ∙ ap (λ (x : ℕ). x / 128) (random-atRecord f r (k .long) small)
 
-  met-record : targetRecord n g ≡ r % extentRecords
+  pub met-record : targetRecord n g ≡ r % extentRecords
   met-record = record-random n g random ∙ ap (λ (x : ℕ). x % 128) (random-atRecord f r (k .long) small)
 
   met-slot : targetSlot G n g ≡ slotFor G (r / extentRecords) (r % extentRecords)
@@ -92,10 +73,11 @@ module _ {G : Geometry} (S : Sound G) (n : ℕ) (random : isRandom n ≡ true) (
   row-slot Nothing = refl
 
   pub met-block : blockThere G n user l ≡ blockIn G (entryAt G (d .drive .image)) r there
-  unfolding blockThere slotsOn
+  unfolding blockThere
   met-block =
       split (bool-cases (within G n g))
-      (λ t. rw t (ap (slotOf G g) met-slot ∙ k-record .slots (slotFor G (r / extentRecords) (r % extentRecords)) (slot-for-below S (r / extentRecords) (r % extentRecords) (omega arith))
+      (λ t. rw t (ap (slotOf G g) met-slot
+      ∙ k-record .slots (slotFor G (r / extentRecords) (r % extentRecords)) (slot-for-low S (r / extentRecords) (r % extentRecords) (omega arith))
       ∙ ap (blockIn G (entryAt G (d .drive .image)) r) (sym (met-within t))))
       (λ t. rw t (ap (rowSlot G n user l) met-entry ∙ row-slot there))
 
@@ -103,12 +85,21 @@ module _ {G : Geometry} (S : Sound G) (n : ℕ) (random : isRandom n ≡ true) (
   count-at (At t) = ap (countIn (entryAt G (d .drive .image) t)) met-extent
   count-at Nothing = refl
 
+  -- the FCB counts no more than its entry, since a close would leave that as it is
+  own-count : (ext : ℕ) → max (fcbCountIn g ext) (countIn (entryAt G (d .drive .image) e) ext) ≡ countIn (entryAt G (d .drive .image) e) ext
+  own-count ext =
+      let row : Bytes = entryAt G (d .drive .image) e in
+      let hr = length-entryAt S (d .drive .image) (k .sane .good .image-long) e (k .cur .low) in
+      let merged = count-closed G row g hr ext in
+      let same : countIn (closedRow G row g) ext ≡ countIn row ext = ap (λ (x : Bytes). countIn x ext) (row-kept G row g (k-record .same) hr) in
+      omega arith
+
   pub met-count : countThere G n user l ≡ countedIn G (entryAt G (d .drive .image)) r there
   unfolding countThere
   met-count =
       split (bool-cases (within G n g))
       (λ t. rw t (ap (max (fcbCountIn g (targetExtent n g))) (ap (countAt G n user l) met-entry ∙ ap (countAt G n user l) (met-within t))
-      ∙ fresh-count G (entryAt G (d .drive .image) e) g (k-record .same) (targetExtent n g) ∙ count-at (At e) ∙ ap (countedIn G (entryAt G (d .drive .image)) r) (sym (met-within t))))
+      ∙ own-count (targetExtent n g) ∙ count-at (At e) ∙ ap (countedIn G (entryAt G (d .drive .image)) r) (sym (met-within t))))
       (λ t. rw t (ap (countAt G n user l) met-entry ∙ count-at there))
 
   -- the record is there exactly where it is stored

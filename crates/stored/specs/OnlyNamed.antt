@@ -1,61 +1,21 @@
--- Rows of which, but for date entries, only named ones have changed: those that were named, and those that were empty and are named now. And the
--- stamps of a call, which change date entries alone.
-use mathlib.Core.Path.{_≡_, refl, ap, sym, _∙_, subst}
+-- Rows of which, but for date entries, only named ones have changed: those that were named, and those that were empty and are named now.
+use mathlib.Core.Path.{_≡_, ap, sym, _∙_, subst}
 use mathlib.Core.Logic.{_⊎_, inl, inr}
 use mathlib.Core.Bool.{true, false}
-use mathlib.Core.List.{List}
 use Prim.Native.Nat.{ℕ, _≤_, _<_}
-use native.Mathlib.Omega.{arith}
 use Rattle.lists.specs.Cases.{split, eq-or-ne, not-both}
-use Rattle.format.specs.Diskette.{Bytes, Geometry, Sound}
+use Rattle.format.specs.Diskette.{Bytes, Geometry}
 use Rattle.format.specs.Entries.{Rows, entryAt, used, empty}
-use Rattle.format.specs.Dates.{isDates, dated}
+use Rattle.format.specs.Dates.{isDates}
 use Rattle.facts.specs.Naming.{named-user, named-like}
 use Rattle.facts.specs.Names.{like-at}
 use Rattle.consistency.specs.Naming.{named-used}
-use Rattle.consistency.specs.Reflect.{used-full, used-no-dates, empty-no-dates, dates-unused, dates-full}
-use Rattle.model.specs.declared.Asked.{Asked}
-use Rattle.model.specs.declared.Session.{Session}
-use Rattle.model.specs.declared.Kind.{Kind}
-use Rattle.model.specs.declared.Kind.the-variants.{Settle}
-use Rattle.model.specs.Kinds.{kindOf, same}
-use Rattle.model.specs.Lent.{Lent, rowsOf}
-use Rattle.model.specs.Stamps.{Stamp, stampsBy, stampedWith}
-use Rattle.model.specs.Step.{does}
+use Rattle.consistency.specs.Reflect.{used-full, used-no-dates}
+use Rattle.model.specs.Kinds.{same}
 use Rattle.fields.specs.Agree.{SameName, named-cong, named-asked}
-use Rattle.table.specs.Facts.{AcceptedCall}
-use Rattle.invariant.specs.Good.{Good}
-use Rattle.invariant.specs.Stamps.{where-cases, stamped-still, placed}
-use Rattle.effects.specs.View.{viewOf, Names}
-use Rattle.effects.specs.Effect.{NoneNew}
+use Rattle.effects.specs.View.{Names}
 use Rattle.effects.specs.Closed.{byName}
-use Rattle.demands.specs.Stamped.{stampedAs, own-change, own-stamped}
-use Rattle.stored.specs.Restamped.{Alike, dates-alike}
-
--- ---- the stamps of an accepted call leave what its own rule left, but for date entries
-module _ {G : Geometry} (S : Sound G) (asked : Asked) (l : Lent) (s : Session) (c : AcceptedCall G asked l s) (g : Good G (l .drive .image) (l .drive .map))
-    (k : Kind) (q : kindOf (asked .number) ≡ k) (z : same k Settle ≡ false) where
-  abbrev own : Lent
-  own = does G asked l s k .lent
-
-  abbrev Leaves : List Stamp → Type 0
-  Leaves xs = Alike G (own .drive .image) (stampedWith G xs (own .drive .image))
-
-  dated-alike : dated (rowsOf G l) ≡ true → Leaves (stampsBy G asked l s k)
-  dated-alike t =
-      let w = own-change S asked l s c g k q z in
-      let x = own-stamped S asked l s c g t k q z in
-      let own-dates : dated (entryAt G (own .drive .image)) ≡ true =
-      ap isDates (w .aside 3 (omega (arith, S .fours, S .some-entry)) (dates-unused (rowsOf G l 3) t) (dates-full (rowsOf G l 3) t)) ∙ t in
-      record {
-        user = stamped-still S (own .drive .map) (stampsBy G asked l s k) (own .drive .image) (w .good) own-dates (placed S asked l s c g t k q);
-        row = x .row;
-        recs = x .recs;
-      }
-
-  pub stamps-alike : Alike G (does G asked l s k .lent .drive .image) (stampedAs G asked l s k .lent .drive .image)
-  stamps-alike =
-      where-cases Leaves (dated (rowsOf G l)) (stampsBy G asked l s k) dated-alike record { user = λ e h. refl; row = λ e h n. refl; recs = λ x a b. refl }
+use Rattle.effects.specs.Alike.{Alike, dates-alike}
 
 -- ---- only entries that N names change, and empty ones that it names then
 -- a row that was named or empty, and is named now
@@ -89,10 +49,6 @@ only-then {G} {N} {s} {t} {u} a b = record {
 -- stamps change none, and may follow
 pub only-alike : {G : Geometry} (N : Names) (img img′ : Bytes) → Alike G img img′ → OnlyNamed G N (entryAt G img) (entryAt G img′)
 only-alike {G} N img img′ w = record { rows = λ e l n. inl (w .row e l n); dates = dates-alike G img img′ w }
-
--- and make none
-pub none-alike : (G : Geometry) (img img′ map map′ : Bytes) → Alike G img img′ → NoneNew G (viewOf G img map) (viewOf G img′ map′)
-none-alike G img img′ map map′ w e l z = w .row e l (empty-no-dates (entryAt G img e) z)
 
 -- names stay
 pub only-stay : {G : Geometry} {N : Names} → ((r : Bytes) → N r ≡ true → used r ≡ true) → {s t : Rows} → OnlyNamed G N s t

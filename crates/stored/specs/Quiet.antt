@@ -6,14 +6,12 @@ use mathlib.Core.Bool.{true, false, not}
 use mathlib.Core.List.{List, []}
 use Prim.Native.Nat.{ℕ, _≤_, _<_}
 use native.Mathlib.Omega.{arith}
-use lib.Dec.{eqb}
 use lib.ListN.{length, getD}
 use borrow.Author.Tests.{eq-eqb, ne-eqb}
 use Rattle.lists.specs.Cases.{split, bool-cases, not-both}
-use Rattle.lists.specs.Tests.{_and_, and-not, and-fails-right, or-neither}
-use Rattle.lists.specs.Below.{any-empty}
+use Rattle.lists.specs.Tests.{_and_, and-fails-right}
 use Rattle.format.specs.Diskette.{Bytes, Geometry, Sound, recordBytes, slotCount}
-use Rattle.format.specs.Entries.{entryAt, exOf, slotOf, slotsOf, endOf}
+use Rattle.format.specs.Entries.{entryAt, exOf, slotOf, endOf}
 use Rattle.format.specs.Dates.{dated, asks, asksAccess}
 use Rattle.format.specs.Fcb.{fcbBytes, fcbEnd}
 use Rattle.format.specs.declared.Found.the-variants.{At}
@@ -26,9 +24,8 @@ use Rattle.model.specs.declared.Asked.{Asked}
 use Rattle.model.specs.declared.Session.{Session}
 use Rattle.model.specs.declared.Kind.{Kind}
 use Rattle.model.specs.declared.Kind.the-variants.{Quiet, User, Read}
-use Rattle.model.specs.Kinds.{kindOf, isCall}
+use Rattle.model.specs.Kinds.{kindOf, same, isCall}
 use Rattle.model.specs.Lent.{Drive, Lent, Outcome, protected, ended}
-use Rattle.model.specs.Closing.{takesSlot, endsLater, closeChanges}
 use Rattle.model.specs.Entering.{entered}
 use Rattle.model.specs.Target.{presentEntry}
 use Rattle.model.specs.Calls.{openedAt, opened}
@@ -36,7 +33,7 @@ use Rattle.model.specs.Stamps.{Stamp, first, timeStamp, accessStamps, stampsBy,
 use Rattle.model.specs.Step.{told, does}
 use Rattle.model.specs.Table.{timeRight, askedEntry, ownRows, moveChanges, protectionHolds}
 use Rattle.fields.specs.Agree.{count-cong}
-use Rattle.fields.specs.Closing.{keeps-intro}
+use Rattle.fields.specs.Closing.{nothing-to-close, unchanged-end}
 use Rattle.fields.specs.Entering.{length-entered, first-entered, slot-entered}
 use Rattle.fields.specs.OpenClose.{opened-keeps}
 use Rattle.table.specs.Own.{kinds-apart}
@@ -51,7 +48,7 @@ use Rattle.invariant.specs.Stamps.{Each, each-only, Placed, placed, where-cases
 use Rattle.effects.specs.Cur.{cur-current}
 use Rattle.effects.specs.Entered.{entered-cur}
 use Rattle.demands.specs.StepOk.{ready-good}
-use Rattle.demands.specs.Stamped.{stamped-as}
+use Rattle.demands.specs.Stamped.{stamped-as, step-good}
 use Rattle.demands.specs.Protected.{lifted-stays, read-unchanged}
 use Rattle.demands.specs.Runs.{Request, Disk, lentTo, outcomeOf, left, accepts, after}
 use Rattle.demands.specs.ReadBack.{user-stays}
@@ -59,23 +56,28 @@ use Rattle.demands.specs.Reading.{atRecord, length-atRecord, rest-atRecord, ext
 use Rattle.stored.specs.Closed.{Sane, seenOn, Begins, Fresh, Access, Restamped}
 use Rattle.stored.specs.Restamped.{restamped-none, fresh-restamped}
 
--- ---- what every call but 32 leaves of the session
-module _ (G : Geometry) (d : Disk) (q : Request) (other : kindOf (q .asked .number) ≡ User → ⊥) where
-  user-left : left (outcomeOf G d q) .session .user ≡ d .session .user
-  unfolding after
-  user-left = user-stays G d q other
-
-  lifted-left : left (outcomeOf G d q) .session .lifted ≡ d .session .lifted
+-- ---- what calls leave of the session: the protection, its range, and but for 32 the user
+module _ (G : Geometry) (d : Disk) (q : Request) where
+  pub lifted-left : left (outcomeOf G d q) .session .lifted ≡ d .session .lifted
   unfolding outcomeOf
   lifted-left = lifted-stays G (q .asked) (lentTo d q) (d .session)
 
-  range-left : InRange G (d .session) → InRange G (left (outcomeOf G d q) .session)
+  pub range-left : InRange G (d .session) → InRange G (left (outcomeOf G d q) .session)
   unfolding outcomeOf
   range-left = step-range G (q .asked) (lentTo d q) (d .session)
 
-  -- a call that leaves image and map
-  drive-same : (P : Stamp → Type 0) → outcomeOf G d q .lent .drive ≡ d .drive → Restamped G P d (left (outcomeOf G d q))
-  drive-same P e = restamped-none G P d (left (outcomeOf G d q)) e user-left lifted-left range-left
+  pub sane-left : Sound G → Sane G d → Sane G (left (outcomeOf G d q))
+  unfolding outcomeOf
+  sane-left S sane = record { good = step-good S (q .asked) (lentTo d q) (d .session) (sane .good); range = range-left (sane .range) }
+
+  module _ (k : Kind) (kind : kindOf (q .asked .number) ≡ k) (other : same k User ≡ false) where
+    pub user-left : left (outcomeOf G d q) .session .user ≡ d .session .user
+    unfolding after
+    user-left = user-stays G d q (λ z. kinds-apart k User other (sym kind ∙ z))
+
+    -- a call that leaves image and map
+    drive-same : (P : Stamp → Type 0) → outcomeOf G d q .lent .drive ≡ d .drive → Restamped G P d (left (outcomeOf G d q))
+    drive-same P e = restamped-none G P d (left (outcomeOf G d q)) e user-left lifted-left range-left
 
 -- ---- refused calls, of whatever number
 pub refused-same : (G : Geometry) (P : Stamp → Type 0) (d : Disk) (q : Request) → accepts G d q ≡ false → Restamped G P d (left (outcomeOf G d q))
@@ -84,7 +86,7 @@ refused-same G P d q f =
     split (total G (q .asked) (lentTo d q) (d .session))
     (λ r. let w = r .1 in restamped-none G P d (left (outcomeOf G d q)) (ap (λ (l : Lent). l .drive) (w .kept))
     (split (w .session) (λ e. ap (λ (x : Session). x .user) (e .1)) (λ e. ap (λ (x : Session). x .user) (e .1)))
-    (lifted-stays G (q .asked) (lentTo d q) (d .session)) (step-range G (q .asked) (lentTo d q) (d .session)))
+    (lifted-left G d q) (range-left G d q))
     (λ c. not-both _ (carried-says G (q .asked) (lentTo d q) (d .session) c) f)
 
 -- ---- accepted calls
@@ -144,14 +146,11 @@ module _ (G : Geometry) (d : Disk) (q : Request) (accepted : accepts G d q ≡ t
       ∙ ap (λ (xs : List Stamp). stampedOutcome G (whereDated (dated (entryAt G (d .drive .image))) xs) (does G (q .asked) (lentTo d q) (d .session) k)) none) ∙ same
 
 -- ---- 35, 36 and 46
-quiet-other : (n : ℕ) → kindOf n ≡ Quiet → kindOf n ≡ User → ⊥
-quiet-other n k z = kinds-apart Quiet User refl (sym k ∙ z)
-
 pub quiet-same : (G : Geometry) (P : Stamp → Type 0) (d : Disk) (q : Request) → kindOf (q .asked .number) ≡ Quiet → (q .asked .number ≡ 15 → ⊥)
     → Restamped G P d (left (outcomeOf G d q))
 quiet-same G P d q k n =
     split (bool-cases (accepts G d q))
-    (λ a. drive-same G d q (quiet-other (q .asked .number) k) P (unstamped-same G d q a Quiet k refl (rw (ne-eqb (q .asked .number) 15 n))))
+    (λ a. drive-same G d q Quiet k refl P (unstamped-same G d q a Quiet k refl (rw (ne-eqb (q .asked .number) 15 n))))
     (λ f. refused-same G P d q f)
 
 -- a quiet call that is accepted ends a search, as every call but 17 and 18 does
@@ -160,14 +159,6 @@ pub quiet-ended : (G : Geometry) (d : Disk) (q : Request) → kindOf (q .asked .
 quiet-ended G d q k a = ap (λ (o : Outcome). o .answer .session) (carried-is G d q a Quiet k)
 
 -- ---- FCBs that say no more than their entry
--- an FCB that has the entry's slots, and ends no later than one whose close changes nothing
-keeps-like : (G : Geometry) (row f g : Bytes) → ((j : ℕ) → j < slotCount → slotOf G g j ≡ slotOf G row j) → fcbEnd g ≡ fcbEnd f
-    → closeChanges G row f ≡ false → closeChanges G row g ≡ false
-unfolding closeChanges endsLater takesSlot slotOf
-keeps-like G row f g slots end h =
-    keeps-intro G row g (any-empty (takesSlot G (slotsOf row) (slotsOf g)) slotCount (λ j l. rw (slots j l) (and-not (eqb (slotOf G row j) 0))))
-    (rw end (or-neither _ _ h .1))
-
 end-atRecord : (f : Bytes) (r : ℕ) → length f ≡ fcbBytes → fcbEnd (atRecord f r) ≡ fcbEnd f
 unfolding fcbEnd endOf
 end-atRecord f r hf =
@@ -185,13 +176,11 @@ module _ (G : Geometry) (d : Disk) (f : Bytes) (e : ℕ) (k : Fresh G d f e) whe
         drive = rw (rest-atRecord f r (k .long) 0 (omega arith) (omega arith)) (k .drive);
         cur = cur-atRecord f r (k .long) G (seenOn G d) (d .session .user) e (k .cur);
         slots = slots;
-        same = keeps-like G (entryAt G (d .drive .image) e) f (atRecord f r) slots (end-atRecord f r (k .long)) (k .same);
+        same = nothing-to-close G (entryAt G (d .drive .image) e) (atRecord f r) slots
+            (rw (end-atRecord f r (k .long)) (unchanged-end G (entryAt G (d .drive .image) e) f (k .same)));
       }
 
   -- what a call through it meets
-  pub fresh-fits : (buffer : Bytes) → length buffer ≡ recordBytes → Fits G (record { drive = d .drive; fcb = f; buffer = buffer }) (d .session)
-  fresh-fits buffer hb = sane-fits G d (k .sane) f (k .long) buffer hb
-
   pub fresh-ready : (a : Asked) → timeRight a ≡ true → (buffer : Bytes) → length buffer ≡ recordBytes
       → Ready G a (record { drive = d .drive; fcb = f; buffer = buffer }) (d .session)
   fresh-ready a time buffer hb = sane-ready G d (k .sane) f (k .long) (k .drive) a time buffer hb
@@ -261,19 +250,17 @@ module _ {G : Geometry} (S : Sound G) (d : Disk) (q : Request) (number : q .aske
         (λ y. (own-stamps, placed S (q .asked) (lentTo d q) (d .session) (c .facts) (sane .good) y Quiet open-kind, inr y)) (tt, tt, inl refl)
 
     opened-same : Restamped G Here d (left (outcomeOf G d q))
-    opened-same =
-        let other = quiet-other (q .asked .number) open-kind in
-        record {
-          stamps = made;
-          each = made-stamps .0;
-          placed = made-stamps .1;
-          dates = made-stamps .2;
-          image = ap (λ (o : Outcome). o .lent .drive .image) (carried-is G d q accepted Quiet open-kind);
-          map = ap (λ (o : Outcome). o .lent .drive .map) (carried-is G d q accepted Quiet open-kind);
-          user = user-left G d q other;
-          lifted = lifted-left G d q other;
-          range = range-left G d q other;
-        }
+    opened-same = record {
+      stamps = made;
+      each = made-stamps .0;
+      placed = made-stamps .1;
+      dates = made-stamps .2;
+      image = ap (λ (o : Outcome). o .lent .drive .image) (carried-is G d q accepted Quiet open-kind);
+      map = ap (λ (o : Outcome). o .lent .drive .map) (carried-is G d q accepted Quiet open-kind);
+      user = user-left G d q Quiet open-kind refl;
+      lifted = lifted-left G d q;
+      range = range-left G d q;
+    }
 
     opened-fcb : outcomeOf G d q .lent .fcb ≡ entered (q .fcb) row (exOf (q .fcb))
     unfolding told opened openedAt e
@@ -328,7 +315,7 @@ module _ (G : Geometry) (d : Disk) (q : Request) (e : ℕ) (number : q .asked .n
 
   pub fresh-read-same : (P : Stamp → Type 0) → Restamped G P d (left (outcomeOf G d q))
   fresh-read-same P =
-      split (bool-cases (accepts G d q)) (λ a. drive-same G d q (λ z. kinds-apart Read User refl (sym read-kind ∙ z)) P (accepted-drive a))
+      split (bool-cases (accepts G d q)) (λ a. drive-same G d q Read read-kind refl P (accepted-drive a))
       (λ f. refused-same G P d q f)
 
   pub fresh-read-disk : d .session ≡ ended (d .session) → left (outcomeOf G d q) ≡ d

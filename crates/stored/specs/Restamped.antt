@@ -1,35 +1,27 @@
 -- What a disk that is restamped has in common with the one before: every row but date entries, every look-up, and every record past the directory.
 use mathlib.Core.Path.{_≡_, refl, ap, sym, _∙_, subst}
 use mathlib.Core.Logic.{inl, inr}
-use mathlib.Core.Bool.{Bool, true, false}
+use mathlib.Core.Bool.{Bool, false}
 use mathlib.Core.List.{List, [], _∷_, _++_}
 use Prim.Native.Nat.{ℕ, _≤_, _<_}
-use native.Mathlib.Omega.{arith}
-use lib.Dec.{eqb}
-use Rattle.lists.specs.Cases.{split, bool-cases, not-both, refute}
-use Rattle.lists.specs.Fold.{fold-cong}
-use Rattle.lists.specs.Below.{firstIn}
+use Rattle.lists.specs.Cases.{split}
 use Rattle.format.specs.Diskette.{Bytes, Geometry, Sound, recordAt}
-use Rattle.format.specs.Entries.{entryAt, userOf, slotOf, used, empty, named, isFile, findFile, findNamed, findEmpty}
+use Rattle.format.specs.Entries.{entryAt, slotOf, empty, named, findFile, findNamed, findEmpty}
 use Rattle.format.specs.Dates.{isDates, dated, withStamp}
-use Rattle.format.specs.Found.{foundBelow}
-use Rattle.facts.specs.Found.{found-cases, first-says, first-is-at, none-says, none-is}
-use Rattle.consistency.specs.Reflect.{used-no-dates, empty-no-dates}
-use Rattle.consistency.specs.Naming.{named-used, file-used}
 use Rattle.disk.specs.Places.{blockRecords}
 use Rattle.rows.specs.Entries.{areaRecords}
 use Rattle.model.specs.declared.Asked.{Asked}
 use Rattle.model.specs.Closing.{closeChanges}
-use Rattle.model.specs.Calls.{largerSize, fileSize}
+use Rattle.model.specs.Calls.{fileSize}
 use Rattle.model.specs.Stamps.{Stamp, stampedWith}
-use Rattle.fields.specs.Agree.{used-cong, empty-cong}
-use Rattle.fields.specs.Size.{larger-miss}
 use Rattle.table.specs.Total.{InRange}
 use Rattle.invariant.specs.Good.{Good}
-use Rattle.invariant.specs.Stamps.{Each, each-join, Placed, stamped-all, stamped-still}
+use Rattle.invariant.specs.Stamps.{Each, each-join, Placed, stamped-all}
 use Rattle.effects.specs.View.{View, viewOf, Names}
-use Rattle.effects.specs.Effect.{Effect, NoneNew, none-one, notes-stay, recs-on}
-use Rattle.effects.specs.Cur.{Cur, cur-uses, cur-kept}
+use Rattle.effects.specs.Effect.{Effect}
+use Rattle.effects.specs.Cur.{Cur, cur-uses}
+use Rattle.effects.specs.Alike.{Alike, alike-same, alike-back, dates-alike, used-row, empty-alike, empty-same, named-alike, named-same, file-same, size-alike, alike-effect, cur-alike}
+use Rattle.effects.specs.Stamps.{stamped-alike}
 use Rattle.demands.specs.Runs.{Disk}
 use Rattle.stored.specs.Closed.{Sane, seenOn, First, Stored, Fresh, Access, Restamped}
 use Rattle.stored.specs.Kept.{first-kept, stored-kept}
@@ -91,100 +83,6 @@ module _ (G : Geometry) (P : Stamp → Type 0) (d t : Disk) where
     range = λ r. x .range (w .range r);
   }
 
--- ---- images that differ in date entries alone
-pub record Alike (G : Geometry) (img img′ : Bytes) : Type 0 where
-  pub user : (k : ℕ) → k < G .entries → userOf (entryAt G img′ k) ≡ userOf (entryAt G img k)
-  pub row : (k : ℕ) → k < G .entries → isDates (entryAt G img k) ≡ false → entryAt G img′ k ≡ entryAt G img k
-  pub recs : (r : ℕ) → areaRecords G ≤ r → r < blockRecords G → recordAt G img′ r ≡ recordAt G img r
-
--- two tests that agree find the same
-pub find-cong : (n : ℕ) (p q : ℕ → Bool) → ((k : ℕ) → k < n → p k ≡ q k) → foundBelow n (firstIn p 0 n) ≡ foundBelow n (firstIn q 0 n)
-find-cong n p q same =
-    found-cases (foundBelow n (firstIn q 0 n))
-    (λ k h. let w = first-says q 0 n k h in
-    first-is-at p 0 n k record {
-      low = w .low;
-      below = w .below;
-      holds = same k (w .below) ∙ w .holds;
-      before = λ j a b. same j (let c = w .below in omega arith) ∙ w .before j a b;
-    } ∙ sym h)
-    (λ h. none-is p 0 n (λ j a b. same j b ∙ none-says q 0 n h j a b) ∙ sym h)
-
-module _ (G : Geometry) (img img′ : Bytes) (a : Alike G img img′) where
-  -- date entries are those of before
-  pub dates-alike : (k : ℕ) → k < G .entries → isDates (entryAt G img′ k) ≡ isDates (entryAt G img k)
-  unfolding isDates
-  dates-alike k l = ap (λ (x : ℕ). eqb x 33) (a .user k l)
-
-  pub alike-back : Alike G img′ img
-  alike-back = record {
-    user = λ k l. sym (a .user k l);
-    row = λ k l n. sym (a .row k l (sym (dates-alike k l) ∙ n));
-    recs = λ r h w. sym (a .recs r h w);
-  }
-
-  pub used-row : (k : ℕ) → k < G .entries → used (entryAt G img k) ≡ true → entryAt G img′ k ≡ entryAt G img k
-  used-row k l u = a .row k l (used-no-dates (entryAt G img k) u)
-
-  pub used-alike : (k : ℕ) → k < G .entries → used (entryAt G img′ k) ≡ used (entryAt G img k)
-  used-alike k l = used-cong (entryAt G img′ k) (entryAt G img k) (a .user k l)
-
-  pub empty-alike : (k : ℕ) → k < G .entries → empty (entryAt G img′ k) ≡ empty (entryAt G img k)
-  empty-alike k l = empty-cong (entryAt G img′ k) (entryAt G img k) (a .user k l)
-
-  -- a test that only used rows pass
-  tests-alike : (test : Bytes → Bool) → ((r : Bytes) → test r ≡ true → used r ≡ true) → (k : ℕ) → k < G .entries
-      → test (entryAt G img′ k) ≡ test (entryAt G img k)
-  tests-alike test sure k l =
-      split (bool-cases (used (entryAt G img k))) (λ u. ap test (used-row k l u))
-      (λ u. fails (entryAt G img′ k) (used-alike k l ∙ u) ∙ sym (fails (entryAt G img k) u))
-    where
-      fails : (r : Bytes) → used r ≡ false → test r ≡ false
-      fails r u = sym (refute (test r) (λ h. not-both (used r) (sure r h) u))
-
-  pub empty-same : findEmpty G (entryAt G img′) ≡ findEmpty G (entryAt G img)
-  unfolding findEmpty
-  empty-same = find-cong (G .entries) (λ (e : ℕ). empty (entryAt G img′ e)) (λ (e : ℕ). empty (entryAt G img e)) empty-alike
-
-  module _ (user : ℕ) (hu : user ≤ 15) (f : Bytes) (q : ℕ) where
-    pub named-alike : (wild : Bool) (k : ℕ) → k < G .entries → named wild user f q (entryAt G img′ k) ≡ named wild user f q (entryAt G img k)
-    named-alike wild = tests-alike (named wild user f q) (λ r h. named-used wild user f q r h hu)
-
-    pub file-alike : (ext k : ℕ) → k < G .entries → isFile G user f q ext (entryAt G img′ k) ≡ isFile G user f q ext (entryAt G img k)
-    file-alike ext = tests-alike (isFile G user f q ext) (λ r h. file-used G user f q ext r h hu)
-
-    pub named-same : (wild : Bool) → findNamed G (entryAt G img′) wild user f q ≡ findNamed G (entryAt G img) wild user f q
-    unfolding findNamed
-    named-same wild =
-        find-cong (G .entries) (λ (e : ℕ). named wild user f q (entryAt G img′ e)) (λ (e : ℕ). named wild user f q (entryAt G img e)) (named-alike wild)
-
-    pub file-same : (ext : ℕ) → findFile G (entryAt G img′) user f q ext ≡ findFile G (entryAt G img) user f q ext
-    unfolding findFile
-    file-same ext =
-        find-cong (G .entries) (λ (e : ℕ). isFile G user f q ext (entryAt G img′ e)) (λ (e : ℕ). isFile G user f q ext (entryAt G img e)) (file-alike ext)
-
-    pub size-alike : (wild : Bool) → fileSize G (entryAt G img′) (named wild user f q) ≡ fileSize G (entryAt G img) (named wild user f q)
-    unfolding fileSize largerSize
-    size-alike wild =
-        fold-cong (largerSize (entryAt G img′) (named wild user f q)) (largerSize (entryAt G img) (named wild user f q)) 0 (G .entries)
-        (λ size k l. split (bool-cases (named wild user f q (entryAt G img k)))
-        (λ h. ap (λ (r : Bytes). largerSize (λ (e : ℕ). r) (named wild user f q) size k) (used-row k l (named-used wild user f q (entryAt G img k) h hu)))
-        (λ h. larger-miss (entryAt G img′) (named wild user f q) size k (named-alike wild k l ∙ h)
-        ∙ sym (larger-miss (entryAt G img) (named wild user f q) size k h)))
-
-  -- for every file it is a call that names none
-  module _ (map : Bytes) (good : Good G img map) where
-    alike-none : NoneNew G (viewOf G img map) (viewOf G img′ map)
-    alike-none e l z = a .row e l (empty-no-dates (entryAt G img e) z)
-
-    pub alike-effect : (N : Names) → Effect G (viewOf G img map) (viewOf G img′ map) N
-    alike-effect N = record {
-      row = λ e f. used-row e (f .low) (f .uses);
-      new = λ e l z. inl (alike-none e l z);
-      one-new = none-one G (viewOf G img map) (viewOf G img′ map) alike-none;
-      dat = λ b k e l m f. recs-on G (viewOf G img map) (good .inv) b k e l m (viewOf G img′ map) (a .recs);
-    }
-
 -- ---- a disk and the same disk restamped
 module _ {G : Geometry} (S : Sound G) (P : Stamp → Type 0) (d t : Disk) (sane : Sane G d) (w : Restamped G P d t) where
   stamped-good : Good G (t .drive .image) (d .drive .map)
@@ -198,11 +96,8 @@ module _ {G : Geometry} (S : Sound G) (P : Stamp → Type 0) (d t : Disk) (sane 
 
   pub restamped-alike : Alike G (d .drive .image) (t .drive .image)
   restamped-alike =
-      split (w .dates)
-      (λ z. subst (Alike G (d .drive .image)) (sym (unstamped G P d t w z)) record { user = λ k l. refl; row = λ k l n. refl; recs = λ r a b. refl })
-      (λ y. let x = stamped-all S (d .drive .map) (w .stamps) (d .drive .image) (sane .good) y (w .placed) in
-      subst (Alike G (d .drive .image)) (sym (w .image))
-      record { user = stamped-still S (d .drive .map) (w .stamps) (d .drive .image) (sane .good) y (w .placed); row = x .row; recs = x .recs })
+      split (w .dates) (λ z. subst (Alike G (d .drive .image)) (sym (unstamped G P d t w z)) (alike-same G (d .drive .image)))
+      (λ y. subst (Alike G (d .drive .image)) (sym (w .image)) (stamped-alike S (d .drive .map) (w .stamps) (d .drive .image) (sane .good) y (w .placed)))
 
   pub row-restamped : (e : ℕ) → e < G .entries → isDates (entryAt G (d .drive .image) e) ≡ false → entryAt G (t .drive .image) e ≡ entryAt G (d .drive .image) e
   row-restamped = restamped-alike .row
@@ -212,9 +107,6 @@ module _ {G : Geometry} (S : Sound G) (P : Stamp → Type 0) (d t : Disk) (sane 
 
   pub dates-restamped : (e : ℕ) → e < G .entries → isDates (entryAt G (t .drive .image) e) ≡ isDates (entryAt G (d .drive .image) e)
   dates-restamped = dates-alike G (d .drive .image) (t .drive .image) restamped-alike
-
-  pub used-restamped : (e : ℕ) → e < G .entries → used (entryAt G (t .drive .image) e) ≡ used (entryAt G (d .drive .image) e)
-  used-restamped = used-alike G (d .drive .image) (t .drive .image) restamped-alike
 
   pub empty-restamped : (e : ℕ) → e < G .entries → empty (entryAt G (t .drive .image) e) ≡ empty (entryAt G (d .drive .image) e)
   empty-restamped = empty-alike G (d .drive .image) (t .drive .image) restamped-alike
@@ -226,10 +118,6 @@ module _ {G : Geometry} (S : Sound G) (P : Stamp → Type 0) (d t : Disk) (sane 
     pub named-restamped : (wild : Bool) (e : ℕ) → e < G .entries
         → named wild user f 1 (entryAt G (t .drive .image) e) ≡ named wild user f 1 (entryAt G (d .drive .image) e)
     named-restamped = named-alike G (d .drive .image) (t .drive .image) restamped-alike user hu f 1
-
-    pub file-restamped : (ext e : ℕ) → e < G .entries
-        → isFile G user f 1 ext (entryAt G (t .drive .image) e) ≡ isFile G user f 1 ext (entryAt G (d .drive .image) e)
-    file-restamped = file-alike G (d .drive .image) (t .drive .image) restamped-alike user hu f 1
 
     pub findNamed-restamped : (wild : Bool) → findNamed G (entryAt G (t .drive .image)) wild user f 1 ≡ findNamed G (entryAt G (d .drive .image)) wild user f 1
     findNamed-restamped = named-same G (d .drive .image) (t .drive .image) restamped-alike user hu f 1
@@ -264,12 +152,6 @@ module _ {G : Geometry} (S : Sound G) (P : Stamp → Type 0) (d t : Disk) (sane 
         subst (λ (s : View). First G s user f) (sym view-same)
         (first-kept S (seenOn G d) (viewOf G (t .drive .image) (d .drive .map)) nobody user hu f on (λ r m. refl) h)
 
-    pub first-before : First G (seenOn G t) user f → First G (seenOn G d) user f
-    unfolding nobody
-    first-before h =
-        first-kept S (viewOf G (t .drive .image) (d .drive .map)) (seenOn G d) nobody user hu f back (λ r m. refl)
-        (subst (λ (s : View). First G s user f) view-same h)
-
     module _ (r : ℕ) (v : Bytes) where
       pub stored-restamped : Stored G (seenOn G d) user f r v → Stored G (seenOn G t) user f r v
       unfolding nobody
@@ -284,11 +166,9 @@ module _ {G : Geometry} (S : Sound G) (P : Stamp → Type 0) (d t : Disk) (sane 
           (subst (λ (s : View). Stored G s user f r v) view-same h)
 
     cur-restamped : (e : ℕ) → Cur G (seenOn G d) user f e → Cur G (seenOn G t) user f e
-    unfolding nobody
     cur-restamped e c =
         subst (λ (s : View). Cur G s user f e) (sym view-same)
-        (cur-kept S (seenOn G d) (viewOf G (t .drive .image) (d .drive .map)) nobody user hu f on
-        (notes-stay G (seenOn G d) (viewOf G (t .drive .image) (d .drive .map)) nobody (λ b l. refl)) (λ r m. refl) e c)
+        (cur-alike G (d .drive .image) (t .drive .image) restamped-alike (d .drive .map) (sane .good) S user hu f e c)
 
 -- a fresh FCB stays one
 pub fresh-restamped : {G : Geometry} (S : Sound G) (P : Stamp → Type 0) (d t : Disk) → Restamped G P d t → (f : Bytes) (e : ℕ) → Fresh G d f e → Fresh G t f e

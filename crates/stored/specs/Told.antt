@@ -1,6 +1,6 @@
 -- The closed records of a file as tests: whether one is there, and its bytes, by the entry of its extent.
 use mathlib.Core.Path.{_≡_, refl, ap, sym, _∙_}
-use mathlib.Core.Bool.{Bool, true, false, not}
+use mathlib.Core.Bool.{Bool, true, not}
 use Prim.Native.Nat.{ℕ, _/_, _%_, _≤_}
 use lib.Dec.{eqb, ltb}
 use borrow.Author.Tests.{ltb-true, lt-ltb, ne-eqb, eqb-false, not-true}
@@ -11,6 +11,7 @@ use Rattle.format.specs.Entries.{Rows, slotOf, slotFor, countIn, isFile, findFi
 use Rattle.format.specs.Found.{isFound}
 use Rattle.format.specs.declared.Found.{Found}
 use Rattle.format.specs.declared.Found.the-variants.{At, Nothing}
+use Rattle.facts.specs.Found.{find-cong}
 use Rattle.facts.specs.Find.{file-says}
 use Rattle.consistency.specs.Facts.{Consistent}
 use Rattle.consistency.specs.Naming.{file-found}
@@ -18,7 +19,6 @@ use Rattle.model.specs.Target.{placeIn}
 use Rattle.fields.specs.Agree.{SameName, isFile-asked}
 use Rattle.effects.specs.View.{View}
 use Rattle.stored.specs.Closed.{Stored}
-use Rattle.stored.specs.Restamped.{find-cong}
 
 module _ (G : Geometry) (d : Rows) (r : ℕ) where
   -- the block that the entry has for record r, 0 being none, and the records of its extent that the entry counts

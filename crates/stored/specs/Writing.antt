@@ -34,7 +34,7 @@ use Rattle.model.specs.Entering.{entered, nextRow}
 use Rattle.model.specs.Target.{targetExtent, targetRecord, targetSlot, crAfter, presentEntry, targetEntry, stays, plan, moved, made, placeIn, haveWritten, writtenCount, writtenFcb, writtenMap}
 use Rattle.model.specs.Calls.{writtenAt, writing, written}
 use Rattle.fields.specs.Agree.{isFile-asked, isFile-cong}
-use Rattle.fields.specs.Closing.{end-closed, slot-closed-old, slot-closed-new, file-closed, map-kept, note-closed-cases}
+use Rattle.fields.specs.Closing.{end-closed, slot-closed-old, slot-closed-new, file-closed, unchanged-end, map-kept, note-closed-cases}
 use Rattle.fields.specs.Images.{row-closedImage, row-closedImage-other, record-closedImage}
 use Rattle.fields.specs.Entering.{slot-entered}
 use Rattle.fields.specs.OpenClose.{opened-keeps}
@@ -49,14 +49,13 @@ use Rattle.effects.specs.Cur.{Cur, cur-uses}
 use Rattle.effects.specs.Book.{Book}
 use Rattle.effects.specs.Where.{WritesNone}
 use Rattle.effects.specs.Closed.{byName}
+use Rattle.effects.specs.Alike.{Alike, dates-alike, used-row}
 use Rattle.effects.specs.Put.{ForSlot, put-rows, put-low, put-cur}
 use Rattle.effects.specs.Entered.{right-written}
 use Rattle.effects.specs.Write.{came-slot}
 use Rattle.effects.specs.Came.{CameTo, stay-came, move-came, make-came}
 use Rattle.demands.specs.Runs.{left}
-use Rattle.stored.specs.Restamped.{Alike, dates-alike, used-row}
 use Rattle.stored.specs.OnlyNamed.{OnlyNamed, only-one}
-use Rattle.stored.specs.Accepting.{unchanged-end}
 use Rattle.stored.specs.Grown.{slotAtRecord, Grown}
 
 -- an FCB says what its entry says: its blocks are the entry's, and its end is no later

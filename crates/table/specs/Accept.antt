@@ -160,6 +160,9 @@ module _ (G : Geometry) (asked : Asked) (l : Lent) (s : Session) (none : NoneHol
 
 -- ---- and back: facts that hold leave no row of the call that does
 module _ (G : Geometry) (asked : Asked) (l : Lent) (s : Session) where
+  pub opens-right : Opens G l s → NoneHolds (ownRows G (calling 15 asked) l s)
+  opens-right o = ap not (o .name) & le-ltb _ _ (o .ex) & missed _ (o .entry) & tt
+
   pub sizes-right : Sizes G l s → NoneHolds (ownRows G (calling 35 asked) l s)
   sizes-right o = ap not (o .name) & some-right G l s false 1 (o .some) & tt
 
@@ -177,6 +180,11 @@ module _ (G : Geometry) (asked : Asked) (l : Lent) (s : Session) where
   pub writes-right : Writes G l s 21 → NoneHolds (ownRows G (calling 21 asked) l s)
   writes-right o =
       missed _ (o .entry) & o .writable & lt-leb _ _ (o .extent) & either-missed _ _ (o .room) & block-right G l s 21 (o .block) & tt
+
+  pub writes-random : Writes G l s 34 → NoneHolds (ownRows G (calling 34 asked) l s)
+  unfolding isRandom
+  writes-random o =
+      random-low 34 (l .fcb) refl (o .extent) & missed _ (o .entry) & o .writable & either-missed _ _ (o .room) & block-right G l s 34 (o .block) & tt
 
 -- ---- the table
 module _ (G : Geometry) (asked : Asked) (l : Lent) (s : Session) where
