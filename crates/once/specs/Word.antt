@@ -74,11 +74,12 @@ module _ {G : Geometry} (t : Time) (w : Wanted) (d : Disk) (buffer : Bytes) wher
   pub read-can : (v : Bytes) → w .day ≤ lastDay → Timed t → Sane G d → First G (seenOn G d) (d .session .user) (fcbOf (w .book)) → length buffer ≡ recordBytes
       → Stored G (seenOn G d) (d .session .user) (fcbOf (w .book)) (w .day) v → (hasWord G t w d buffer ≡ true) × (bytesAre G d (w .book) (w .day) ≡ v)
   unfolding hasWord
-  read-can v day timed sane first long k =
-      (and-both _ _ (ap not (le-ltb lastDay (w .day) day)) (and-both _ _ (parameters-of G d t sane timed) (and-both _ _ (disk-of G d t sane)
-      (and-both _ _ (first-named G d sane (w .book) first) (and-both _ _ (first-found G d sane (w .book) first) (and-both _ _ (eq-eqb _ _ long)
-      (stored-is G (seenOn G d) (d .session .user) (fcbOf (w .book)) (w .day) v (sane .good .inv .dir) (sane .range .user) k)))))),
-      stored-bytes G (seenOn G d) (d .session .user) (fcbOf (w .book)) (w .day) v (sane .good .inv .dir) (sane .range .user) k)
+  read-can v day timed sane first long k = (
+    and-both _ _ (ap not (le-ltb lastDay (w .day) day)) (and-both _ _ (parameters-of G d t sane timed) (and-both _ _ (disk-of G d t sane)
+        (and-both _ _ (first-named G d sane (w .book) first) (and-both _ _ (first-found G d sane (w .book) first) (and-both _ _ (eq-eqb _ _ long)
+        (stored-is G (seenOn G d) (d .session .user) (fcbOf (w .book)) (w .day) v (sane .good .inv .dir) (sane .range .user) k)))))),
+    stored-bytes G (seenOn G d) (d .session .user) (fcbOf (w .book)) (w .day) v (sane .good .inv .dir) (sane .range .user) k,
+  )
 
 -- ---- theorem 1
 module _ {G : Geometry} (S : Sound G) (countable : G .perBlock * G .blocks < 16777216) (t : Time) (w : Wanted) (nm : Named w) (d : Disk) (buffer : Bytes) where

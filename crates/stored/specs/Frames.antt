@@ -317,7 +317,7 @@ module _ {G : Geometry} (S : Sound G) (P : Stamp → Type 0) (d t : Disk) (sane 
   restamped-only N = only-alike N (d .drive .image) (t .drive .image) (restamped-alike S P d t sane w)
 
   row-same : (e : ℕ) → e < G .entries → used (entryAt G (t .drive .image) e) ≡ true → entryAt G (t .drive .image) e ≡ entryAt G (d .drive .image) e
-  row-same e l u = used-row G (d .drive .image) (t .drive .image) (restamped-alike S P d t sane w) e l 
+  row-same e l u = used-row G (d .drive .image) (t .drive .image) (restamped-alike S P d t sane w) e l
       (sym (used-alike G (d .drive .image) (t .drive .image) (restamped-alike S P d t sane w) e l) ∙ u)
 
   -- whose a block is
