@@ -106,10 +106,10 @@ pub fn log_record(year: u16, day: u16) -> [u8; 128]
 pub fn has_stamp(year: u16, day: u16, bytes: [u8; 128]) -> bool
     ensures { λ r. ⌜ r ≡ hasStamp year day bytes ⌝ }
 {
-    let stamp = stamp_of(year, day);
+    let wanted = stamp_of(year, day);
     let mut i = 0;
     while i < STAMP_BYTES {
-        if bytes[i] != stamp[i] {
+        if bytes[i] != wanted[i] {
             return false;
         }
         i += 1;
