@@ -1,10 +1,8 @@
 -- What hosts are handed of a run of the picker.
 use mathlib.Core.Path.{_≡_, ap, _∙_}
 use mathlib.Core.Bool.{cond}
-use Prim.Native.Nat.{ℕ}
 use Rattle.format.specs.Diskette.{Bytes}
-use Rattle.demands.specs.Runs.{Disk, diskOf}
-use Rattle.picking.specs.declared.Pick.{Pick}
+use Rattle.demands.specs.Runs.{diskOf}
 use Rattle.picking.specs.declared.Told.{Told}
 use Rattle.picking.specs.Numbers.{saysOf}
 use Rattle.picking.specs.Picker as picker

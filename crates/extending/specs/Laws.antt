@@ -1,5 +1,5 @@
 -- The log that is there: how each function of the definition goes on, by what was found and by what its call came to.
-use mathlib.Core.Path.{_≡_, refl, ap, sym, _∙_}
+use mathlib.Core.Path.{_≡_}
 use mathlib.Core.Bool.{Bool, true, false, cond}
 use Prim.Native.Nat.{ℕ, _≤_, _<_}
 use borrow.Author.Tests.{le-leb, lt-leb}
@@ -11,7 +11,8 @@ use Rattle.picking.specs.declared.Wanted.{Wanted}
 use Rattle.picking.specs.declared.Time.{Time}
 use Rattle.picking.specs.declared.Pick.{Pick}
 use Rattle.picking.specs.declared.Pick.the-variants.{Again, NoFirst, LogFull}
-use Rattle.picking.specs.Picker.{Search, Logging, blank, hasStamp, fullLog, accepted, isCode, otherwise, tell, opening, reading, look, searched, written, added, extended}
+use Rattle.picking.specs.Picker.{Search, blank, hasStamp, fullLog, accepted, isCode, otherwise}
+use Rattle.picking.specs.Picker.{tell, opening, reading, look, searched, written, added, extended}
 use Rattle.extending.specs.declared.Searching.{Searching}
 
 -- a search, as code carries it
@@ -48,7 +49,8 @@ module _ (G : Geometry) (t : Time) (w : Wanted) where
   unfolding extended
   extended-searches d n o e a = rw (← e, a)
 
-  pub extended-fails : (d : Disk) (n : ℕ) (o : Outcome) → o ≡ outcomeOf G d (opening t (w .log)) → accepted 15 o ≡ false → (p : Pick) → p ≡ cond (isCode 255 0 o) NoFirst (otherwise o)
+  pub extended-fails : (d : Disk) (n : ℕ) (o : Outcome) → o ≡ outcomeOf G d (opening t (w .log)) → accepted 15 o ≡ false → (p : Pick)
+      → p ≡ cond (isCode 255 0 o) NoFirst (otherwise o)
       → tell p o ≡ extended G t w d n
   unfolding extended
   extended-fails d n o e a p r = rw (← e, a, r)

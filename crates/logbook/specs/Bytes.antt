@@ -1,9 +1,8 @@
 -- Laws of the picker's bytes.
-use mathlib.Core.Path.{_≡_, refl, sym, _∙_}
-use mathlib.Core.Bool.{Bool, true, false}
+use mathlib.Core.Path.{_≡_}
+use mathlib.Core.Bool.{true, false}
 use Prim.Native.Nat.{ℕ, _+_, _%_}
 use native.Mathlib.Nat.{zero-add}
-use lib.Dec.{eqb}
 use lib.ListN.{set, getD}
 use borrow.Author.Tests.{eq-eqb, ne-eqb}
 use Rattle.lists.specs.Tests.{_and_, _or_}
@@ -13,7 +12,8 @@ use Rattle.format.specs.Names.{byteLike}
 use Rattle.picking.specs.Picker.{stampOf, logRecord}
 
 -- the stamp put into bytes 1AH, with CR and LF after it
-pub log-bytes : (year day : ℕ) (stamp : Bytes) → stamp ≡ stampOf year day → (bytes : Bytes) → bytes ≡ splice (copies 128 26) 0 stamp → set (set bytes 9 13) 10 10 ≡ logRecord year day
+pub log-bytes : (year day : ℕ) (stamp : Bytes) → stamp ≡ stampOf year day → (bytes : Bytes) → bytes ≡ splice (copies 128 26) 0 stamp
+    → set (set bytes 9 13) 10 10 ≡ logRecord year day
 unfolding stampOf logRecord splice copies
 log-bytes year day stamp s bytes b = rw (b, s)
 

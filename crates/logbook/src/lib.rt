@@ -14,7 +14,8 @@ ghost use Rattle.demands.specs.Reading.{atRecord};
 ghost use Rattle.picking.specs.declared.Time.{Time};
 ghost use Rattle.picking.specs.declared.Wanted.{Wanted};
 ghost use Rattle.picking.specs.Numbers.{saysOf};
-ghost use Rattle.picking.specs.Picker.{fcbOf, blank, digit, stampOf, logRecord, hasStamp, oneFile, spaceIn, lastDay, isCode, otherwise, writeTrouble, unlocked, relocked};
+ghost use Rattle.picking.specs.Picker.{fcbOf, blank, digit, stampOf, logRecord, hasStamp, oneFile};
+ghost use Rattle.picking.specs.Picker.{spaceIn, lastDay, isCode, otherwise, writeTrouble, unlocked, relocked};
 ghost use Rattle.logbook.specs.Said.{said, readTrouble, closeTold};
 use model::Answer;
 use model::Session;
@@ -106,10 +107,10 @@ pub fn log_record(year: u16, day: u16) -> [u8; 128]
 pub fn has_stamp(year: u16, day: u16, bytes: [u8; 128]) -> bool
     ensures { λ r. ⌜ r ≡ hasStamp year day bytes ⌝ }
 {
-    let stamp = stamp_of(year, day);
+    let wanted = stamp_of(year, day);
     let mut i = 0;
     while i < STAMP_BYTES {
-        if bytes[i] != stamp[i] {
+        if bytes[i] != wanted[i] {
             return false;
         }
         i += 1;

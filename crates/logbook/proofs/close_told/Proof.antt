@@ -1,5 +1,5 @@
 -- `logbook::close_told` meets its contract: by what the answer says.
-use mathlib.Core.Path.{refl, sym, _∙_}
+use mathlib.Core.Path.{sym, _∙_}
 use borrow.Author.Needs.{needs}
 use Rattle.logbook.specs.Said.{of-entries}
 use Rattle.logbook.proofs.close_told.Statement.{statement}

@@ -9,7 +9,7 @@ use borrow.Author.Needs.{needs}
 use borrow.Author.Tests.{eq-eqb, ne-eqb}
 use Rattle.lists.specs.Below.{allBelow, all-none, all-more, all-fails, all-done}
 use Rattle.format.specs.Diskette.{Bytes}
-use Rattle.picking.specs.Picker.{stampOf, hasStamp}
+use Rattle.picking.specs.Picker.{hasStamp}
 use Rattle.logbook.proofs.has_stamp.Statement.{statement}
 use Rattle.logbook.proofs.has_stamp.Tie as tie
 

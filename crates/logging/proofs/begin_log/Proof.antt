@@ -1,5 +1,5 @@
 -- `logging::begin_log` meets its contract: by what 46 came to, and the free records that it told of.
-use mathlib.Core.Path.{refl, sym, _∙_}
+use mathlib.Core.Path.{sym, _∙_}
 use borrow.Author.Needs.{needs}
 use Rattle.format.specs.Diskette.{eightInch}
 use Rattle.demands.specs.Runs.{diskOf, outcomeOf}

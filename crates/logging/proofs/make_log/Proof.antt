@@ -1,5 +1,5 @@
 -- `logging::make_log` meets its contract: by what the make came to.
-use mathlib.Core.Path.{refl, sym, _∙_}
+use mathlib.Core.Path.{sym, _∙_}
 use borrow.Author.Needs.{needs}
 use Rattle.format.specs.Diskette.{eightInch}
 use Rattle.demands.specs.Runs.{diskOf}
