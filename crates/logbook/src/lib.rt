@@ -5,14 +5,11 @@ ghost use mathlib.Core.Bool.{true, false, cond};
 ghost use Prim.Native.Nat.{ℕ, _<_};
 ghost use lib.Dec.{ltb};
 ghost use Rattle.lists.specs.Tests.{_and_};
-ghost use Rattle.format.specs.Diskette.{Geometry};
 ghost use Rattle.format.specs.Fcb.{randomOf};
 ghost use Rattle.model.specs.Kinds.{kindOf, ofRecord};
 ghost use Rattle.model.specs.Lent.{Lent};
 ghost use Rattle.table.specs.Accepted.{acceptedAnswer};
 ghost use Rattle.demands.specs.Reading.{atRecord};
-ghost use Rattle.picking.specs.declared.Time.{Time};
-ghost use Rattle.picking.specs.declared.Wanted.{Wanted};
 ghost use Rattle.picking.specs.Numbers.{saysOf};
 ghost use Rattle.picking.specs.Picker.{fcbOf, blank, digit, stampOf, logRecord, hasStamp, oneFile};
 ghost use Rattle.picking.specs.Picker.{spaceIn, lastDay, isCode, otherwise, writeTrouble, unlocked, relocked};
@@ -217,7 +214,7 @@ pub fn missing(pick: Pick, answer: Answer) -> Pick
 
 // What a refused write of the log comes to.
 pub fn write_trouble(answer: Answer) -> Pick
-    ensures { λ r. ⌜ ((G : Geometry) (t : Time) (w : Wanted) (l : Lent) → r ≡ writeTrouble G t w (said answer l)) ⌝ }
+    ensures { λ r. ⌜ ((l : Lent) → r ≡ writeTrouble (said answer l)) ⌝ }
 {
     if is_code(255, 3, answer) {
         return Pick::LogReadOnly;

@@ -38,17 +38,18 @@ module _ (G : Geometry) (d : Disk) where
       let f : o ≡ outcomeOf G record { drive = d .drive; session = unlocked (d .session) } q = rw p at e in rw (r, ← f)
 
 -- ---- the write and the close
-module _ (G : Geometry) (t : Time) (w : Wanted) (d : Disk) where
-  pub closed-told : (f : Bytes) (o : Outcome) → o ≡ liftedCall G d (closing t f) → (p : Pick) → p ≡ closeTold (o .answer) → tell p o ≡ closed G t w d f
-  unfolding closed
-  closed-told f o e p r = rw (r, ← e)
+pub closed-told : (G : Geometry) (t : Time) (d : Disk) (f : Bytes) (o : Outcome) → o ≡ liftedCall G d (closing t f) → (p : Pick) → p ≡ closeTold (o .answer)
+    → tell p o ≡ closed G t d f
+unfolding closed
+closed-told G t d f o e p r = rw (r, ← e)
 
+module _ (G : Geometry) (t : Time) (w : Wanted) (d : Disk) where
   pub written-closes : (f : Bytes) (n : ℕ) (o : Outcome) → o ≡ liftedCall G d (writing t w f n) → accepted 34 o ≡ true
-      → closed G t w (left o) (o .lent .fcb) ≡ written G t w d f n
+      → closed G t (left o) (o .lent .fcb) ≡ written G t w d f n
   unfolding written
   written-closes f n o e a = rw (← e, a)
 
-  pub written-fails : (f : Bytes) (n : ℕ) (o : Outcome) → o ≡ liftedCall G d (writing t w f n) → accepted 34 o ≡ false → (p : Pick) → p ≡ writeTrouble G t w o
+  pub written-fails : (f : Bytes) (n : ℕ) (o : Outcome) → o ≡ liftedCall G d (writing t w f n) → accepted 34 o ≡ false → (p : Pick) → p ≡ writeTrouble o
       → tell p o ≡ written G t w d f n
   unfolding written
   written-fails f n o e a p r = rw (← e, a, r)

@@ -3,7 +3,6 @@ ghost use mathlib.Core.Path.{_≡_};
 ghost use Rattle.format.specs.Diskette.{eightInch};
 ghost use Rattle.model.specs.Lent.{outcome};
 ghost use Rattle.demands.specs.Runs.{diskOf, outcomeOf};
-ghost use Rattle.picking.specs.declared.Wanted.{Wanted};
 ghost use Rattle.picking.specs.Picker.{notes, callAt, asking, liftedCall, closed, written, made, begun};
 use model::Answer;
 use model::Asked;
@@ -76,8 +75,8 @@ fn close_log(
     fcb: [u8; 36],
     session: Session,
 ) -> Noted
-    ensures { λ r. ⌜ ((w : Wanted) → notes r (now (image .exit)) (now (map .exit))
-        ≡ closed eightInch time w (diskOf (now (image .entry)) (now (map .entry)) session) fcb) ⌝ }
+    ensures { λ r. ⌜ notes r (now (image .exit)) (now (map .exit))
+        ≡ closed eightInch time (diskOf (now (image .entry)) (now (map .entry)) session) fcb ⌝ }
 {
     let mut f = fcb;
     let mut buffer = logbook::blank_record();

@@ -68,7 +68,7 @@ module _ (G : Geometry) (t : Time) (w : Wanted) (E : Session) (over-E : E ≡ en
   abbrev OverLog : Picker.Logging → Type 0
   OverLog l = Over (l .disk)
 
-  closed-over : (d : Disk) (f : Bytes) → Over d → OverLog (Picker.closed G t w d f)
+  closed-over : (d : Disk) (f : Bytes) → Over d → OverLog (Picker.closed G t d f)
   unfolding Picker.closed kindOf
   closed-over d f h = lifts d (Picker.closing t f) refl refl h
 

@@ -104,7 +104,7 @@ module _ {G : Geometry} (S : Sound G) (t : Time) (timed : Timed t) (w : Wanted) 
 
   -- an accepted write is closed, and so logged
   closed-is : accepts G (openedUp d) q ≡ true
-      → closed G t w (left (liftedCall G d q)) (outcomeOf G (openedUp d) q .lent .fcb) ≡ record { pick = Logged; disk = liftedBy (d .session .lifted) end }
+      → closed G t (left (liftedCall G d q)) (outcomeOf G (openedUp d) q .lent .fcb) ≡ record { pick = Logged; disk = liftedBy (d .session .lifted) end }
   unfolding closed
   closed-is a =
       let o : Disk = left (liftedCall G d q) in
@@ -119,7 +119,7 @@ module _ {G : Geometry} (S : Sound G) (t : Time) (timed : Timed t) (w : Wanted) 
   unfolding written
   written-logged a =
       rw (lifted-accepted G d q ∙ a)
-      (ap (closed G t w (left (liftedCall G d q))) (ap (λ (o : Outcome). o .lent .fcb) (lifted-is G d q)) ∙ closed-is a)
+      (ap (closed G t (left (liftedCall G d q))) (ap (λ (o : Outcome). o .lent .fcb) (lifted-is G d q)) ∙ closed-is a)
 
   pub written-trouble : accepts G (openedUp d) q ≡ false
       → written G t w d f n ≡ record {

@@ -149,6 +149,14 @@ liftedCall G d q =
     let o = outcomeOf G record { drive = d .drive; session = unlocked (d .session) } q in
     record { answer = record { a = o .answer .a; h = o .answer .h; session = relocked (d .session) (o .answer .session) }; lent = o .lent }
 
+-- the log closed, which ends a write
+unfoldable pub closed : Geometry → Time → Disk → Bytes → Logging
+closed G t d f = let o = liftedCall G d (closing t f) in tell (cond (accepted 16 o) Logged (otherwise o)) o
+
+-- what a refused write of the log comes to
+unfoldable pub writeTrouble : Outcome → Pick
+writeTrouble o = cond (isCode 255 3 o) LogReadOnly (cond (isCode 5 0 o) DirectoryFull (cond (isCode 2 0 o) DiskFull (otherwise o)))
+
 -- ---- the log searched, one read after the other; where a record was found no more are read
 pub record Search : Type 0 where
   pub found : Bool
@@ -168,16 +176,9 @@ module _ (G : Geometry) (t : Time) (w : Wanted) where
   searched d f n = foldBelow (look f) record { found = false; disk = d } n
 
   -- ---- the log written
-  -- 16 through the FCB that the write handed back
-  unfoldable pub closed : Disk → Bytes → Logging
-  closed d f = let o = liftedCall G d (closing t f) in tell (cond (accepted 16 o) Logged (otherwise o)) o
-
-  unfoldable pub writeTrouble : Outcome → Pick
-  writeTrouble o = cond (isCode 255 3 o) LogReadOnly (cond (isCode 5 0 o) DirectoryFull (cond (isCode 2 0 o) DiskFull (otherwise o)))
-
-  -- record n of the log
+  -- record n of the log, and the close through the FCB that the write handed back
   unfoldable pub written : Disk → Bytes → ℕ → Logging
-  written d f n = let o = liftedCall G d (writing t w f n) in cond (accepted 34 o) (closed (left o) (o .lent .fcb)) (tell (writeTrouble o) o)
+  written d f n = let o = liftedCall G d (writing t w f n) in cond (accepted 34 o) (closed G t (left o) (o .lent .fcb)) (tell (writeTrouble o) o)
 
   -- a new log, and its record 0
   unfoldable pub made : Disk → Logging

@@ -7,16 +7,16 @@ use Rattle.logbook.proofs.write_trouble.Tie as tie
 
 returns : tie.Need-returns
 unfolding writeTrouble
-returns c G t w l = rw (sym (c .before .is-code .ensures l) ∙ c .if1 .taken)
+returns c l = rw (sym (c .before .is-code .ensures l) ∙ c .if1 .taken)
 
 returns-2 : tie.Need-returns-2
 unfolding writeTrouble
-returns-2 c G t w l =
+returns-2 c l =
     rw (sym (c .before .before .before .is-code .ensures l) ∙ c .before .before .if1 .left, sym (c .before .is-code2 .ensures l) ∙ c .if2 .taken)
 
 returns-3 : tie.Need-returns-3
 unfolding writeTrouble
-returns-3 c G t w l =
+returns-3 c l =
     rw (
       sym (c .before .before .before .before .before .is-code .ensures l) ∙ c .before .before .before .before .if1 .left,
       sym (c .before .before .before .is-code2 .ensures l) ∙ c .before .before .if2 .left,
@@ -25,7 +25,7 @@ returns-3 c G t w l =
 
 returns-4 : tie.Need-returns-4
 unfolding writeTrouble
-returns-4 c G t w l =
+returns-4 c l =
     rw (
       sym (c .before .before .before .before .before .before .is-code .ensures l) ∙ c .before .before .before .before .before .if1 .left,
       sym (c .before .before .before .before .is-code2 .ensures l) ∙ c .before .before .before .if2 .left,

@@ -15,10 +15,10 @@ same-length-2 : tie.Need-same-length-2
 same-length-2 c = c .before .before .before .before .before .before .before .before .lifted-call .kept .1 .1 .1 .0
 
 returns : tie.Need-returns
-returns c w =
+returns c =
     let a = c .before .before .before .before .before .before .before .before .before .before .before .before .before .before .before .before .args in
     let d = diskOf (a .image .now) (a .map .now) (a .session) in
-    closed-told eightInch (a .time) w d (a .fcb) _
+    closed-told eightInch (a .time) d (a .fcb) _
     (asked-alike (liftedCall eightInch) d (a .time) 16 (c .before .before .before .before .before .before .before .before .lifted-call .ensures) refl (c .before .before .before .before .before .before .before .before .before .before .before .before .before .blank-record .ensures)) _ (c .close-told .ensures)
 
 pub close-log-spec : {M : Type 1} → statement M

@@ -36,7 +36,7 @@ returns-2 c =
     let d = diskOf (a .image .now) (a .map .now) (a .session) in
     written-fails eightInch (a .time) (a .wanted) d (a .fcb) (a .n) _
     (asked-alike (liftedCall eightInch) d (a .time) 34 (c .before .before .before .before .before .before .before .before .before .before .lifted-call .ensures) (c .before .before .before .before .before .before .before .before .before .before .before .before .before .before .before .before .at-record .ensures) (c .before .before .before .before .before .before .before .before .before .before .before .before .before .before .before .log-record .ensures))
-    (sym (c .before .before .record-accepted .ensures 34 (of-records .write)) ∙ c .before .if1 .left) _ (c .write-trouble .ensures eightInch (a .time) (a .wanted) _)
+    (sym (c .before .before .record-accepted .ensures 34 (of-records .write)) ∙ c .before .if1 .left) _ (c .write-trouble .ensures _)
 
 pub write-log-spec : {M : Type 1} → statement M
 write-log-spec =
