@@ -1,46 +1,32 @@
+-- `twice::pick_twice` meets its contract: each of the two runs meets the picker's, and the second is made on what the first left.
 use borrow.Author.Needs.{needs}
+use Rattle.demands.specs.Runs.{diskOf}
+use Rattle.once.specs.Bytes.{Named}
+use Rattle.twice.specs.Twice.{picked-twice}
 use Rattle.twice.proofs.pick_twice.Statement.{statement}
 use Rattle.twice.proofs.pick_twice.Tie as tie
-use Rattle.twice.proofs.pick_twice.Reads as reads
-use Rattle.twice.proofs.pick_twice.Lts as lts
-use Rattle.benzokamuri.proofs.benzo_pick.Reads as benzo-pick-reads
 
--- src/lib.rt:30:9
-benzo-pick-requires : tie.Need-benzo-pick-requires
-benzo-pick-requires c κs = search needs
+-- the names are arrays of eleven bytes
+named : (c : tie.Start) → Named (c .args .wanted)
+named c = record { book = search needs; log = search needs }
 
--- src/lib.rt:32:9
-benzo-pick-requires-2 : tie.Need-benzo-pick-requires-2
-benzo-pick-requires-2 c κs = search needs
-
--- src/lib.rt:17:1
-same-length : tie.Need-same-length
-same-length c = search needs
-
--- src/lib.rt:17:1
-same-length-2 : tie.Need-same-length-2
-same-length-2 c = search needs
-
--- src/lib.rt:17:1
-same-length-3 : tie.Need-same-length-3
-same-length-3 c = search needs
-
--- src/lib.rt:17:1
-same-length-4 : tie.Need-same-length-4
-same-length-4 c = search needs
-
--- src/lib.rt:17:1
 returns : tie.Need-returns
-returns c = ?
+returns c =
+    let m = c .before .before .before .before .before .before .before .before .before .before .before .before .before .before .before .before .before .benzo-pick in
+    let n = c .before .before .before .before .before .before .benzo-pick2 in
+    let s = c .before .before .before .before .before .before .before .before .before .before .before .before .before .before .before .before .before .before .before .before .before .before .before .before .before in
+    let a = s .args in
+    picked-twice (a .wanted) (named s) (a .time) (a .again) (diskOf (a .image .now) (a .map .now) (a .session)) (a .word .now) (a .other .now) _ _ _ _ _ _ _
+    (m .ensures) (n .ensures)
 
 pub pick-twice-spec : {M : Type 1} → statement M
 pick-twice-spec =
     tie.close
     (tie.spec
-    benzo-pick-requires
-    benzo-pick-requires-2
-    same-length
-    same-length-2
-    same-length-3
-    same-length-4
+    (λ c κs. search needs)
+    (λ c κs. search needs)
+    (λ c. search needs)
+    (λ c. search needs)
+    (λ c. search needs)
+    (λ c. search needs)
     returns)
