@@ -1,4 +1,5 @@
 -- `twice::pick_twice` meets its contract: each of the two runs meets the picker's, and the second is made on what the first left.
+use mathlib.Core.Path.{_∙_}
 use borrow.Author.Needs.{needs}
 use Rattle.demands.specs.Runs.{diskOf}
 use Rattle.once.specs.Bytes.{Named}
@@ -9,6 +10,18 @@ use Rattle.twice.proofs.pick_twice.Tie as tie
 -- the names are arrays of eleven bytes
 named : (c : tie.Start) → Named (c .args .wanted)
 named c = record { book = search needs; log = search needs }
+
+same-length : tie.Need-same-length
+same-length c = c .before .before .before .before .before .before .benzo-pick2 .kept .1 .1 .0 ∙ c .before .before .before .before .before .before .before .before .before .before .before .before .before .before .before .before .before .benzo-pick .kept .1 .1 .0
+
+same-length-2 : tie.Need-same-length-2
+same-length-2 c = c .before .before .before .before .before .before .benzo-pick2 .kept .1 .1 .1 .0 ∙ c .before .before .before .before .before .before .before .before .before .before .before .before .before .before .before .before .before .benzo-pick .kept .1 .1 .1 .0
+
+same-length-3 : tie.Need-same-length-3
+same-length-3 c = c .before .before .before .before .before .before .before .before .before .before .before .before .before .before .before .before .before .benzo-pick .kept .1 .1 .1 .1 .0
+
+same-length-4 : tie.Need-same-length-4
+same-length-4 c = c .before .before .before .before .before .before .benzo-pick2 .kept .1 .1 .1 .1 .0
 
 returns : tie.Need-returns
 returns c =
@@ -25,8 +38,8 @@ pick-twice-spec =
     (tie.spec
     (λ c κs. search needs)
     (λ c κs. search needs)
-    (λ c. search needs)
-    (λ c. search needs)
-    (λ c. search needs)
-    (λ c. search needs)
+    same-length
+    same-length-2
+    same-length-3
+    same-length-4
     returns)
