@@ -1,7 +1,7 @@
 -- What two runs of the picker that meet its contract come to: document 02's "however often it is started".
 use mathlib.Core.Path.{_≡_, refl, ap, sym, subst, _∙_}
 use mathlib.Core.Logic.{_⊎_, inl, inr}
-use mathlib.Core.Bool.{Bool, true, cond}
+use mathlib.Core.Bool.{Bool, cond}
 use Prim.Native.Nat.{ℕ, _<_}
 use native.Mathlib.Omega.{arith}
 use lib.ListN.{length}
@@ -18,7 +18,6 @@ use Rattle.picking.specs.Picker.{picked}
 use Rattle.once.specs.Bytes.{Named}
 use Rattle.once.specs.Calls.{Timed}
 use Rattle.once.specs.Picks.{PickAccess}
-use Rattle.once.specs.Again.{SecondRun}
 use Rattle.once.specs.Eight.{three-second}
 use Rattle.benzokamuri.specs.declared.Picked.{Picked}
 use Rattle.benzokamuri.specs.Handed.{Handed}
