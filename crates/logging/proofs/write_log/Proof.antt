@@ -19,7 +19,7 @@ returns : tie.Need-returns
 returns c =
     let a = c .before .before .before .before .before .before .before .before .before .before .before .before .before .before .before .before .before .before .before .before .before .before .before .before .before .args in
     let d = diskOf (a .image .now) (a .map .now) (a .session) in
-    c .before .before .before .before .close-log .ensures (a .wanted)
+    c .before .before .before .before .close-log .ensures
     ∙ written-closes eightInch (a .time) (a .wanted) d (a .fcb) (a .n) _
     (asked-alike (liftedCall eightInch) d (a .time) 34 (c .before .before .before .before .before .before .before .before .before .before .before .before .before .before .before .before .lifted-call .ensures) (c .before .before .before .before .before .before .before .before .before .before .before .before .before .before .before .before .before .before .before .before .before .before .at-record .ensures) (c .before .before .before .before .before .before .before .before .before .before .before .before .before .before .before .before .before .before .before .before .before .log-record .ensures))
     (sym (c .before .before .before .before .before .before .before .before .record-accepted .ensures 34 (of-records .write)) ∙ c .before .before .before .before .before .before .before .if1 .taken)
