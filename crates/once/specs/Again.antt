@@ -1,19 +1,18 @@
 -- Theorem 2: "again" is told exactly where no earlier trouble is and a log record has the year and day; after "picked and logged" the log has one record
 -- more, which has them, and all that it had. Theorem 3: a second run answers again, with the same word, and harms nothing.
 use mathlib.Core.Path.{_≡_, refl, ap, sym, _∙_, subst}
-use mathlib.Core.Logic.{_⊎_, inl, inr}
+use mathlib.Core.Logic.{_⊎_}
 use mathlib.Core.Bool.{Bool, true, false, cond, not}
 use Prim.Native.Nat.{ℕ, _+_, _*_, _%_, _≤_, _<_}
 use native.Mathlib.Omega.{arith}
 use lib.Dec.{eqb, leb, ltb}
-use lib.ListN.{length, getD}
+use lib.ListN.{length}
 use borrow.Author.Tests.{eq-eqb, le-ltb, not-false}
 use Rattle.lists.specs.Cases.{split, bool-cases, not-both, cond-either}
 use Rattle.lists.specs.Tests.{_and_, and-left, and-right, and-both}
 use Rattle.lists.specs.Below.{any-at, any-some}
 use Rattle.lists.specs.Splice.{length-copies}
 use Rattle.format.specs.Diskette.{Bytes, Geometry, Sound, recordBytes}
-use Rattle.format.specs.Names.{nameBytes}
 use Rattle.format.specs.Entries.{entryAt, named, findNamed}
 use Rattle.format.specs.declared.Found.the-variants.{Nothing}
 use Rattle.format.specs.Fcb.{randomOf}
@@ -36,33 +35,22 @@ use Rattle.stored.specs.Told.{is-stored, stored-is, stored-bytes}
 use Rattle.picking.specs.declared.Wanted.{Wanted}
 use Rattle.picking.specs.declared.Time.{Time}
 use Rattle.picking.specs.declared.Pick.{Pick}
-use Rattle.picking.specs.declared.Pick.the-variants.{Logged, Again, DayOver, NoBook, NoWord, OneFile, NoFirst, LogFull, LogReadOnly, DirectoryFull, DiskFull, Other}
-use Rattle.picking.specs.Picker.{Picked, fcbOf, hasStamp, logRecord, oneFile, lastDay, fullLog, callAt, picked}
+use Rattle.picking.specs.declared.Pick.the-variants.{Logged, Again, DayOver, NoBook, NoWord, OneFile, NoFirst, Other}
+use Rattle.picking.specs.Numbers.{saysOf}
+use Rattle.picking.specs.Picker.{Picked, fcbOf, hasStamp, logRecord, oneFile, lastDay, fullLog, picked}
 use Rattle.once.specs.Bytes.{Named, begins-fcbOf, name-fcbOf, logRecord-has}
 use Rattle.once.specs.Calls.{Timed}
-use Rattle.once.specs.Growth.{LogGrew}
 use Rattle.once.specs.Logs.{isLogged, first-at}
 use Rattle.once.specs.Picks.{hasWord, PickAccess, PickGrew, Left, same, more, pick-run}
 use Rattle.once.specs.Right.{parameters-of, disk-of}
 use Rattle.once.specs.Same.{size-same}
 use Rattle.once.specs.Table.{parametersAre, diskIs, nameIs, hasEntry, extentAt, sizeIs, recordIs, bytesAre, someEmpty, someFree, hasDay, nextEntry, logLocked, noBlock, growing, beginning, logAnswer, wordAnswer, bookAnswer, answer}
 use Rattle.once.specs.Unharmed.{trouble-unharmed}
-use Rattle.once.specs.Word.{CanRead, can-read, read-can, first-named, first-found}
+use Rattle.once.specs.Word.{can-read, read-can, first-named, first-found}
 
 -- ---- "again" as a test
 abbrev isAgain : Pick → Bool
-isAgain Logged = false
-isAgain Again = true
-isAgain DayOver = false
-isAgain NoBook = false
-isAgain NoWord = false
-isAgain OneFile = false
-isAgain NoFirst = false
-isAgain LogFull = false
-isAgain LogReadOnly = false
-isAgain DirectoryFull = false
-isAgain DiskFull = false
-isAgain (Other a h) = false
+isAgain p = eqb (saysOf p .number) 1
 
 -- a row before it does not hold
 past : (b : Bool) (x y : Pick) → isAgain x ≡ false → isAgain (cond b x y) ≡ true → (b ≡ false) × (isAgain y ≡ true)

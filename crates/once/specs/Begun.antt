@@ -14,7 +14,6 @@ use Rattle.format.specs.Notes.{findFree}
 use Rattle.format.specs.Fcb.{randomOf}
 use Rattle.format.specs.Found.{isFound}
 use Rattle.format.specs.declared.Found.{Found}
-use Rattle.format.specs.declared.Found.the-variants.{At, Nothing}
 use Rattle.facts.specs.Found.{FoundAt, is-found, none-says, found-cases}
 use Rattle.facts.specs.Find.{file-says}
 use Rattle.facts.specs.Naming.{file-named}

@@ -1,10 +1,9 @@
 -- What "picked and logged" leaves: the log has one record more, at its old size; the rest of the disk is as it was.
-use mathlib.Core.Path.{_≡_, refl, ap, sym, _∙_, subst}
+use mathlib.Core.Path.{_≡_, refl, sym, _∙_, subst}
 use mathlib.Core.Logic.{inl}
 use mathlib.Core.Bool.{true, false}
-use Prim.Native.Nat.{ℕ, _+_, _≤_, _<_}
-use native.Mathlib.Omega.{arith}
-use Rattle.format.specs.Diskette.{Bytes, Geometry, Sound, lastRecord}
+use Prim.Native.Nat.{ℕ, _<_}
+use Rattle.format.specs.Diskette.{Bytes, Geometry, Sound}
 use Rattle.model.specs.declared.Asked.{Asked}
 use Rattle.model.specs.Stamps.{Stamp}
 use Rattle.model.specs.Table.{timeRight}
@@ -12,21 +11,19 @@ use Rattle.fields.specs.Agree.{SameName, named-asked}
 use Rattle.effects.specs.Where.{Frame, one-more, frame-wider}
 use Rattle.effects.specs.Alike.{alike-none}
 use Rattle.effects.specs.Closed.{byName}
-use Rattle.table.specs.Total.{range-lifted}
-use Rattle.demands.specs.Runs.{Request, Disk, outcomeOf, left, accepts, liftedBy}
+use Rattle.demands.specs.Runs.{Disk, accepts, liftedBy}
 use Rattle.stored.specs.Closed.{Sane, seenOn, First, Fresh, Access, Restamped}
 use Rattle.stored.specs.Restamped.{restamped-alike}
 use Rattle.stored.specs.OnlyNamed.{by-used}
 use Rattle.stored.specs.Frames.{FileBlock, frame-then, write-close-frame, restamped-only, block-restamped, access-frame}
-use Rattle.stored.specs.Accepting.{MadeAt}
 use Rattle.stored.specs.Grown.{Grown, grown-named, grown-file, grown-only}
 use Rattle.stored.specs.Growing.{write-close-grown, end-sane, end-user}
 use Rattle.picking.specs.declared.Wanted.{Wanted}
 use Rattle.picking.specs.declared.Time.{Time}
 use Rattle.picking.specs.Picker.{fcbOf, blank, logRecord, callAt, writing}
-use Rattle.once.specs.Bytes.{Named, length-blank}
+use Rattle.once.specs.Bytes.{length-blank}
 use Rattle.once.specs.Calls.{Timed}
-use Rattle.once.specs.Grew.{grown-restamped, grown-made}
+use Rattle.once.specs.Grew.{grown-restamped}
 use Rattle.once.specs.Lifting.{openByte, openedUp}
 use Rattle.once.specs.Same.{size-same}
 use Rattle.once.specs.Table.{sizeIs}

@@ -26,7 +26,8 @@ use Rattle.stored.specs.Told.{extentEntry, bytesStored, entry-named, told-named
 use Rattle.picking.specs.declared.Wanted.{Wanted}
 use Rattle.picking.specs.declared.Time.{Time}
 use Rattle.picking.specs.declared.Pick.{Pick}
-use Rattle.picking.specs.declared.Pick.the-variants.{Logged, Again, DayOver, NoBook, NoWord, OneFile, NoFirst, LogFull, LogReadOnly, DirectoryFull, DiskFull, Other}
+use Rattle.picking.specs.declared.Pick.the-variants.{Logged, Again, NoFirst, Other}
+use Rattle.picking.specs.Numbers.{saysOf}
 use Rattle.picking.specs.Picker.{Logging, fcbOf, blank, hasStamp, fullLog, callAt, isCode, opening, writing, searched, added, written, extended}
 use Rattle.once.specs.Bytes.{Named, begins-fcbOf, ex-fcbOf}
 use Rattle.once.specs.Calls.{Timed, open-by, open-accepts}
@@ -39,18 +40,7 @@ use Rattle.once.specs.Lifting.{openedUp}
 
 -- the answer is "picked and logged"
 abbrev pub isLogged : Pick → Bool
-isLogged Logged = true
-isLogged Again = false
-isLogged DayOver = false
-isLogged NoBook = false
-isLogged NoWord = false
-isLogged OneFile = false
-isLogged NoFirst = false
-isLogged LogFull = false
-isLogged LogReadOnly = false
-isLogged DirectoryFull = false
-isLogged DiskFull = false
-isLogged (Other a h) = false
+isLogged p = eqb (saysOf p .number) 0
 
 -- the stamps that may be put: access stamps of the log, of the time that is asked with
 abbrev pub LogAccess : Geometry → Time → Wanted → Disk → Stamp → Type 0

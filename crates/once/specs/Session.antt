@@ -1,5 +1,5 @@
 -- The session that a run hands back: its search is ended if any call was accepted, which is so exactly where the book was opened; all else in it stays.
-use mathlib.Core.Path.{_≡_, refl, ap, sym, _∙_, subst}
+use mathlib.Core.Path.{_≡_, refl, ap, sym, _∙_}
 use mathlib.Core.Bool.{Bool, true, false, cond, not}
 use Prim.Native.Nat.{ℕ}
 use native.Mathlib.Omega.{arith}
@@ -10,8 +10,7 @@ use Rattle.lists.specs.Fold.{fold-keeps}
 use Rattle.format.specs.Diskette.{Bytes, Geometry}
 use Rattle.format.specs.Fcb.{randomOf}
 use Rattle.model.specs.declared.Session.{Session}
-use Rattle.model.specs.declared.Kind.{Kind}
-use Rattle.model.specs.declared.Kind.the-variants.{Quiet, Search, User, Close, Create, Read, Write}
+use Rattle.model.specs.declared.Kind.the-variants.{Search, User}
 use Rattle.model.specs.Kinds.{kindOf, same}
 use Rattle.model.specs.declared.Asked.{Asked}
 use Rattle.model.specs.Lent.{Drive, Lent, Outcome, ended, withLifted}

@@ -3,25 +3,23 @@
 use mathlib.Core.Path.{_≡_, refl, ap, sym, _∙_, subst}
 use mathlib.Core.Logic.{_⊎_, inl, inr}
 use mathlib.Core.Bool.{true, false}
-use Prim.Native.Nat.{ℕ, _*_, _≤_, _<_}
+use Prim.Native.Nat.{ℕ, _*_, _<_}
 use native.Mathlib.Omega.{arith}
-use lib.ListN.{length, getD}
+use lib.ListN.{getD}
 use borrow.Author.Tests.{leb-true}
-use Rattle.lists.specs.Cases.{split, bool-cases, not-both}
+use Rattle.lists.specs.Cases.{split, bool-cases}
 use Rattle.format.specs.Diskette.{Bytes, Geometry, Sound}
 use Rattle.format.specs.Entries.{entryAt}
-use Rattle.format.specs.Notes.{noteAt, isPending, recordedNote}
+use Rattle.format.specs.Notes.{noteAt, isPending}
 use Rattle.model.specs.Stamps.{Stamp}
 use Rattle.invariant.specs.Good.{Good}
 use Rattle.invariant.specs.Stamps.{stamped-all}
-use Rattle.effects.specs.View.{viewOf, NewRow}
-use Rattle.effects.specs.Effect.{none-one}
 use Rattle.effects.specs.Where.{Where, in-stamp, frame-wider}
 use Rattle.effects.specs.Closed.{byName}
 use Rattle.effects.specs.Stamps.{Lies, lies}
 use Rattle.demands.specs.Runs.{Disk}
-use Rattle.stored.specs.Closed.{Sane, seenOn, Restamped}
-use Rattle.stored.specs.Restamped.{unstamped, sane-restamped, restamped-alike}
+use Rattle.stored.specs.Closed.{Sane, Restamped}
+use Rattle.stored.specs.Restamped.{unstamped}
 use Rattle.stored.specs.OnlyNamed.{OnlyNamed, by-used}
 use Rattle.stored.specs.Grown.{grown-only}
 use Rattle.stored.specs.Frames.{FileBlock, touched-second, restamped-bytes, restamped-beside, restamped-only, block-restamped}
@@ -29,9 +27,9 @@ use Rattle.picking.specs.declared.Wanted.{Wanted}
 use Rattle.picking.specs.declared.Time.{Time}
 use Rattle.picking.specs.declared.Pick.{Pick}
 use Rattle.picking.specs.declared.Pick.the-variants.{Logged, Again, DayOver, NoBook, NoWord, OneFile, NoFirst, LogFull, LogReadOnly, DirectoryFull, DiskFull, Other}
-use Rattle.picking.specs.Picker.{Picked, fcbOf, picked}
+use Rattle.picking.specs.Picker.{fcbOf, picked}
 use Rattle.once.specs.Bytes.{Named}
-use Rattle.once.specs.Logs.{isLogged, LogAccess}
+use Rattle.once.specs.Logs.{isLogged}
 use Rattle.once.specs.Session.{anyAccepted, nothing-accepted, accepted-sane}
 use Rattle.once.specs.Picks.{BookAccess, PickAccess, PickGrew, Left, same, more, pick-run}
 

@@ -1,25 +1,22 @@
 -- Theorem 1: the word is what call 33 gives for that record through a fresh open, on the disk as it came; it is handed out whenever it can be read,
 -- and else the bytes lent stay.
-use mathlib.Core.Path.{_≡_, refl, ap, sym, _∙_, subst}
+use mathlib.Core.Path.{_≡_, ap, sym, _∙_, subst}
 use mathlib.Core.Bool.{Bool, true, false, cond, not}
-use Prim.Native.Nat.{ℕ, _*_, _≤_, _<_}
+use Prim.Native.Nat.{_*_, _≤_, _<_}
 use native.Mathlib.Omega.{arith}
-use lib.Dec.{eqb, ltb}
 use lib.ListN.{length}
 use borrow.Author.Tests.{eqb-true, eq-eqb, ltb-false, le-ltb, not-true}
 use Rattle.lists.specs.Tests.{and-left, and-right, and-both}
 use Rattle.format.specs.Diskette.{Bytes, Geometry, Sound, recordBytes}
 use Rattle.format.specs.Entries.{entryAt}
 use Rattle.format.specs.Found.{isFound}
-use Rattle.format.specs.declared.Found.{Found}
-use Rattle.format.specs.declared.Found.the-variants.{At, Nothing}
 use Rattle.facts.specs.Found.{is-found}
 use Rattle.facts.specs.Naming.{file-named}
 use Rattle.consistency.specs.Naming.{file-found}
 use Rattle.model.specs.Table.{timeRight}
 use Rattle.demands.specs.Runs.{Disk}
 use Rattle.stored.specs.Closed.{Sane, seenOn, First, Stored}
-use Rattle.stored.specs.Looking.{entry-name, ReadsAs, reads-as, as-stored, as-first, opening-of}
+use Rattle.stored.specs.Looking.{entry-name, ReadsAs, reads-as, as-stored, opening-of}
 use Rattle.stored.specs.Told.{stored-is, stored-bytes, is-stored}
 use Rattle.picking.specs.declared.Wanted.{Wanted}
 use Rattle.picking.specs.declared.Time.{Time}
@@ -29,7 +26,7 @@ use Rattle.once.specs.Calls.{Timed}
 use Rattle.once.specs.Logs.{first-at}
 use Rattle.once.specs.Picks.{hasWord, pick-run}
 use Rattle.once.specs.Right.{timed-of, sane-of, parameters-of, disk-of}
-use Rattle.once.specs.Table.{parametersAre, diskIs, nameIs, extentAt, recordIs, bytesAre}
+use Rattle.once.specs.Table.{nameIs, extentAt, bytesAre}
 
 -- ---- a file whose extent 0 is there, as facts and as tests
 module _ (G : Geometry) (d : Disk) (sane : Sane G d) (name : Bytes) (first : First G (seenOn G d) (d .session .user) (fcbOf name)) where

@@ -13,7 +13,6 @@ use Rattle.format.specs.Names.{nameLike}
 use Rattle.format.specs.Fcb.{fcbBytes, randomOf}
 use Rattle.model.specs.declared.Asked.{Asked}
 use Rattle.model.specs.declared.Session.{Session}
-use Rattle.model.specs.declared.Answer.{Answer}
 use Rattle.model.specs.Lent.{Outcome, lift, protect, protected}
 use Rattle.table.specs.Accepted.{acceptedAnswer}
 use Rattle.demands.specs.Runs.{Request, Disk, diskOf, outcomeOf, left}

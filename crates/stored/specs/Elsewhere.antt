@@ -1,18 +1,16 @@
 -- A file that gained a record: to every other file it is the effect of a call that names the file, so their closed records stay.
-use mathlib.Core.Path.{_≡_, refl, ap, sym, _∙_}
-use mathlib.Core.Logic.{_⊎_, inl, inr}
-use mathlib.Core.Bool.{true, false}
-use Prim.Native.Nat.{ℕ, _/_, _%_, _≤_, _<_}
+use mathlib.Core.Path.{_≡_, ap, sym, _∙_}
+use mathlib.Core.Logic.{inl, inr}
+use Prim.Native.Nat.{ℕ, _/_, _%_, _≤_}
 use native.Mathlib.Omega.{arith}
 use native.Mathlib.Nat.{mod-lt}
 use Rattle.lists.specs.Cases.{split, eq-or-ne, not-both}
 use Rattle.format.specs.Diskette.{Bytes, Geometry, Sound, diskRecord, extentRecords}
-use Rattle.format.specs.Entries.{named, slotOf, empty, used}
+use Rattle.format.specs.Entries.{slotOf, empty, used}
 use Rattle.facts.specs.Naming.{file-named}
 use Rattle.facts.specs.Slots.{slot-for-low}
 use Rattle.disk.specs.Places.{block-once, block-record}
 use Rattle.rows.specs.Entries.{block-past}
-use Rattle.consistency.specs.Facts.{Stands}
 use Rattle.consistency.specs.Naming.{file-used}
 use Rattle.consistency.specs.Reflect.{used-full, used-no-dates, empty-no-dates}
 use Rattle.model.specs.Target.{placeIn}
