@@ -6,12 +6,14 @@ use mathlib.Core.Bool.{Bool, true, false}
 use Prim.Native.Nat.{ℕ, _≤_, _<_}
 use lib.Dec.{eqb}
 use Rattle.lists.specs.Cases.{split, bool-cases, not-both, refute}
+use Rattle.lists.specs.Tests.{_and_, and-fails-left}
+use Rattle.lists.specs.Below.{any-cong}
 use Rattle.lists.specs.Fold.{fold-cong}
 use Rattle.format.specs.Diskette.{Bytes, Geometry, Sound, recordAt}
 use Rattle.format.specs.Entries.{entryAt, userOf, used, empty, named, isFile, findFile, findNamed, findEmpty}
-use Rattle.format.specs.Dates.{isDates}
+use Rattle.format.specs.Dates.{isLabel, isDates, asks}
 use Rattle.facts.specs.Found.{find-cong}
-use Rattle.consistency.specs.Reflect.{used-no-dates, empty-no-dates}
+use Rattle.consistency.specs.Reflect.{used-no-dates, empty-no-dates, label-no-dates}
 use Rattle.consistency.specs.Naming.{named-used, file-used}
 use Rattle.disk.specs.Places.{blockRecords}
 use Rattle.rows.specs.Entries.{areaRecords}
@@ -37,6 +39,19 @@ module _ (G : Geometry) (img img′ : Bytes) (a : Alike G img img′) where
   pub dates-alike : (k : ℕ) → k < G .entries → isDates (entryAt G img′ k) ≡ isDates (entryAt G img k)
   unfolding isDates
   dates-alike k l = ap (λ (x : ℕ). eqb x 33) (a .user k l)
+
+  -- so are labels, and what they ask for
+  label-alike : (what : Bytes → Bool) (k : ℕ) → k < G .entries
+      → (isLabel (entryAt G img′ k) and what (entryAt G img′ k)) ≡ (isLabel (entryAt G img k) and what (entryAt G img k))
+  unfolding isLabel
+  label-alike what k l =
+      split (bool-cases (isLabel (entryAt G img k)))
+      (λ t. ap (λ (r : Bytes). isLabel r and what r) (a .row k l (label-no-dates (entryAt G img k) t)))
+      (λ f. and-fails-left _ _ (ap (λ (x : ℕ). eqb x 32) (a .user k l) ∙ f) ∙ sym (and-fails-left _ _ f))
+
+  pub asks-alike : (what : Bytes → Bool) → asks G (entryAt G img′) what ≡ asks G (entryAt G img) what
+  unfolding asks
+  asks-alike what = any-cong _ _ (G .entries) (label-alike what)
 
   pub alike-back : Alike G img′ img
   alike-back = record {

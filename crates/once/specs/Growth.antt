@@ -41,12 +41,12 @@ pub record LogGrew (G : Geometry) (w : Wanted) (d e : Disk) : Type 0 where
 
 -- before access stamps of the log that were put
 module _ {G : Geometry} (S : Sound G) (a : Asked) (w : Wanted) (d m : Disk) (sane : Sane G d)
-    (r : Restamped G (Access G a (d .drive .image) (d .session .user) (fcbOf (w .log))) d m) (e : Disk) (g : LogGrew G w m e) where
+    (r : Restamped G (Access G a d (fcbOf (w .log))) d m) (e : Disk) (g : LogGrew G w m e) where
   abbrev File : Bytes
   File = fcbOf (w .log)
 
   abbrev P : Stamp → Type 0
-  P = Access G a (d .drive .image) (d .session .user) (fcbOf (w .log))
+  P = Access G a d (fcbOf (w .log))
 
   abbrev Blocks : ℕ → Type 0
   Blocks = FileBlock G (d .drive .image) (d .drive .map) (d .session .user) (fcbOf (w .log))

@@ -44,7 +44,7 @@ isLogged p = eqb (saysOf p .number) 0
 
 -- the stamps that may be put: access stamps of the log, of the time that is asked with
 abbrev pub LogAccess : Geometry → Time → Wanted → Disk → Stamp → Type 0
-LogAccess G t w d = Access G (callAt t 0) (d .drive .image) (d .session .user) (fcbOf (w .log))
+LogAccess G t w d = Access G (callAt t 0) d (fcbOf (w .log))
 
 pub data LogRun (G : Geometry) (t : Time) (w : Wanted) (d : Disk) (l : Logging) : Type 0 where
   stayed : l .pick ≡ logAnswer G w d → isLogged (l .pick) ≡ false → Restamped G (LogAccess G t w d) d (l .disk) → LogRun G t w d l
@@ -69,9 +69,7 @@ module _ {G : Geometry} (S : Sound G) (t : Time) (timed : Timed t) (w : Wanted) 
 
   -- ---- stamps that were put before
   access-on : (d m : Disk) → Sane G d → Restamped G (LogAccess G t w d) d m → (x : Stamp) → LogAccess G t w m x → LogAccess G t w d x
-  access-on d m sane r x h =
-      access-before S (LogAccess G t w d) d m sane r (d .session .user) (sane .range .user) log (callAt t 0) x
-      (subst (λ (u : ℕ). Access G (callAt t 0) (m .drive .image) u log x) (r .user) h)
+  access-on d m sane r x h = access-before S (LogAccess G t w d) d m sane r (callAt t 0) log x h
 
   pub run-before : (d m : Disk) → Sane G d → Restamped G (LogAccess G t w d) d m → (l : Logging) → LogRun G t w m l → LogRun G t w d l
   run-before d m sane r l (stayed p n s) =

@@ -49,7 +49,7 @@ hasWord G t w d buffer =
 
 -- the stamps that may be put: access stamps of the book and of the log, of the time that is asked with
 abbrev pub BookAccess : Geometry → Time → Wanted → Disk → Stamp → Type 0
-BookAccess G t w d = Access G (callAt t 0) (d .drive .image) (d .session .user) (fcbOf (w .book))
+BookAccess G t w d = Access G (callAt t 0) d (fcbOf (w .book))
 
 abbrev pub PickAccess : Geometry → Time → Wanted → Disk → Stamp → Type 0
 PickAccess G t w d x = BookAccess G t w d x ⊎ LogAccess G t w d x
@@ -202,9 +202,7 @@ module _ {G : Geometry} (S : Sound G) (countable : G .perBlock * G .blocks < 167
         sane-read = sane-restamped S (BookAccess G t w d) d (left u) sane read
 
         log-access : (x : Stamp) → LogAccess G t w (left u) x → PickAccess G t w d x
-        log-access x h =
-            inr (access-before S (BookAccess G t w d) d (left u) sane read (d .session .user) (sane .range .user) (fcbOf (w .log)) (callAt t 0) x
-            (subst (λ (v : ℕ). Access G (callAt t 0) (left u .drive .image) v (fcbOf (w .log)) x) (read .user) h))
+        log-access x h = inr (access-before S (BookAccess G t w d) d (left u) sane read (callAt t 0) (fcbOf (w .log)) x h)
 
         -- what became of the log
         log-left : oneFile w ≡ false → (l : Logging) → LogRun G t w (left u) l → (l .pick ≡ logAnswer G w d)

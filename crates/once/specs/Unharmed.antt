@@ -9,7 +9,8 @@ use lib.ListN.{getD}
 use borrow.Author.Tests.{leb-true}
 use Rattle.lists.specs.Cases.{split, bool-cases}
 use Rattle.format.specs.Diskette.{Bytes, Geometry, Sound}
-use Rattle.format.specs.Entries.{entryAt}
+use Rattle.format.specs.Entries.{entryAt, exOf}
+use Rattle.facts.specs.Naming.{file-named}
 use Rattle.format.specs.Notes.{noteAt, isPending}
 use Rattle.model.specs.Stamps.{Stamp}
 use Rattle.invariant.specs.Good.{Good}
@@ -22,7 +23,7 @@ use Rattle.stored.specs.Closed.{Sane, Restamped}
 use Rattle.stored.specs.Restamped.{unstamped}
 use Rattle.stored.specs.OnlyNamed.{OnlyNamed, by-used}
 use Rattle.stored.specs.Grown.{grown-only}
-use Rattle.stored.specs.Frames.{FileBlock, touched-second, restamped-bytes, restamped-beside, restamped-only, block-restamped}
+use Rattle.stored.specs.Frames.{FileBlock, touched-second, restamped-bytes, restamped-only, block-restamped}
 use Rattle.picking.specs.declared.Wanted.{Wanted}
 use Rattle.picking.specs.declared.Time.{Time}
 use Rattle.picking.specs.declared.Pick.{Pick}
@@ -91,8 +92,8 @@ module _ {G : Geometry} (S : Sound G) (countable : G .perBlock * G .blocks < 167
       out : Lies G (PickAccess G t w d) i → (getD (m .drive .image) i 0 ≡ getD (d .drive .image) i 0) ⊎ Touched G t w d (picked G t w d buffer .disk) i
       out (lies x p (inl h)) = inr (inr (lies x p h))
       out (lies x p (inr h)) =
-          split (restamped-beside S (PickAccess G t w d) d m sane r i x p) (λ q. inl q)
-          (λ q. inr (inl (in-stamp (x .entry) (x .which) p q (inl (h .file)))))
+          inr (inl (in-stamp (x .entry) (x .which) p (h .dates)
+          (inl (file-named G user (fcbOf (w .log)) 1 (exOf (fcbOf (w .log))) (entryAt G (d .drive .image) (x .entry)) (h .file)))))
 
   only-log : (g : PickGrew G t w d e) → OnlyNamed G (byName user (fcbOf (w .log))) (entryAt G (g .mid .drive .image)) (entryAt G (e .drive .image))
   only-log g =

@@ -7,10 +7,12 @@ use mathlib.Core.List.{List, []}
 use Prim.Native.Nat.{ℕ, _/_, _%_, _≤_, _<_}
 use lib.ListN.{length, getD}
 use Rattle.format.specs.Diskette.{Bytes, Geometry, extentRecords, slotCount}
-use Rattle.format.specs.Entries.{entryAt, exOf, slotOf, slotFor, isFile, named, countIn}
-use Rattle.format.specs.Dates.{dated}
+use Rattle.format.specs.Entries.{entryAt, exOf, slotOf, slotFor, isFile, countIn}
+use Rattle.format.specs.Dates.{isDates, fourthOf, asksAccess, dated}
+use Rattle.format.specs.Dates as Dates
 use Rattle.format.specs.Fcb.{fcbBytes, crOf}
 use Rattle.model.specs.declared.Asked.{Asked}
+use Rattle.model.specs.Lent.{protected}
 use Rattle.model.specs.Closing.{closeChanges}
 use Rattle.model.specs.Target.{placeIn}
 use Rattle.model.specs.Stamps.{Stamp, stampedWith, timeStamp}
@@ -67,14 +69,18 @@ pub record Fresh (G : Geometry) (d : Disk) (f : Bytes) (e : ℕ) : Type 0 where
   pub same : closeChanges G (entryAt G (d .drive .image) e) f ≡ false
 
 -- ---- access stamps
--- the stamp is the access stamp, of the time that is asked with, beside an entry of the user's file that f names
-pub record Access (G : Geometry) (a : Asked) (img : Bytes) (user : ℕ) (f : Bytes) (x : Stamp) : Type 0 where
+-- the stamp is the access stamp, of the time that is asked with, beside the user's entry that f asks for: the label asks for such stamps, so that the
+-- first of the two is one, the fourth entry is a date entry, and the session is not protected
+pub record Access (G : Geometry) (a : Asked) (d : Disk) (f : Bytes) (x : Stamp) : Type 0 where
   pub first : x .which ≡ 0
   pub time : x .bytes ≡ timeStamp a
   pub low : x .entry < G .entries
-  pub file : named false user f 1 (entryAt G img (x .entry)) ≡ true
+  pub file : isFile G (d .session .user) f 1 (exOf f) (entryAt G (d .drive .image) (x .entry)) ≡ true
+  pub asked : Dates.asks G (entryAt G (d .drive .image)) asksAccess ≡ true
+  pub dates : isDates (entryAt G (d .drive .image) (fourthOf (x .entry))) ≡ true
+  pub lifted : protected (d .session) ≡ false
 
--- the image is the same but for stamps, which are such as P allows, and the map is the same; the user is, and the session is in range
+-- the image is the same but for stamps, which are such as P allows, and the map is the same; user and protection are, and a session in range stays so
 pub record Restamped (G : Geometry) (P : Stamp → Type 0) (d t : Disk) : Type 0 where
   pub stamps : List Stamp
   pub each : Each P stamps

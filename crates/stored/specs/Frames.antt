@@ -9,7 +9,7 @@ use lib.ListN.{length, getD}
 use Rattle.lists.specs.Cases.{split, eq-or-ne, not-both}
 use Rattle.lists.specs.Tests.{and-left, and-right, or-cases}
 use Rattle.format.specs.Diskette.{Bytes, Geometry, Sound, recordBytes, slotCount}
-use Rattle.format.specs.Entries.{Rows, entryAt, slotOf, named, used, empty}
+use Rattle.format.specs.Entries.{exOf, Rows, entryAt, slotOf, named, used, empty}
 use Rattle.format.specs.Names.{sevenBits}
 use Rattle.format.specs.Dates.{isDates, fourthOf}
 use Rattle.format.specs.Notes.{noteAt, freeNote, areaNote, recordedNote, pendingFor}
@@ -28,7 +28,6 @@ use Rattle.model.specs.Table.{timeRight}
 use Rattle.fields.specs.Agree.{SameName, named-asked}
 use Rattle.table.specs.Own.{kinds-apart}
 use Rattle.invariant.specs.Good.{Good}
-use Rattle.invariant.specs.Updates.{dates-beside}
 use Rattle.fields.specs.Stamps.{InStamp}
 use Rattle.effects.specs.View.{viewOf, Names, Mine, listed, pending}
 use Rattle.effects.specs.Effect.{Effect, NoneNew, none-one, new-later, new-earlier, more-effect}
@@ -306,13 +305,6 @@ module _ {G : Geometry} (S : Sound G) (P : Stamp → Type 0) (d t : Disk) (sane 
       (λ y. subst (λ (b : Bytes). (getD b i 0 ≡ getD (d .drive .image) i 0) ⊎ Lies G P i) (sym (w .image))
       (stamps-bytes S (d .drive .map) P (w .stamps) (d .drive .image) (sane .good) y (w .placed) (w .each) i))
 
-  -- beside a stamp lies a date entry
-  pub restamped-beside : (i : ℕ) (x : Stamp) → InStamp G (x .entry) (x .which) i → (getD (t .drive .image) i 0 ≡ getD (d .drive .image) i 0)
-      ⊎ (isDates (entryAt G (d .drive .image) (fourthOf (x .entry))) ≡ true)
-  restamped-beside i x p =
-      split (w .dates) (λ z. inl (ap (λ (b : Bytes). getD b i 0) (unstamped G P d t w z)))
-      (λ y. inr (dates-beside S (d .drive .image) (d .drive .map) (sane .good) y (x .entry) (p .low)))
-
   pub restamped-only : (N : Names) → OnlyNamed G N (entryAt G (d .drive .image)) (entryAt G (t .drive .image))
   restamped-only N = only-alike N (d .drive .image) (t .drive .image) (restamped-alike S P d t sane w)
 
@@ -346,7 +338,7 @@ module _ {G : Geometry} (S : Sound G) (P : Stamp → Type 0) (d t : Disk) (sane 
       go (was-theirs e m n) = let o = mine-restamped (h .block) e m in was-theirs e (o .0) (sym (ap (byName user f) (o .1)) ∙ n)
 
 -- access stamps of a file are a frame of it
-pub access-frame : {G : Geometry} (S : Sound G) (a : Asked) (f : Bytes) (d t : Disk) → Sane G d → Restamped G (Access G a (d .drive .image) (d .session .user) f) d t
+pub access-frame : {G : Geometry} (S : Sound G) (a : Asked) (f : Bytes) (d t : Disk) → Sane G d → Restamped G (Access G a d f) d t
     → (W : ℕ → Type 0) → Frame G (d .drive .image) (t .drive .image) (byName (d .session .user) f) W
 access-frame {G} S a f d t sane w W = record {
   byte = λ i. split (restamped-bytes S P d t sane w i) (λ q. inl q) (λ p. out i p);
@@ -355,7 +347,7 @@ access-frame {G} S a f d t sane w W = record {
 }
   where
     P : Stamp → Type 0
-    P = Access G a (d .drive .image) (d .session .user) f
+    P = Access G a d f
 
     out : (i : ℕ) → Lies G P i → (getD (t .drive .image) i 0 ≡ getD (d .drive .image) i 0) ⊎ Where G (d .drive .image) (t .drive .image) (byName (d .session .user) f) W i
-    out i (lies x p h) = split (restamped-beside S P d t sane w i x p) (λ q. inl q) (λ q. inr (in-stamp (x .entry) (x .which) p q (inl (h .file))))
+    out i (lies x p h) = inr (in-stamp (x .entry) (x .which) p (h .dates) (inl (file-named G (d .session .user) f 1 (exOf f) (entryAt G (d .drive .image) (x .entry)) (h .file))))

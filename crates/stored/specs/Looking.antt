@@ -152,11 +152,11 @@ openedFcb G a d f buffer = outcomeOf G d (asks a 15 f buffer) .lent .fcb
 
 -- an open of f, accepted or refused, restamps at most; the stamp has the time that is asked with, whatever the number
 pub opened-restamped : {G : Geometry} (S : Sound G) (a : Asked) (d : Disk) (f b : Bytes)
-    → Restamped G (Access G a (d .drive .image) (d .session .user) f) d (openedDisk G a d f b)
+    → Restamped G (Access G a d f) d (openedDisk G a d f b)
 unfolding timeStamp
 opened-restamped {G} S a d f b =
-    restamped-more G (Access G (calling 15 a) (d .drive .image) (d .session .user) f) d (openedDisk G a d f b)
-    (Access G a (d .drive .image) (d .session .user) f) (λ x h. record { first = h .first; time = h .time; low = h .low; file = h .file })
+    restamped-more G (Access G (calling 15 a) d f) d (openedDisk G a d f b)
+    (Access G a d f) (λ x h. record { first = h .first; time = h .time; low = h .low; file = h .file; asked = h .asked; dates = h .dates; lifted = h .lifted })
     (open-same S d (asks a 15 f b) refl)
 
 module _ {G : Geometry} (S : Sound G) (a : Asked) (d : Disk) (f : Bytes) (begins : Begins f) (b : Bytes) (x : accepts G d (asks a 15 f b) ≡ true) where
@@ -172,7 +172,7 @@ module _ {G : Geometry} (S : Sound G) (a : Asked) (d : Disk) (f : Bytes) (begins
   abbrev g : Bytes
   g = openedFcb G a d f b
 
-  restamped : Restamped G (Access G a (d .drive .image) user f) d t
+  restamped : Restamped G (Access G a d f) d t
   restamped = opened-restamped S a d f b
 
   to-opened : (r : ℕ) (v : Bytes) → Stored G (seenOn G d) user f r v → Stored G (seenOn G t) (t .session .user) g r v

@@ -7,9 +7,9 @@ use mathlib.Core.List.{List, []}
 use Prim.Native.Nat.{ℕ, _≤_, _<_}
 use native.Mathlib.Omega.{arith}
 use lib.ListN.{length, getD}
-use borrow.Author.Tests.{eq-eqb, ne-eqb}
-use Rattle.lists.specs.Cases.{split, bool-cases, not-both}
-use Rattle.lists.specs.Tests.{_and_, and-fails-right}
+use borrow.Author.Tests.{eq-eqb, ne-eqb, not-true}
+use Rattle.lists.specs.Cases.{split, bool-cases, not-both, cond-either}
+use Rattle.lists.specs.Tests.{_and_, and-left, and-right, and-fails-right}
 use Rattle.format.specs.Diskette.{Bytes, Geometry, Sound, recordBytes, slotCount}
 use Rattle.format.specs.Entries.{entryAt, exOf, slotOf, endOf}
 use Rattle.format.specs.Dates.{dated, asks, asksAccess}
@@ -44,7 +44,8 @@ use Rattle.table.specs.Accepted.{carried-says, accepted-carried}
 use Rattle.table.specs.Carried.{read-answered}
 use Rattle.table.specs.Total.{CarriedOut, InRange, total, total-accepted, step-range}
 use Rattle.invariant.specs.Good.{good-consistent, good-right}
-use Rattle.invariant.specs.Stamps.{Each, each-only, Placed, placed, where-cases}
+use Rattle.invariant.specs.Stamps.{Each, Placed, placed, where-cases}
+use Rattle.invariant.specs.Updates.{dates-beside}
 use Rattle.effects.specs.Cur.{cur-current}
 use Rattle.effects.specs.Entered.{entered-cur}
 use Rattle.demands.specs.StepOk.{ready-good}
@@ -231,14 +232,22 @@ module _ {G : Geometry} (S : Sound G) (d : Disk) (q : Request) (number : q .aske
     found = file-says G (entryAt G (d .drive .image)) (d .session .user) (q .fcb) 1 (exOf (q .fcb)) (opens .entry .place) (opens .entry .is)
 
     abbrev Here : Stamp → Type 0
-    Here = Access G (q .asked) (d .drive .image) (d .session .user) (q .fcb)
+    Here = Access G (q .asked) d (q .fcb)
 
-    own-stamps : Each Here (stampsBy G (q .asked) (lentTo d q) (d .session) Quiet)
+    own-stamps : dated (entryAt G (d .drive .image)) ≡ true → Each Here (stampsBy G (q .asked) (lentTo d q) (d .session) Quiet)
     unfolding accessStamps e
-    own-stamps =
+    own-stamps y =
         rw (eq-eqb (q .asked .number) 15 number, opens .entry .is)
-        (each-only Here (not (protected (d .session)) and asks G (entryAt G (d .drive .image)) asksAccess) (first (opens .entry .place) (timeStamp (q .asked)))
-        record { first = refl; time = refl; low = found .below; file = file-named G (d .session .user) (q .fcb) 1 (exOf (q .fcb)) row (found .holds) })
+        (cond-either (Each Here) (not (protected (d .session)) and asks G (entryAt G (d .drive .image)) asksAccess)
+        (λ t. (record {
+          first = refl;
+          time = refl;
+          low = found .below;
+          file = found .holds;
+          asked = and-right _ _ t;
+          dates = dates-beside S (d .drive .image) (d .drive .map) (sane .good) y (opens .entry .place) (found .below);
+          lifted = not-true _ (and-left _ _ t);
+        }, tt)) (λ f. tt))
 
     abbrev made : List Stamp
     made = whereDated (dated (entryAt G (d .drive .image))) (stampsBy G (q .asked) (lentTo d q) (d .session) Quiet)
@@ -247,7 +256,7 @@ module _ {G : Geometry} (S : Sound G) (d : Disk) (q : Request) (number : q .aske
     made-stamps =
         where-cases (λ (xs : List Stamp). Each Here xs × Each (Placed G) xs × ((xs ≡ []) ⊎ (dated (entryAt G (d .drive .image)) ≡ true)))
         (dated (entryAt G (d .drive .image))) (stampsBy G (q .asked) (lentTo d q) (d .session) Quiet)
-        (λ y. (own-stamps, placed S (q .asked) (lentTo d q) (d .session) (c .facts) (sane .good) y Quiet open-kind, inr y)) (tt, tt, inl refl)
+        (λ y. (own-stamps y, placed S (q .asked) (lentTo d q) (d .session) (c .facts) (sane .good) y Quiet open-kind, inr y)) (tt, tt, inl refl)
 
     opened-same : Restamped G Here d (left (outcomeOf G d q))
     opened-same = record {
@@ -294,7 +303,7 @@ module _ {G : Geometry} (S : Sound G) (d : Disk) (q : Request) (number : q .aske
             (fresh-restamped S Here d (left (outcomeOf G d q)) opened-same (entered (q .fcb) row (exOf (q .fcb))) (opens .entry .place) entered-fresh);
       }
 
-  pub open-same : Restamped G (Access G (q .asked) (d .drive .image) (d .session .user) (q .fcb)) d (left (outcomeOf G d q))
+  pub open-same : Restamped G (Access G (q .asked) d (q .fcb)) d (left (outcomeOf G d q))
   open-same = split (bool-cases (accepts G d q)) (λ a. opened-same a) (λ f. refused-same G _ d q f)
 
 -- ---- 33 through a fresh FCB, accepted or refused: it leaves image and map, and where no search is on the whole disk

@@ -1,16 +1,19 @@
 -- What a disk that is restamped has in common with the one before: every row but date entries, every look-up, and every record past the directory.
 use mathlib.Core.Path.{_≡_, refl, ap, sym, _∙_, subst}
 use mathlib.Core.Logic.{inl, inr}
-use mathlib.Core.Bool.{Bool, false}
+use mathlib.Core.Bool.{Bool, true, false}
 use mathlib.Core.List.{List, [], _∷_, _++_}
 use Prim.Native.Nat.{ℕ, _≤_, _<_}
+use lib.Dec.{eqb}
 use Rattle.lists.specs.Cases.{split}
 use Rattle.format.specs.Diskette.{Bytes, Geometry, Sound, recordAt}
-use Rattle.format.specs.Entries.{entryAt, slotOf, empty, named, findFile, findNamed, findEmpty}
-use Rattle.format.specs.Dates.{isDates, dated, withStamp}
+use Rattle.format.specs.Entries.{entryAt, exOf, slotOf, empty, named, isFile, findFile, findNamed, findEmpty}
+use Rattle.format.specs.Dates.{isDates, fourthOf, asksAccess, dated, withStamp}
+use Rattle.facts.specs.Beside.{fourth-below}
 use Rattle.disk.specs.Places.{blockRecords}
 use Rattle.rows.specs.Entries.{areaRecords}
 use Rattle.model.specs.declared.Asked.{Asked}
+use Rattle.model.specs.Lent.{protected}
 use Rattle.model.specs.Closing.{closeChanges}
 use Rattle.model.specs.Calls.{fileSize}
 use Rattle.model.specs.Stamps.{Stamp, stampedWith}
@@ -20,7 +23,7 @@ use Rattle.invariant.specs.Stamps.{Each, each-join, Placed, stamped-all}
 use Rattle.effects.specs.View.{View, viewOf, Names}
 use Rattle.effects.specs.Effect.{Effect}
 use Rattle.effects.specs.Cur.{Cur, cur-uses}
-use Rattle.effects.specs.Alike.{Alike, alike-same, alike-back, dates-alike, used-row, empty-alike, empty-same, named-alike, named-same, file-same, size-alike, alike-effect, cur-alike}
+use Rattle.effects.specs.Alike.{Alike, alike-same, alike-back, dates-alike, asks-alike, used-row, empty-alike, empty-same, named-alike, file-alike, named-same, file-same, size-alike, alike-effect, cur-alike}
 use Rattle.effects.specs.Stamps.{stamped-alike}
 use Rattle.demands.specs.Runs.{Disk}
 use Rattle.stored.specs.Closed.{Sane, seenOn, First, Stored, Fresh, Access, Restamped}
@@ -128,10 +131,6 @@ module _ {G : Geometry} (S : Sound G) (P : Stamp → Type 0) (d t : Disk) (sane 
     pub size-restamped : fileSize G (entryAt G (t .drive .image)) (named false user f 1) ≡ fileSize G (entryAt G (d .drive .image)) (named false user f 1)
     size-restamped = size-alike G (d .drive .image) (t .drive .image) restamped-alike user hu f 1 false
 
-    -- an access stamp beside an entry of the file then is one beside an entry of it before
-    pub access-before : (a : Asked) (x : Stamp) → Access G a (t .drive .image) user f x → Access G a (d .drive .image) user f x
-    access-before a x h = record { first = h .first; time = h .time; low = h .low; file = sym (named-restamped false (x .entry) (h .low)) ∙ h .file }
-
     -- ---- closed records, both ways
     nobody : Names
     nobody r = false
@@ -169,6 +168,23 @@ module _ {G : Geometry} (S : Sound G) (P : Stamp → Type 0) (d t : Disk) (sane 
     cur-restamped e c =
         subst (λ (s : View). Cur G s user f e) (sym view-same)
         (cur-alike G (d .drive .image) (t .drive .image) restamped-alike (d .drive .map) (sane .good) S user hu f e c)
+
+-- an access stamp then is one before
+pub access-before : {G : Geometry} (S : Sound G) (P : Stamp → Type 0) (d t : Disk) → Sane G d → Restamped G P d t → (a : Asked) (f : Bytes) (x : Stamp)
+    → Access G a t f x → Access G a d f x
+unfolding protected
+access-before {G} S P d t sane w a f x h =
+    let like = restamped-alike S P d t sane w in
+    record {
+      first = h .first;
+      time = h .time;
+      low = h .low;
+      file = sym (file-alike G (d .drive .image) (t .drive .image) like (d .session .user) (sane .range .user) f 1 (exOf f) (x .entry) (h .low))
+          ∙ subst (λ (u : ℕ). isFile G u f 1 (exOf f) (entryAt G (t .drive .image) (x .entry)) ≡ true) (w .user) (h .file);
+      asked = sym (asks-alike G (d .drive .image) (t .drive .image) like asksAccess) ∙ h .asked;
+      dates = sym (dates-alike G (d .drive .image) (t .drive .image) like (fourthOf (x .entry)) (fourth-below S (x .entry) (h .low))) ∙ h .dates;
+      lifted = ap (λ (b : ℕ). eqb b 0) (sym (w .lifted)) ∙ h .lifted;
+    }
 
 -- a fresh FCB stays one
 pub fresh-restamped : {G : Geometry} (S : Sound G) (P : Stamp → Type 0) (d t : Disk) → Restamped G P d t → (f : Bytes) (e : ℕ) → Fresh G d f e → Fresh G t f e
