@@ -3,12 +3,17 @@
 use mathlib.Core.Path.{_≡_, refl, ap, sym, _∙_, subst}
 use mathlib.Core.Logic.{_⊎_, inl, inr}
 use mathlib.Core.Bool.{Bool, true, false}
-use Prim.Native.Nat.{ℕ, _+_, _≤_, _<_}
+use Prim.Native.Nat.{ℕ, _+_, _≤_, _<_, _%_, _-_}
 use native.Mathlib.Omega.{arith}
 use lib.ListN.{length, getD}
 use Rattle.lists.specs.Cases.{split, eq-or-ne, not-both}
 use Rattle.lists.specs.Tests.{and-left, and-right, or-cases}
-use Rattle.format.specs.Diskette.{Bytes, Geometry, Sound, recordBytes, slotCount}
+use native.Mathlib.Nat.{mod-lt}
+use Rattle.lists.specs.Splice.{getD-part}
+use Rattle.disk.specs.Places.{blockRecords, block-record, offset-fits}
+use Rattle.rows.specs.Entries.{areaRecords, block-past}
+use Rattle.model.specs.Target.{placeIn}
+use Rattle.format.specs.Diskette.{Bytes, Geometry, Sound, recordBytes, slotCount, Long, offsetOf, recordAt}
 use Rattle.format.specs.Entries.{exOf, Rows, entryAt, slotOf, named, used, empty}
 use Rattle.format.specs.Names.{sevenBits}
 use Rattle.format.specs.Dates.{isDates, fourthOf}
@@ -29,10 +34,10 @@ use Rattle.fields.specs.Agree.{SameName, named-asked}
 use Rattle.table.specs.Own.{kinds-apart}
 use Rattle.invariant.specs.Good.{Good}
 use Rattle.fields.specs.Stamps.{InStamp}
-use Rattle.effects.specs.View.{viewOf, Names, Mine, listed, pending}
+use Rattle.effects.specs.View.{viewOf, Names, Mine, listed, pending, spare-free, mine-low}
 use Rattle.effects.specs.Effect.{Effect, NoneNew, none-one, new-later, new-earlier, more-effect}
 use Rattle.effects.specs.Change.{where-after}
-use Rattle.effects.specs.Where.{in-entry, in-new, in-record, Where, by-rule, in-stamp, Bytewise, Frame, Theirs, was-free, was-theirs, OneRecord, theirs-more, one-more, frame-wider}
+use Rattle.effects.specs.Where.{in-entry, in-new, in-record, Where, by-rule, in-stamp, Bytewise, Frame, Theirs, was-free, was-theirs, OneRecord, theirs-more, one-more, frame-wider, InRecord}
 use Rattle.effects.specs.Alike.{used-row, used-alike, alike-none}
 use Rattle.effects.specs.Closed.{byName}
 use Rattle.effects.specs.Stamps.{Lies, lies, stamps-bytes}
@@ -336,6 +341,40 @@ module _ {G : Geometry} (S : Sound G) (P : Stamp → Type 0) (d t : Disk) (sane 
       go : Theirs G (t .drive .image) (t .drive .map) (byName user f) (h .block) → Theirs G (d .drive .image) (d .drive .map) (byName user f) (h .block)
       go (was-free z) = was-free (sym (ap (λ (m : Bytes). noteAt m (h .block)) (w .map)) ∙ z)
       go (was-theirs e m n) = let o = mine-restamped (h .block) e m in was-theirs e (o .0) (sym (ap (byName user f) (o .1)) ∙ n)
+
+-- ---- a record of such a block that stays keeps its bytes
+-- the block lies past the directory
+theirs-past : (G : Geometry) (img map : Bytes) → Good G img map → (N : Names) (b : ℕ) → b < G .blocks → Theirs G img map N b → G .area ≤ b
+theirs-past G img map g N b low (was-free z) = spare-free G (viewOf G img map) (g .inv) b low z .past
+theirs-past G img map g N b low (was-theirs e m n) = mine-low G (viewOf G img map) (g .inv) b e m
+
+-- one byte of a record
+pub record-byte : {G : Geometry} (S : Sound G) (img img′ : Bytes) → Long G img → Long G img′ → (x : ℕ) → x < blockRecords G → recordAt G img′ x ≡ recordAt G img x
+    → (i : ℕ) → InRecord G x i → getD img′ i 0 ≡ getD img i 0
+unfolding recordAt
+record-byte {G} S img img′ long long′ x low same i p =
+    let fits = offset-fits S x low in
+    let from = p .from in
+    let upto = p .upto in
+    let k : ℕ = i - offsetOf G x in
+    let q : offsetOf G x + (i - offsetOf G x) ≡ i = omega arith in
+    subst (λ (j : ℕ). getD img′ j 0 ≡ getD img j 0) q
+    (sym (getD-part img′ (offsetOf G x) recordBytes (omega arith) (i - offsetOf G x) (omega arith)) ∙ ap (λ (b : Bytes). getD b (i - offsetOf G x) 0) same
+    ∙ getD-part img (offsetOf G x) recordBytes (omega arith) (i - offsetOf G x) (omega arith))
+
+-- where one record alone may have changed, a byte of such a block stays or lies in it
+pub block-byte : {G : Geometry} (S : Sound G) (img map mid img′ : Bytes) → Good G img map → Long G mid → Long G img′ → (user : ℕ) (f : Bytes) (place : ℕ)
+    → ((x : ℕ) → areaRecords G ≤ x → x < blockRecords G → (x ≡ place → ⊥) → recordAt G img′ x ≡ recordAt G mid x)
+    → (i x : ℕ) → InRecord G x i → FileBlock G img map user f x → (getD img′ i 0 ≡ getD mid i 0) ⊎ (x ≡ place)
+unfolding placeIn
+block-byte {G} S img map mid img′ good long long′ user f place recs i x p h =
+    let b : ℕ = h .block in
+    let past = theirs-past G img map good (byName user f) (h .block) (h .one .below) (h .one .theirs) in
+    let r : ℕ = h .place % G .perBlock in
+    split (eq-or-ne x place) (λ q. inr q)
+    (λ q. let low : x < blockRecords G = rw (h .one .is) (block-record G (h .block) (h .place % G .perBlock) (h .one .below) (mod-lt (h .place) (S .some-record))) in
+    inl (record-byte S mid img′ long long′ x low
+    (recs x (rw (h .one .is) (block-past G (h .block) (h .place % G .perBlock) past)) low q) i p))
 
 -- access stamps of a file are a frame of it
 pub access-frame : {G : Geometry} (S : Sound G) (a : Asked) (f : Bytes) (d t : Disk) → Sane G d → Restamped G (Access G a d f) d t
