@@ -45,7 +45,7 @@ use Rattle.once.specs.Picks.{hasWord, PickAccess, PickGrew, Left, same, 
 use Rattle.once.specs.Right.{parameters-of, disk-of}
 use Rattle.once.specs.Same.{size-same}
 use Rattle.once.specs.Table.{parametersAre, diskIs, nameIs, hasEntry, extentAt, sizeIs, recordIs, bytesAre, someEmpty, someFree, hasDay, nextEntry, logLocked, noBlock, growing, beginning, logAnswer, wordAnswer, bookAnswer, answer}
-use Rattle.once.specs.Unharmed.{trouble-unharmed}
+use Rattle.once.specs.Unharmed.{trouble-unharmed, log-grown}
 use Rattle.once.specs.Word.{can-read, read-can, first-named, first-found}
 
 -- ---- "again" as a test
@@ -221,13 +221,8 @@ module _ {G : Geometry} (S : Sound G) (t : Time) (w : Wanted) (nm : Named w) (d 
   sane-mid : Sane G m
   sane-mid = sane-restamped S P d m (g .sane) (g .before)
 
-  size-is : sizeIs G m (w .log) ≡ sizeIs G d (w .log)
-  size-is = size-same S P d m (g .sane) (g .before) (w .log)
-
   grown : Grown G (seenOn G m) (seenOn G e) user log (sizeIs G d (w .log)) (logRecord (w .year) (w .day))
-  grown =
-      subst (λ (n : ℕ). Grown G (seenOn G m) (seenOn G e) user log n (logRecord (w .year) (w .day))) size-is
-      (subst (λ (u : ℕ). Grown G (seenOn G m) (seenOn G e) u log (sizeIs G m (w .log)) (logRecord (w .year) (w .day))) (g .before .user) (g .log .grown))
+  grown = log-grown S t w d e g
 
   -- the log
   pub log-first : First G (seenOn G e) (e .session .user) (fcbOf (w .log))

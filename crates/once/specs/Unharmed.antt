@@ -3,32 +3,43 @@
 use mathlib.Core.Path.{_≡_, refl, ap, sym, _∙_, subst}
 use mathlib.Core.Logic.{_⊎_, inl, inr}
 use mathlib.Core.Bool.{true, false}
-use Prim.Native.Nat.{ℕ, _*_, _<_}
+use mathlib.Core.List.{List, [], _∷_}
+use Prim.Native.Nat.{ℕ, _*_, _<_, _/_, _%_}
 use native.Mathlib.Omega.{arith}
 use lib.ListN.{getD}
 use borrow.Author.Tests.{leb-true}
-use Rattle.lists.specs.Cases.{split, bool-cases}
-use Rattle.format.specs.Diskette.{Bytes, Geometry, Sound}
-use Rattle.format.specs.Entries.{entryAt, exOf}
+use Rattle.lists.specs.Cases.{split, bool-cases, eq-or-ne, not-both}
+use native.Mathlib.Nat.{mod-lt}
+use Rattle.format.specs.Dates.{isDates}
+use Rattle.disk.specs.Places.{block-once}
+use Rattle.consistency.specs.Naming.{file-found}
+use Rattle.model.specs.Lent.{protected}
+use Rattle.model.specs.Target.{placeIn}
+use Rattle.effects.specs.View.{Names}
+use Rattle.stored.specs.Told.{blockIn}
+use Rattle.once.specs.Same.{size-same}
+use Rattle.once.specs.Table.{sizeIs, extentAt}
+use Rattle.format.specs.Diskette.{Bytes, Geometry, Sound, extentRecords}
+use Rattle.format.specs.Entries.{entryAt, exOf, isFile}
 use Rattle.facts.specs.Naming.{file-named}
 use Rattle.format.specs.Notes.{noteAt, isPending}
 use Rattle.model.specs.Stamps.{Stamp}
 use Rattle.invariant.specs.Good.{Good}
-use Rattle.invariant.specs.Stamps.{stamped-all}
-use Rattle.effects.specs.Where.{Where, in-stamp, frame-wider}
+use Rattle.invariant.specs.Stamps.{stamped-all, Each}
+use Rattle.effects.specs.Where.{Where, in-stamp, frame-wider, by-rule, in-entry, in-new, in-record, Theirs}
 use Rattle.effects.specs.Closed.{byName}
 use Rattle.effects.specs.Stamps.{Lies, lies}
 use Rattle.demands.specs.Runs.{Disk}
-use Rattle.stored.specs.Closed.{Sane, Restamped}
-use Rattle.stored.specs.Restamped.{unstamped}
+use Rattle.stored.specs.Closed.{Sane, Restamped, seenOn}
+use Rattle.stored.specs.Restamped.{unstamped, row-restamped, dates-restamped, sane-restamped}
 use Rattle.stored.specs.OnlyNamed.{OnlyNamed, by-used}
-use Rattle.stored.specs.Grown.{grown-only}
-use Rattle.stored.specs.Frames.{FileBlock, touched-second, restamped-bytes, restamped-only, block-restamped}
+use Rattle.stored.specs.Grown.{grown-only, Grown}
+use Rattle.stored.specs.Frames.{FileBlock, touched-second, restamped-bytes, restamped-only, block-restamped, block-byte}
 use Rattle.picking.specs.declared.Wanted.{Wanted}
 use Rattle.picking.specs.declared.Time.{Time}
 use Rattle.picking.specs.declared.Pick.{Pick}
 use Rattle.picking.specs.declared.Pick.the-variants.{Logged, Again, DayOver, NoBook, NoWord, OneFile, NoFirst, LogFull, LogReadOnly, DirectoryFull, DiskFull, Other}
-use Rattle.picking.specs.Picker.{fcbOf, picked}
+use Rattle.picking.specs.Picker.{fcbOf, picked, logRecord}
 use Rattle.once.specs.Bytes.{Named}
 use Rattle.once.specs.Logs.{isLogged}
 use Rattle.once.specs.Session.{anyAccepted, nothing-accepted, accepted-sane}
@@ -57,13 +68,34 @@ good-restamped {G} S P d t w g =
     (split (w .dates) (λ z. subst (λ (i : Bytes). Good G i (d .drive .map)) (sym (unstamped G P d t w z)) g)
     (λ y. subst (λ (i : Bytes). Good G i (d .drive .map)) (sym (w .image)) (stamped-all S (d .drive .map) (w .stamps) (d .drive .image) g y (w .placed) .good)))
 
--- byte i lies in an entry of the log, in an empty one that became the log's, in a stamp beside one of these, in a record of a block that was free or
--- the log's; or in the access stamp of an entry of the book
+-- disk record x is that of the log's new record, the one at its old size: it lies in the block that the log has for it afterwards, which was free before
+-- or the log's
+pub record NewRecord (G : Geometry) (w : Wanted) (d e : Disk) (x : ℕ) : Type 0 where
+  pub block : ℕ
+  pub has : blockIn G (entryAt G (e .drive .image)) (sizeIs G d (w .log)) (extentAt G e (w .log) (sizeIs G d (w .log) / extentRecords)) ≡ block
+  pub is : x ≡ placeIn G block (sizeIs G d (w .log) % extentRecords)
+  pub theirs : Theirs G (d .drive .image) (d .drive .map) (byName (d .session .user) (fcbOf (w .log))) block
+
+-- byte i lies in an entry of the log, in an empty one that became the log's, in a stamp beside one of these, or in that record; or in the access stamp of
+-- the book's extent 0
 abbrev pub Touched : Geometry → Time → Wanted → Disk → Disk → ℕ → Type 0
 Touched G t w d e i =
-    Where G (d .drive .image) (e .drive .image) (byName (d .session .user) (fcbOf (w .log)))
-    (FileBlock G (d .drive .image) (d .drive .map) (d .session .user) (fcbOf (w .log))) i
+    Where G (d .drive .image) (e .drive .image) (byName (d .session .user) (fcbOf (w .log))) (NewRecord G w d e) i
     ⊎ Lies G (BookAccess G t w d) i
+
+-- the log's gain, seen from the disk between the reads and the write
+pub log-grown : {G : Geometry} (S : Sound G) (t : Time) (w : Wanted) (d e : Disk) (g : PickGrew G t w d e)
+    → Grown G (seenOn G (g .mid)) (seenOn G e) (d .session .user) (fcbOf (w .log)) (sizeIs G d (w .log)) (logRecord (w .year) (w .day))
+log-grown {G} S t w d e g =
+    subst (λ (n : ℕ). Grown G (seenOn G (g .mid)) (seenOn G e) (d .session .user) (fcbOf (w .log)) n (logRecord (w .year) (w .day)))
+    (size-same S (PickAccess G t w d) d (g .mid) (g .sane) (g .before) (w .log))
+    (subst (λ (u : ℕ). Grown G (seenOn G (g .mid)) (seenOn G e) u (fcbOf (w .log)) (sizeIs G (g .mid) (w .log)) (logRecord (w .year) (w .day)))
+    (g .before .user) (g .log .grown))
+
+-- no stamp, where none is allowed
+none-put : (P : Stamp → Type 0) → ((x : Stamp) → P x → ⊥) → (xs : List Stamp) → Each P xs → xs ≡ []
+none-put P never [] a = refl
+none-put P never (x ∷ xs) a = absurd (never x (a .0))
 
 module _ {G : Geometry} (S : Sound G) (countable : G .perBlock * G .blocks < 16777216) (t : Time) (w : Wanted) (nm : Named w) (d : Disk) (buffer : Bytes) where
   abbrev e : Disk
@@ -84,6 +116,13 @@ module _ {G : Geometry} (S : Sound G) (countable : G .perBlock * G .blocks < 167
       go (same f r) = r
       go (more p y g) = absurd (n p)
 
+  -- and on a protected session both are the same, byte for byte
+  pub protected-unharmed : protected (d .session) ≡ true → (picked G t w d buffer .pick ≡ Logged → ⊥)
+      → (picked G t w d buffer .disk .drive .image ≡ d .drive .image) × (picked G t w d buffer .disk .drive .map ≡ d .drive .map)
+  protected-unharmed p n =
+      let r = trouble-unharmed n in
+      (unstamped G (PickAccess G t w d) d e r (none-put (PickAccess G t w d) (λ x h. split h (λ a. not-both _ p (a .lifted)) (λ a. not-both _ p (a .lifted))) (r .stamps) (r .each)), r .map)
+
   -- ---- theorem 5
   stamped-byte : Sane G d → (m : Disk) → Restamped G (PickAccess G t w d) d m → (i : ℕ) → (getD (m .drive .image) i 0 ≡ getD (d .drive .image) i 0) ⊎ Touched G t w d (picked G t w d buffer .disk) i
   stamped-byte sane m r i =
@@ -100,20 +139,76 @@ module _ {G : Geometry} (S : Sound G) (countable : G .perBlock * G .blocks < 167
       subst (λ (u : ℕ). OnlyNamed G (byName u (fcbOf (w .log))) (entryAt G (g .mid .drive .image)) (entryAt G (e .drive .image))) (g .before .user)
       (grown-only (fcbOf (w .log)) (g .log .grown))
 
-  grown-byte : (g : PickGrew G t w d e) (i : ℕ) → (getD (e .drive .image) i 0 ≡ getD (d .drive .image) i 0) ⊎ Touched G t w d (picked G t w d buffer .disk) i
-  grown-byte g i =
-      let r = g .before in
-      let frame = frame-wider G (g .mid .drive .image) (e .drive .image) (byName (g .mid .session .user) (fcbOf (w .log))) (byName user (fcbOf (w .log))) _
-      (FileBlock G (d .drive .image) (d .drive .map) user (fcbOf (w .log)))
-      (λ x h. subst (λ (u : ℕ). byName u (fcbOf (w .log)) x ≡ true) (r .user) h)
-      (λ x h. block-restamped S (PickAccess G t w d) d (g .mid) (g .sane) r user (fcbOf (w .log)) x
-      (subst (λ (u : ℕ). FileBlock G (g .mid .drive .image) (g .mid .drive .map) u (fcbOf (w .log)) x) (r .user) h)) (g .log .frame) in
-      split (frame .byte i)
-      (λ q. split (stamped-byte (g .sane) (g .mid) r i) (λ p. inl (q ∙ p)) (λ p. inr p))
-      (λ p. inr (inl (touched-second S (byName user (fcbOf (w .log))) (by-used user (fcbOf (w .log)) (g .sane .range .user))
-      (FileBlock G (d .drive .image) (d .drive .map) user (fcbOf (w .log))) (d .drive .image) (g .mid .drive .image) (e .drive .image)
-      (restamped-only S (PickAccess G t w d) d (g .mid) (g .sane) r (byName user (fcbOf (w .log))))
-      (only-log g) i p)))
+  module _ (g : PickGrew G t w d (picked G t w d buffer .disk)) where
+    abbrev m : Disk
+    m = g .mid
+
+    abbrev N : Names
+    N = byName user (fcbOf (w .log))
+
+    abbrev n : ℕ
+    n = sizeIs G d (w .log)
+
+    sane-mid : Sane G m
+    sane-mid = sane-restamped S (PickAccess G t w d) d m (g .sane) (g .before)
+
+    -- the block of the new record is the one that the log has for it
+    block-is : blockIn G (entryAt G (e .drive .image)) n (extentAt G e (w .log) (n / extentRecords)) ≡ log-grown S t w d e g .block
+    unfolding extentAt
+    block-is =
+        ap (blockIn G (entryAt G (e .drive .image)) n)
+        (file-found G (entryAt G (e .drive .image)) (e .session .user) (g .log .sane .range .user) (fcbOf (w .log)) 1 (n / extentRecords) (log-grown S t w d e g .entry) (log-grown S t w d e g .low)
+        (subst (λ (u : ℕ). isFile G u (fcbOf (w .log)) 1 (n / extentRecords) (entryAt G (e .drive .image) (log-grown S t w d e g .entry)) ≡ true) (sym (g .log .user ∙ g .before .user))
+        (log-grown S t w d e g .file)) (g .log .sane .good .inv .dir))
+        ∙ log-grown S t w d e g .slot
+
+    new-record : (x : ℕ) → x ≡ placeIn G (log-grown S t w d e g .block) (n % extentRecords) → FileBlock G (d .drive .image) (d .drive .map) user (fcbOf (w .log)) x → NewRecord G w d e x
+    unfolding placeIn
+    new-record x q h =
+        let one = block-once G (h .block) (h .place % G .perBlock) (log-grown S t w d e g .block) (n % extentRecords % G .perBlock) (mod-lt (h .place) (S .some-record))
+        (mod-lt (n % extentRecords) (S .some-record)) (sym (h .one .is) ∙ q) in
+        record {
+          block = log-grown S t w d e g .block;
+          has = block-is;
+          is = q;
+          theirs = subst (Theirs G (d .drive .image) (d .drive .map) N) (one .0) (h .one .theirs);
+        }
+
+    -- so a byte of a record stays, or is one of that record
+    refined : (i : ℕ) → Where G (m .drive .image) (e .drive .image) N (FileBlock G (d .drive .image) (d .drive .map) user (fcbOf (w .log))) i
+        → (getD (e .drive .image) i 0 ≡ getD (m .drive .image) i 0) ⊎ Where G (m .drive .image) (e .drive .image) N (NewRecord G w d e) i
+    refined i (by-rule (in-entry k p h)) = inr (by-rule (in-entry k p h))
+    refined i (by-rule (in-new k p z h)) = inr (by-rule (in-new k p z h))
+    refined i (by-rule (in-record x p h)) =
+        split (block-byte S (d .drive .image) (d .drive .map) (m .drive .image) (e .drive .image) (g .sane .good) (sane-mid .good .image-long) (g .log .sane .good .image-long)
+        user (fcbOf (w .log)) (placeIn G (log-grown S t w d e g .block) (n % extentRecords)) (log-grown S t w d e g .recs) i x p h)
+        (λ q. inl q) (λ q. inr (by-rule (in-record x p (new-record x q h))))
+    refined i (in-stamp k which p q h) = inr (in-stamp k which p q h)
+
+    between-byte : (i : ℕ) → (getD (e .drive .image) i 0 ≡ getD (m .drive .image) i 0) ⊎ Where G (m .drive .image) (e .drive .image) N (NewRecord G w d e) i
+    between-byte i =
+        let r = g .before in
+        let frame = frame-wider G (m .drive .image) (e .drive .image) (byName (m .session .user) (fcbOf (w .log))) (byName user (fcbOf (w .log))) _
+        (FileBlock G (d .drive .image) (d .drive .map) user (fcbOf (w .log)))
+        (λ x h. subst (λ (u : ℕ). byName u (fcbOf (w .log)) x ≡ true) (r .user) h)
+        (λ x h. block-restamped S (PickAccess G t w d) d m (g .sane) r user (fcbOf (w .log)) x
+        (subst (λ (u : ℕ). FileBlock G (m .drive .image) (m .drive .map) u (fcbOf (w .log)) x) (r .user) h)) (g .log .frame) in
+        split (frame .byte i) (λ q. inl q) (λ p. refined i p)
+
+    grown-byte : (i : ℕ) → (getD (e .drive .image) i 0 ≡ getD (d .drive .image) i 0) ⊎ Touched G t w d e i
+    grown-byte i =
+        split (between-byte i)
+        (λ q. split (stamped-byte (g .sane) m (g .before) i) (λ p. inl (q ∙ p)) (λ p. inr p))
+        (λ p. inr (inl (touched-second S N (by-used user (fcbOf (w .log)) (g .sane .range .user)) (NewRecord G w d e) (d .drive .image) (m .drive .image) (e .drive .image)
+        (restamped-only S (PickAccess G t w d) d m (g .sane) (g .before) N) (only-log g) i p)))
+
+    -- one entry at most changes, date entries aside
+    changed-is : (k : ℕ) → k < G .entries → isDates (entryAt G (d .drive .image) k) ≡ false → (entryAt G (e .drive .image) k ≡ entryAt G (d .drive .image) k → ⊥)
+        → k ≡ log-grown S t w d e g .entry
+    changed-is k low plain ne =
+        split (eq-or-ne k (log-grown S t w d e g .entry)) (λ q. q)
+        (λ q. absurd (ne (log-grown S t w d e g .others k low (dates-restamped S (PickAccess G t w d) d m (g .sane) (g .before) k low ∙ plain) q
+        ∙ row-restamped S (PickAccess G t w d) d m (g .sane) (g .before) k low plain)))
 
   -- a byte that changed lies there
   pub bytes-unharmed : (i : ℕ) → (getD (picked G t w d buffer .disk .drive .image) i 0 ≡ getD (d .drive .image) i 0) ⊎ Touched G t w d (picked G t w d buffer .disk) i
@@ -126,7 +221,19 @@ module _ {G : Geometry} (S : Sound G) (countable : G .perBlock * G .blocks < 167
       go sane (same f r) = stamped-byte sane e r i
       go sane (more p y g) = grown-byte g i
 
-  -- image and map stay right
+  -- and at most one entry does, date entries aside
+  pub one-entry : (j k : ℕ) → j < G .entries → k < G .entries → isDates (entryAt G (d .drive .image) j) ≡ false → isDates (entryAt G (d .drive .image) k) ≡ false
+      → (entryAt G (picked G t w d buffer .disk .drive .image) j ≡ entryAt G (d .drive .image) j → ⊥)
+      → (entryAt G (picked G t w d buffer .disk .drive .image) k ≡ entryAt G (d .drive .image) k → ⊥) → j ≡ k
+  one-entry j k lj lk pj pk cj ck =
+      split (bool-cases (anyAccepted G t w d buffer)) (λ y. go (accepted-sane G t w d buffer y) left)
+      (λ y. absurd (cj (ap (λ (x : Disk). entryAt G (x .drive .image) j) (nothing-accepted G t w d buffer y))))
+    where
+      go : Sane G d → Left G t w d (picked G t w d buffer) → j ≡ k
+      go sane (same f r) = absurd (cj (row-restamped S (PickAccess G t w d) d e sane r j lj pj))
+      go sane (more p y g) = changed-is g j lj pj cj ∙ sym (changed-is g k lk pk ck)
+
+  -- an image that is consistent and a map that is right stay so, and keep their lengths
   pub map-stays-right : Good G (d .drive .image) (d .drive .map) → Good G (picked G t w d buffer .disk .drive .image) (picked G t w d buffer .disk .drive .map)
   map-stays-right h = go left
     where
