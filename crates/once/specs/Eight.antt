@@ -7,7 +7,7 @@ use Prim.Native.Nat.{ℕ, _*_, _≤_, _<_}
 use native.Mathlib.Omega.{arith}
 use lib.ListN.{length, getD}
 use Rattle.format.specs.Diskette.{Bytes, eightInch, recordBytes}
-use Rattle.format.specs.Notes.{noteAt, isPending}
+use Rattle.format.specs.Notes.{noteAt, freeNote, recordedNote, isPending}
 use Rattle.disk.specs.Eight.{eight-sound}
 use Rattle.model.specs.declared.Asked.{Asked}
 use Rattle.model.specs.Lent.{ended}
@@ -26,7 +26,7 @@ use Rattle.once.specs.Calls.{Timed}
 use Rattle.once.specs.Picks.{PickAccess, pick-run}
 use Rattle.once.specs.Session.{anyAccepted, session-handed-back, nothing-accepted}
 use Rattle.once.specs.Table.{answer}
-use Rattle.once.specs.Unharmed.{Touched, trouble-unharmed, bytes-unharmed, map-stays-right, nothing-pending, protection-stays}
+use Rattle.once.specs.Unharmed.{Touched, trouble-unharmed, bytes-unharmed, map-stays-right, notes-unharmed, one-note-changes, nothing-pending, protection-stays}
 use Rattle.once.specs.Word.{word-read, word-as-lent, word-handed-out}
 
 -- three bytes can count its records
@@ -79,6 +79,16 @@ module _ (t : Time) (w : Wanted) (nm : Named w) (d : Disk) (buffer : Bytes) wher
   pub five-pending : (b : ℕ) → b < eightInch .blocks → isPending (noteAt (picked eightInch t w d buffer .disk .drive .map) b) ≡ true
       → noteAt (picked eightInch t w d buffer .disk .drive .map) b ≡ noteAt (d .drive .map) b
   five-pending = nothing-pending eight-sound countable t w nm d buffer
+
+  -- each note stays, but that of at most one block, which was free and is recorded now
+  pub five-notes : (b : ℕ) → b < eightInch .blocks → (noteAt (picked eightInch t w d buffer .disk .drive .map) b ≡ noteAt (d .drive .map) b)
+      ⊎ ((noteAt (d .drive .map) b ≡ freeNote) × (noteAt (picked eightInch t w d buffer .disk .drive .map) b ≡ recordedNote))
+  five-notes = notes-unharmed eight-sound countable t w nm d buffer
+
+  pub five-one-note : (b c : ℕ) → b < eightInch .blocks → c < eightInch .blocks
+      → (noteAt (picked eightInch t w d buffer .disk .drive .map) b ≡ noteAt (d .drive .map) b → ⊥)
+      → (noteAt (picked eightInch t w d buffer .disk .drive .map) c ≡ noteAt (d .drive .map) c → ⊥) → b ≡ c
+  five-one-note = one-note-changes eight-sound countable t w nm d buffer
 
   pub five-protection : picked eightInch t w d buffer .disk .session .lifted ≡ d .session .lifted
   five-protection = protection-stays eight-sound countable t w nm d buffer

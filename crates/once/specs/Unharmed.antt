@@ -5,12 +5,16 @@ use mathlib.Core.Logic.{_⊎_, inl, inr}
 use mathlib.Core.Bool.{true, false}
 use mathlib.Core.List.{List, [], _∷_}
 use Prim.Native.Nat.{ℕ, _*_, _<_, _/_, _%_}
+use native.Mathlib.Nat.{mod-lt}
 use native.Mathlib.Omega.{arith}
 use lib.ListN.{getD}
 use borrow.Author.Tests.{leb-true}
 use Rattle.lists.specs.Cases.{split, bool-cases, eq-or-ne, not-both}
-use native.Mathlib.Nat.{mod-lt}
+use Rattle.format.specs.Diskette.{Bytes, Geometry, Sound, extentRecords}
+use Rattle.format.specs.Entries.{entryAt, exOf, isFile}
 use Rattle.format.specs.Dates.{isDates}
+use Rattle.format.specs.Notes.{noteAt, freeNote, recordedNote, isPending}
+use Rattle.facts.specs.Naming.{file-named}
 use Rattle.disk.specs.Places.{block-once}
 use Rattle.consistency.specs.Naming.{file-found}
 use Rattle.model.specs.Lent.{protected}
@@ -19,10 +23,6 @@ use Rattle.effects.specs.View.{Names}
 use Rattle.stored.specs.Told.{blockIn}
 use Rattle.once.specs.Same.{size-same}
 use Rattle.once.specs.Table.{sizeIs, extentAt}
-use Rattle.format.specs.Diskette.{Bytes, Geometry, Sound, extentRecords}
-use Rattle.format.specs.Entries.{entryAt, exOf, isFile}
-use Rattle.facts.specs.Naming.{file-named}
-use Rattle.format.specs.Notes.{noteAt, isPending}
 use Rattle.model.specs.Stamps.{Stamp}
 use Rattle.invariant.specs.Good.{Good}
 use Rattle.invariant.specs.Stamps.{stamped-all, Each}
@@ -241,17 +241,36 @@ module _ {G : Geometry} (S : Sound G) (countable : G .perBlock * G .blocks < 167
       go (same f r) = good-restamped S (PickAccess G t w d) d e r h
       go (more p y g) = g .log .sane .good
 
-  -- nothing is pending that was not before: each note stays, or becomes recorded
+  -- each note stays, or that of a free block becomes recorded
+  pub notes-unharmed : (b : ℕ) → b < G .blocks → (noteAt (picked G t w d buffer .disk .drive .map) b ≡ noteAt (d .drive .map) b)
+      ⊎ ((noteAt (d .drive .map) b ≡ freeNote) × (noteAt (picked G t w d buffer .disk .drive .map) b ≡ recordedNote))
+  notes-unharmed b low = go left
+    where
+      go : Left G t w d (picked G t w d buffer) → (noteAt (picked G t w d buffer .disk .drive .map) b ≡ noteAt (d .drive .map) b)
+          ⊎ ((noteAt (d .drive .map) b ≡ freeNote) × (noteAt (picked G t w d buffer .disk .drive .map) b ≡ recordedNote))
+      go (same f r) = inl (ap (λ (m : Bytes). noteAt m b) (r .map))
+      go (more p y g) =
+          let here : noteAt (g .mid .drive .map) b ≡ noteAt (d .drive .map) b = ap (λ (m : Bytes). noteAt m b) (g .before .map) in
+          split (g .log .grown .notes b low) (λ q. inl (q ∙ here)) (λ q. inr (sym here ∙ q .1, q .2))
+
+  -- at most one note changes
+  pub one-note-changes : (b c : ℕ) → b < G .blocks → c < G .blocks → (noteAt (picked G t w d buffer .disk .drive .map) b ≡ noteAt (d .drive .map) b → ⊥)
+      → (noteAt (picked G t w d buffer .disk .drive .map) c ≡ noteAt (d .drive .map) c → ⊥) → b ≡ c
+  one-note-changes b c low-b low-c change-b change-c = go left
+    where
+      go : Left G t w d (picked G t w d buffer) → b ≡ c
+      go (same f r) = absurd (change-b (ap (λ (m : Bytes). noteAt m b) (r .map)))
+      go (more p y g) =
+          split (g .log .grown .notes b low-b) (λ q. absurd (change-b (q ∙ ap (λ (m : Bytes). noteAt m b) (g .before .map))))
+          (λ q. split (g .log .grown .notes c low-c) (λ z. absurd (change-c (z ∙ ap (λ (m : Bytes). noteAt m c) (g .before .map))))
+          (λ z. q .0 ∙ sym (z .0)))
+
+  -- so nothing is pending that was not before
   pub nothing-pending : (b : ℕ) → b < G .blocks → isPending (noteAt (picked G t w d buffer .disk .drive .map) b) ≡ true
       → noteAt (picked G t w d buffer .disk .drive .map) b ≡ noteAt (d .drive .map) b
   unfolding isPending
-  nothing-pending b low h = go left
-    where
-      go : Left G t w d (picked G t w d buffer) → noteAt (picked G t w d buffer .disk .drive .map) b ≡ noteAt (d .drive .map) b
-      go (same f r) = ap (λ (m : Bytes). noteAt m b) (r .map)
-      go (more p y g) =
-          split (g .log .grown .notes b low) (λ q. q ∙ ap (λ (m : Bytes). noteAt m b) (g .before .map))
-          (λ q. absurd (omega (arith, leb-true 16 (noteAt (e .drive .map) b) h, q)))
+  nothing-pending b low h =
+      split (notes-unharmed b low) (λ q. q) (λ q. absurd (omega (arith, leb-true 16 (noteAt (e .drive .map) b) h, q .1)))
 
   -- the user and the protection are what they were
   pub user-stays : picked G t w d buffer .disk .session .user ≡ d .session .user

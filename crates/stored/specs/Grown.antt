@@ -55,8 +55,8 @@ pub record Grown (G : Geometry) (s t : View) (user : ℕ) (f : Bytes) (r : ℕ) 
   pub past : G .area ≤ block
   pub slot : slotOf G (t .rows entry) (slotAtRecord G r) ≡ block
   pub origin : (s .notes block ≡ freeNote) ⊎ (slotOf G base (slotAtRecord G r) ≡ block)
-  -- each note stays, or becomes recorded
-  pub notes : (y : ℕ) → y < G .blocks → (t .notes y ≡ s .notes y) ⊎ (t .notes y ≡ recordedNote)
+  -- each note stays, but that of the record's own block, which was free and is recorded now
+  pub notes : (y : ℕ) → y < G .blocks → (t .notes y ≡ s .notes y) ⊎ ((y ≡ block) × (s .notes y ≡ freeNote) × (t .notes y ≡ recordedNote))
   -- the records
   pub recs : (x : ℕ) → areaRecords G ≤ x → x < blockRecords G → (x ≡ placeIn G block (r % extentRecords) → ⊥) → t .recs x ≡ s .recs x
   pub new : t .recs (placeIn G block (r % extentRecords)) ≡ v
@@ -148,7 +148,7 @@ grown-before g was rows dates notes recs = record {
   past = g .past;
   slot = g .slot;
   origin = split (g .origin) (λ z. inl (sym (notes (g .block)) ∙ z)) (λ z. inr z);
-  notes = λ y h. split (g .notes y h) (λ z. inl (z ∙ notes y)) (λ z. inr z);
+  notes = λ y h. split (g .notes y h) (λ z. inl (z ∙ notes y)) (λ z. inr (z .0, sym (notes y) ∙ z .1, z .2));
   recs = λ x a b q. g .recs x a b q ∙ recs x a b;
   new = g .new;
 }

@@ -34,12 +34,12 @@ use Rattle.model.specs.Entering.{entered, nextRow}
 use Rattle.model.specs.Target.{targetExtent, targetRecord, targetSlot, crAfter, presentEntry, targetEntry, stays, plan, moved, made, placeIn, haveWritten, writtenCount, writtenFcb, writtenMap}
 use Rattle.model.specs.Calls.{writtenAt, writing, written}
 use Rattle.fields.specs.Agree.{isFile-asked, isFile-cong}
-use Rattle.fields.specs.Closing.{end-closed, slot-closed-old, slot-closed-new, file-closed, unchanged-end, map-kept, note-closed-cases}
+use Rattle.fields.specs.Closing.{end-closed, slot-closed-old, slot-closed-new, file-closed, unchanged-end, map-kept, Takes, note-closed-cases}
 use Rattle.fields.specs.Images.{row-closedImage, row-closedImage-other, record-closedImage}
 use Rattle.fields.specs.Entering.{slot-entered}
 use Rattle.fields.specs.OpenClose.{opened-keeps}
 use Rattle.fields.specs.Making.{length-nextRow, zero-next, slot-next, extent-next}
-use Rattle.fields.specs.Target.{record-below, crAfter-high, targetSlot-below, place-below, extent-written, slot-written, rc-written, count-written-high, map-written-kept, note-written-other}
+use Rattle.fields.specs.Target.{record-below, crAfter-high, targetSlot-below, place-below, extent-written, slot-written, slot-written-other, rc-written, count-written-high, map-written-kept, note-written-other}
 use Rattle.table.specs.Facts.{Fits, Writes}
 use Rattle.table.specs.Plans.{Block, Planned, stay, move, make, planned-write}
 use Rattle.table.specs.Plans as Plans
@@ -200,9 +200,26 @@ module _ {G : Geometry} (S : Sound G) (n : ℕ) (l : Lent) (s : Session) (g : Go
       split (bool-cases (eqb (slotOf G (there .fcb) j) 0)) (λ z. rw z (length-set (there .drive .map) b (pendingFor t j) ∙ here-good .map-long))
       (λ z. rw z (here-good .map-long))
 
-  new-notes : (y : ℕ) → y < G .blocks → (noteAt (closedMap G row fcb map) y ≡ noteAt (there .drive .map) y) ⊎ (noteAt (closedMap G row fcb map) y ≡ recordedNote)
+  -- the close takes no slot but the record's: the others are the entry's
+  takes-own : (y : ℕ) → Takes G row fcb y → (y ≡ b) × (slotOf G row j ≡ 0)
+  takes-own y k =
+      split (eq-or-ne (k .slot) j)
+      (λ q. (
+        sym (k .is) ∙ ap (slotOf G fcb) q ∙ slot-written G (there .fcb) count j b r (crAfter n (l .fcb)) j-real (came .long),
+        sym (ap (slotOf G row) q) ∙ k .was,
+      ))
+      (λ q. absurd (k .some (sym (k .is) ∙ slot-written-other G (there .fcb) count j b r (crAfter n (l .fcb)) j-real (k .slot) q
+      ∙ says .slots (k .slot) (k .below) ∙ k .was)))
+
+  -- a block that the write took was free
+  was-free : slotOf G row j ≡ 0 → noteAt (l .drive .map) b ≡ freeNote
+  was-free z = split origin (λ q. q) (λ q. absurd (let e : b ≡ 0 = sym q ∙ z in omega (arith, past, S .area-some)))
+
+  new-notes : (y : ℕ) → y < G .blocks → (noteAt (closedMap G row fcb map) y ≡ noteAt (there .drive .map) y)
+      ⊎ ((y ≡ b) × (noteAt (l .drive .map) y ≡ freeNote) × (noteAt (closedMap G row fcb map) y ≡ recordedNote))
   new-notes y h =
-      split (note-closed-cases G row fcb map y (rw map-long h)) (λ k. inr (k .1))
+      split (note-closed-cases G row fcb map y (rw map-long h))
+      (λ k. let own = takes-own y (k .0) in inr (own .0, ap (noteAt (l .drive .map)) (own .0) ∙ was-free (own .1), k .1))
       (λ k. split (eq-or-ne y b)
       (λ q. split (eq-or-ne (slotOf G (there .fcb) j) 0)
       (λ z. absurd (k .0 record {
@@ -310,7 +327,7 @@ module _ {G : Geometry} (S : Sound G) (n : ℕ) (l : Lent) (s : Session) (g : Go
         slot = ap (slotOf G (entryAt G shut t)) slot-at ∙ ap (λ (y : Bytes). slotOf G y j) new-row ∙ new-slot;
         origin = split origin (λ z. inl z) (λ z. inr (ap (slotOf G row) slot-at ∙ z));
         notes = λ y h. let here = ap (λ (z : Bytes). noteAt (closedMap G z fcb map) y) stamped-row in
-            split (new-notes y h) (λ q. inl (here ∙ q ∙ ap (λ (z : Bytes). noteAt z y) maps)) (λ q. inr (here ∙ q));
+            split (new-notes y h) (λ q. inl (here ∙ q ∙ ap (λ (z : Bytes). noteAt z y) maps)) (λ q. inr (q .0, q .1, here ∙ q .2));
         recs = λ y a h q. shut-recs y a h
             ∙ record-left S (there .drive .image) (here-good .image-long) (placeIn G b r) in-blocks (there .buffer) full y h
             (λ z. q (sym z ∙ sym place-at)) ∙ recs y a h;
