@@ -6,13 +6,15 @@ use mathlib.Core.Bool.{true, false, cond}
 use Prim.Native.Nat.{ℕ, _*_, _≤_, _<_}
 use native.Mathlib.Omega.{arith}
 use lib.ListN.{length, getD}
-use Rattle.format.specs.Diskette.{Bytes, eightInch, recordBytes}
-use Rattle.format.specs.Notes.{noteAt, freeNote, recordedNote, isPending}
+use Rattle.format.specs.Diskette.{Bytes, eightInch, recordBytes, Long}
+use Rattle.format.specs.Entries.{entryAt}
+use Rattle.format.specs.Dates.{isDates}
+use Rattle.format.specs.Consistent.{consistent}
+use Rattle.format.specs.Notes.{mapRight, noteAt, freeNote, recordedNote, isPending}
 use Rattle.disk.specs.Eight.{eight-sound}
 use Rattle.model.specs.declared.Asked.{Asked}
-use Rattle.model.specs.Lent.{ended}
+use Rattle.model.specs.Lent.{ended, protected}
 use Rattle.model.specs.Table.{timeRight}
-use Rattle.invariant.specs.Good.{Good}
 use Rattle.demands.specs.Runs.{Disk}
 use Rattle.stored.specs.Closed.{Restamped}
 use Rattle.stored.specs.Looking.{ReadsAs}
@@ -24,9 +26,9 @@ use Rattle.once.specs.Again.{LoggedOnce, logged-once, Repeats, again-say
 use Rattle.once.specs.Bytes.{Named, same-year, same-day}
 use Rattle.once.specs.Calls.{Timed}
 use Rattle.once.specs.Picks.{PickAccess, pick-run}
-use Rattle.once.specs.Session.{anyAccepted, session-handed-back, nothing-accepted}
+use Rattle.once.specs.Session.{bookOpened, session-handed-back, nothing-accepted}
 use Rattle.once.specs.Table.{answer}
-use Rattle.once.specs.Unharmed.{Touched, trouble-unharmed, bytes-unharmed, map-stays-right, notes-unharmed, one-note-changes, nothing-pending, protection-stays}
+use Rattle.once.specs.Unharmed.{Touched, trouble-unharmed, bytes-unharmed, stays-right, one-entry, protected-unharmed, notes-unharmed, one-note-changes, nothing-pending, protection-stays}
 use Rattle.once.specs.Word.{word-read, word-as-lent, word-handed-out}
 
 -- three bytes can count its records
@@ -64,18 +66,34 @@ module _ (t : Time) (w : Wanted) (nm : Named w) (d : Disk) (buffer : Bytes) wher
       → length other ≡ recordBytes → SecondRun eightInch w again (picked eightInch t w d buffer) (picked eightInch again w (picked eightInch t w d buffer .disk) other)
   three-second = second-run eight-sound countable w nm t d buffer
 
-  -- ---- 4: on trouble, and on "again", no byte of image or map changes but access stamps of book and log
+  -- ---- 4: on trouble, and on "again", no byte of image or map changes but access stamps of book and log, of the time handed in; and none at all on a
+  -- protected session
   pub four-unharmed : (picked eightInch t w d buffer .pick ≡ Logged → ⊥) → Restamped eightInch (PickAccess eightInch t w d) d (picked eightInch t w d buffer .disk)
   four-unharmed = trouble-unharmed eight-sound countable t w nm d buffer
 
-  -- ---- 5: in any run no byte changes but in entries, stamps and records of the log, and access stamps of the book; the map stays right, nothing is
-  -- pending that was not, and the protection is what it was; the search is ended if a call was accepted, and if none was nothing changed at all
+  pub four-protected : protected (d .session) ≡ true → (picked eightInch t w d buffer .pick ≡ Logged → ⊥)
+      → (picked eightInch t w d buffer .disk .drive .image ≡ d .drive .image) × (picked eightInch t w d buffer .disk .drive .map ≡ d .drive .map)
+  four-protected = protected-unharmed eight-sound countable t w nm d buffer
+
+  -- ---- 5: in any run no byte changes but in entries of the log and stamps beside them, in the one record written, and in the access stamp of the book; at
+  -- most one entry changes, date entries aside; image and map stay right and as long as they were
   pub five-bytes : (i : ℕ) → (getD (picked eightInch t w d buffer .disk .drive .image) i 0 ≡ getD (d .drive .image) i 0) ⊎ Touched eightInch t w d (picked eightInch t w d buffer .disk) i
   five-bytes = bytes-unharmed eight-sound countable t w nm d buffer
 
-  pub five-map : Good eightInch (d .drive .image) (d .drive .map) → Good eightInch (picked eightInch t w d buffer .disk .drive .image) (picked eightInch t w d buffer .disk .drive .map)
-  five-map = map-stays-right eight-sound countable t w nm d buffer
+  pub five-entry : (j k : ℕ) → j < eightInch .entries → k < eightInch .entries → isDates (entryAt eightInch (d .drive .image) j) ≡ false
+      → isDates (entryAt eightInch (d .drive .image) k) ≡ false
+      → (entryAt eightInch (picked eightInch t w d buffer .disk .drive .image) j ≡ entryAt eightInch (d .drive .image) j → ⊥)
+      → (entryAt eightInch (picked eightInch t w d buffer .disk .drive .image) k ≡ entryAt eightInch (d .drive .image) k → ⊥) → j ≡ k
+  five-entry = one-entry eight-sound countable t w nm d buffer
 
+  pub five-map : Long eightInch (d .drive .image) → length (d .drive .map) ≡ eightInch .blocks → consistent eightInch (d .drive .image) ≡ true
+      → mapRight eightInch (entryAt eightInch (d .drive .image)) (d .drive .map) ≡ true
+      → Long eightInch (picked eightInch t w d buffer .disk .drive .image) × (length (picked eightInch t w d buffer .disk .drive .map) ≡ eightInch .blocks)
+      × (consistent eightInch (picked eightInch t w d buffer .disk .drive .image) ≡ true)
+      × (mapRight eightInch (entryAt eightInch (picked eightInch t w d buffer .disk .drive .image)) (picked eightInch t w d buffer .disk .drive .map) ≡ true)
+  five-map = stays-right eight-sound countable t w nm d buffer
+
+  -- nothing is pending that was not before
   pub five-pending : (b : ℕ) → b < eightInch .blocks → isPending (noteAt (picked eightInch t w d buffer .disk .drive .map) b) ≡ true
       → noteAt (picked eightInch t w d buffer .disk .drive .map) b ≡ noteAt (d .drive .map) b
   five-pending = nothing-pending eight-sound countable t w nm d buffer
@@ -90,13 +108,15 @@ module _ (t : Time) (w : Wanted) (nm : Named w) (d : Disk) (buffer : Bytes) wher
       → (noteAt (picked eightInch t w d buffer .disk .drive .map) c ≡ noteAt (d .drive .map) c → ⊥) → b ≡ c
   five-one-note = one-note-changes eight-sound countable t w nm d buffer
 
+  -- the protection is what it was; the search is ended where the book was opened, before which no call is made, and after which none where it was refused;
+  -- nothing changes at all then
   pub five-protection : picked eightInch t w d buffer .disk .session .lifted ≡ d .session .lifted
   five-protection = protection-stays eight-sound countable t w nm d buffer
 
-  pub five-nothing : anyAccepted eightInch t w d buffer ≡ false → picked eightInch t w d buffer .disk ≡ d
+  pub five-nothing : bookOpened eightInch t w d buffer ≡ false → picked eightInch t w d buffer .disk ≡ d
   five-nothing = nothing-accepted eightInch t w d buffer
 
-  pub five-session : picked eightInch t w d buffer .disk .session ≡ cond (anyAccepted eightInch t w d buffer) (ended (d .session)) (d .session)
+  pub five-session : picked eightInch t w d buffer .disk .session ≡ cond (bookOpened eightInch t w d buffer) (ended (d .session)) (d .session)
   five-session = session-handed-back eightInch t w d buffer
 
   -- ---- 6: the answer is that of the table, in words of the directory, for any disk, map, session and time and any bytes lent

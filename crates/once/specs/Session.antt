@@ -142,9 +142,9 @@ searches G asked l s n (ends18 r a b) q = let z : _≡_ {A = ℕ} 18 15 = q in o
 
 -- ---- a run
 module _ (G : Geometry) (t : Time) (w : Wanted) (d : Disk) (buffer : Bytes) where
-  -- a call was accepted: the open of the book, before which no other comes
-  unfoldable pub anyAccepted : Bool
-  anyAccepted = not (ltb Picker.lastDay (w .day)) and accepts G d (Picker.opening t (w .book))
+  -- a call was accepted: the open of the book, before which no call is made, and after which none where it is refused
+  unfoldable pub bookOpened : Bool
+  bookOpened = not (ltb Picker.lastDay (w .day)) and accepts G d (Picker.opening t (w .book))
 
   -- a refused open leaves the session
   refused-open : accepts G d (Picker.opening t (w .book)) ≡ false → left (outcomeOf G d (Picker.opening t (w .book))) .session ≡ d .session
@@ -155,8 +155,8 @@ module _ (G : Geometry) (t : Time) (w : Wanted) (d : Disk) (buffer : Bytes) wher
       (λ r. split (r .1 .session) (λ x. absurd (searches G (q .asked) (lentTo d q) (d .session) 15 (x .0) refl)) (λ x. x .1))
       (λ c. not-both _ (carried-says G (q .asked) (lentTo d q) (d .session) c) f)
 
-  pub session-handed-back : Picker.picked G t w d buffer .disk .session ≡ cond anyAccepted (ended (d .session)) (d .session)
-  unfolding Picker.picked Picker.looked anyAccepted kindOf _and_
+  pub session-handed-back : Picker.picked G t w d buffer .disk .session ≡ cond bookOpened (ended (d .session)) (d .session)
+  unfolding Picker.picked Picker.looked bookOpened kindOf _and_
   session-handed-back =
       split (bool-cases (ltb Picker.lastDay (w .day))) (λ x. rw x)
       (λ x. split (bool-cases (accepts G d (Picker.opening t (w .book))))
@@ -165,8 +165,8 @@ module _ (G : Geometry) (t : Time) (w : Wanted) (d : Disk) (buffer : Bytes) wher
       (λ a. rw (x, a) (refused-open a)))
 
   -- where none was, nothing changed at all
-  pub nothing-accepted : anyAccepted ≡ false → Picker.picked G t w d buffer .disk ≡ d
-  unfolding Picker.picked Picker.looked anyAccepted outcomeOf
+  pub nothing-accepted : bookOpened ≡ false → Picker.picked G t w d buffer .disk ≡ d
+  unfolding Picker.picked Picker.looked bookOpened outcomeOf
   nothing-accepted n =
       let q : Request = Picker.opening t (w .book) in
       split (bool-cases (ltb Picker.lastDay (w .day))) (λ x. rw x)
@@ -177,6 +177,6 @@ module _ (G : Geometry) (t : Time) (w : Wanted) (d : Disk) (buffer : Bytes) wher
       (λ c. not-both _ (carried-says G (q .asked) (lentTo d q) (d .session) c) a)))
 
   -- and where one was, the disk and the session were right
-  pub accepted-sane : anyAccepted ≡ true → Sane G d
-  unfolding anyAccepted
+  pub accepted-sane : bookOpened ≡ true → Sane G d
+  unfolding bookOpened
   accepted-sane y = sane-accepted G d (Picker.opening t (w .book)) (and-right _ _ y) (λ z. omega arith)

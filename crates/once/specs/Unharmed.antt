@@ -7,13 +7,14 @@ use mathlib.Core.List.{List, [], _∷_}
 use Prim.Native.Nat.{ℕ, _*_, _<_, _/_, _%_}
 use native.Mathlib.Nat.{mod-lt}
 use native.Mathlib.Omega.{arith}
-use lib.ListN.{getD}
+use lib.ListN.{length, getD}
 use borrow.Author.Tests.{leb-true}
 use Rattle.lists.specs.Cases.{split, bool-cases, eq-or-ne, not-both}
-use Rattle.format.specs.Diskette.{Bytes, Geometry, Sound, extentRecords}
+use Rattle.format.specs.Diskette.{Bytes, Geometry, Sound, Long, extentRecords}
 use Rattle.format.specs.Entries.{entryAt, exOf, isFile}
 use Rattle.format.specs.Dates.{isDates}
-use Rattle.format.specs.Notes.{noteAt, freeNote, recordedNote, isPending}
+use Rattle.format.specs.Consistent.{consistent}
+use Rattle.format.specs.Notes.{noteAt, freeNote, recordedNote, isPending, mapRight}
 use Rattle.facts.specs.Naming.{file-named}
 use Rattle.disk.specs.Places.{block-once}
 use Rattle.consistency.specs.Naming.{file-found}
@@ -24,7 +25,7 @@ use Rattle.stored.specs.Told.{blockIn}
 use Rattle.once.specs.Same.{size-same}
 use Rattle.once.specs.Table.{sizeIs, extentAt}
 use Rattle.model.specs.Stamps.{Stamp}
-use Rattle.invariant.specs.Good.{Good}
+use Rattle.invariant.specs.Good.{Good, good-of, good-consistent, good-right}
 use Rattle.invariant.specs.Stamps.{stamped-all, Each}
 use Rattle.effects.specs.Where.{Where, in-stamp, frame-wider, by-rule, in-entry, in-new, in-record, Theirs}
 use Rattle.effects.specs.Closed.{byName}
@@ -42,7 +43,7 @@ use Rattle.picking.specs.declared.Pick.the-variants.{Logged, Again, DayOver, No
 use Rattle.picking.specs.Picker.{fcbOf, picked, logRecord}
 use Rattle.once.specs.Bytes.{Named}
 use Rattle.once.specs.Logs.{isLogged}
-use Rattle.once.specs.Session.{anyAccepted, nothing-accepted, accepted-sane}
+use Rattle.once.specs.Session.{bookOpened, nothing-accepted, accepted-sane}
 use Rattle.once.specs.Picks.{BookAccess, PickAccess, PickGrew, Left, same, more, pick-run}
 
 -- an answer other than "picked and logged"
@@ -213,7 +214,7 @@ module _ {G : Geometry} (S : Sound G) (countable : G .perBlock * G .blocks < 167
   -- a byte that changed lies there
   pub bytes-unharmed : (i : ℕ) → (getD (picked G t w d buffer .disk .drive .image) i 0 ≡ getD (d .drive .image) i 0) ⊎ Touched G t w d (picked G t w d buffer .disk) i
   bytes-unharmed i =
-      split (bool-cases (anyAccepted G t w d buffer)) (λ y. go (accepted-sane G t w d buffer y) left)
+      split (bool-cases (bookOpened G t w d buffer)) (λ y. go (accepted-sane G t w d buffer y) left)
       (λ y. inl (ap (λ (x : Disk). getD (x .drive .image) i 0) (nothing-accepted G t w d buffer y)))
     where
       go : Sane G d → Left G t w d (picked G t w d buffer) → (getD (picked G t w d buffer .disk .drive .image) i 0 ≡ getD (d .drive .image) i 0)
@@ -226,7 +227,7 @@ module _ {G : Geometry} (S : Sound G) (countable : G .perBlock * G .blocks < 167
       → (entryAt G (picked G t w d buffer .disk .drive .image) j ≡ entryAt G (d .drive .image) j → ⊥)
       → (entryAt G (picked G t w d buffer .disk .drive .image) k ≡ entryAt G (d .drive .image) k → ⊥) → j ≡ k
   one-entry j k lj lk pj pk cj ck =
-      split (bool-cases (anyAccepted G t w d buffer)) (λ y. go (accepted-sane G t w d buffer y) left)
+      split (bool-cases (bookOpened G t w d buffer)) (λ y. go (accepted-sane G t w d buffer y) left)
       (λ y. absurd (cj (ap (λ (x : Disk). entryAt G (x .drive .image) j) (nothing-accepted G t w d buffer y))))
     where
       go : Sane G d → Left G t w d (picked G t w d buffer) → j ≡ k
@@ -234,12 +235,21 @@ module _ {G : Geometry} (S : Sound G) (countable : G .perBlock * G .blocks < 167
       go sane (more p y g) = changed-is g j lj pj cj ∙ sym (changed-is g k lk pk ck)
 
   -- an image that is consistent and a map that is right stay so, and keep their lengths
-  pub map-stays-right : Good G (d .drive .image) (d .drive .map) → Good G (picked G t w d buffer .disk .drive .image) (picked G t w d buffer .disk .drive .map)
+  map-stays-right : Good G (d .drive .image) (d .drive .map) → Good G (picked G t w d buffer .disk .drive .image) (picked G t w d buffer .disk .drive .map)
   map-stays-right h = go left
     where
       go : Left G t w d (picked G t w d buffer) → Good G (picked G t w d buffer .disk .drive .image) (picked G t w d buffer .disk .drive .map)
       go (same f r) = good-restamped S (PickAccess G t w d) d e r h
       go (more p y g) = g .log .sane .good
+
+  pub stays-right : Long G (d .drive .image) → length (d .drive .map) ≡ G .blocks → consistent G (d .drive .image) ≡ true
+      → mapRight G (entryAt G (d .drive .image)) (d .drive .map) ≡ true
+      → Long G (picked G t w d buffer .disk .drive .image) × (length (picked G t w d buffer .disk .drive .map) ≡ G .blocks)
+      × (consistent G (picked G t w d buffer .disk .drive .image) ≡ true)
+      × (mapRight G (entryAt G (picked G t w d buffer .disk .drive .image)) (picked G t w d buffer .disk .drive .map) ≡ true)
+  stays-right long many c r =
+      let g = map-stays-right (good-of G (d .drive .image) (d .drive .map) long many c r) in
+      (g .image-long, g .map-long, good-consistent G (e .drive .image) (e .drive .map) g, good-right G (e .drive .image) (e .drive .map) g)
 
   -- each note stays, or that of a free block becomes recorded
   pub notes-unharmed : (b : ℕ) → b < G .blocks → (noteAt (picked G t w d buffer .disk .drive .map) b ≡ noteAt (d .drive .map) b)

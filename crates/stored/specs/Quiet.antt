@@ -239,15 +239,18 @@ module _ {G : Geometry} (S : Sound G) (d : Disk) (q : Request) (number : q .aske
     own-stamps y =
         rw (eq-eqb (q .asked .number) 15 number, opens .entry .is)
         (cond-either (Each Here) (not (protected (d .session)) and asks G (entryAt G (d .drive .image)) asksAccess)
-        (λ t. (record {
-          first = refl;
-          time = refl;
-          low = found .below;
-          file = found .holds;
-          asked = and-right _ _ t;
-          dates = dates-beside S (d .drive .image) (d .drive .map) (sane .good) y (opens .entry .place) (found .below);
-          lifted = not-true _ (and-left _ _ t);
-        }, tt)) (λ f. tt))
+        (λ t. (
+          record {
+            first = refl;
+            time = refl;
+            low = found .below;
+            file = found .holds;
+            asked = and-right _ _ t;
+            dates = dates-beside S (d .drive .image) (d .drive .map) (sane .good) y (opens .entry .place) (found .below);
+            lifted = not-true _ (and-left _ _ t);
+          },
+          tt,
+        )) (λ f. tt))
 
     abbrev made : List Stamp
     made = whereDated (dated (entryAt G (d .drive .image))) (stampsBy G (q .asked) (lentTo d q) (d .session) Quiet)
