@@ -43,7 +43,6 @@ use Rattle.once.specs.Calls.{Timed}
 use Rattle.once.specs.Logs.{isLogged, first-at}
 use Rattle.once.specs.Picks.{hasWord, PickAccess, PickGrew, Left, same, more, pick-run}
 use Rattle.once.specs.Right.{parameters-of, disk-of}
-use Rattle.once.specs.Same.{size-same}
 use Rattle.once.specs.Table.{parametersAre, diskIs, nameIs, hasEntry, extentAt, sizeIs, recordIs, bytesAre, someEmpty, someFree, hasDay, nextEntry, logLocked, noBlock, growing, beginning, logAnswer, wordAnswer, bookAnswer, answer}
 use Rattle.once.specs.Unharmed.{trouble-unharmed, log-grown}
 use Rattle.once.specs.Word.{can-read, read-can, first-named, first-found}

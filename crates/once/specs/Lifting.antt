@@ -8,16 +8,12 @@ use Rattle.format.specs.Diskette.{Geometry}
 use Rattle.model.specs.declared.Session.{Session}
 use Rattle.model.specs.Lent.{Outcome, withLifted, protected}
 use Rattle.demands.specs.Runs.{Request, Disk, lentTo, outcomeOf, left, liftedBy}
-use Rattle.demands.specs.Protected.{lifted-stays}
+use Rattle.demands.specs.Protected.{lifted-stays, relifted}
 use Rattle.picking.specs.Picker.{unlocked, relocked, liftedCall}
 
 -- the byte while the call is made
 unfoldable pub openByte : Session → ℕ
 openByte s = cond (protected s) 1 (s .lifted)
-
--- an outcome with another such byte
-abbrev pub relifted : ℕ → Outcome → Outcome
-relifted b o = record { answer = record { a = o .answer .a; h = o .answer .h; session = withLifted (o .answer .session) b }; lent = o .lent }
 
 -- the call as it is made
 abbrev pub openedUp : Disk → Disk

@@ -1,6 +1,6 @@
 -- A whole run of the picker, on any disk and with any bytes lent: its answer is the table's; the word is the day's record of the book, or stays as it
 -- was lent; and the disk is the same but for access stamps of book and log, or has the log grown.
-use mathlib.Core.Path.{_≡_, refl, ap, sym, _∙_, subst}
+use mathlib.Core.Path.{_≡_, refl, ap, sym, _∙_}
 use mathlib.Core.Logic.{_⊎_, inl, inr}
 use mathlib.Core.Bool.{Bool, true, false, cond, not}
 use Prim.Native.Nat.{ℕ, _*_, _≤_, _<_}

@@ -78,7 +78,7 @@ oneFile w = nameLike false (w .book) 0 (w .log) 0
 unfoldable pub spaceIn : Bytes → ℕ
 spaceIn b = getD b 0 0 + 256 * getD b 1 0 + 65536 * getD b 2 0
 
--- a day of a year, and a log that is not full
+-- the last day of a year, and the records of a full log
 abbrev pub lastDay : ℕ
 lastDay = 365
 

@@ -33,7 +33,6 @@ use Rattle.model.specs.Table.{timeRight}
 use Rattle.fields.specs.Agree.{SameName, named-asked}
 use Rattle.table.specs.Own.{kinds-apart}
 use Rattle.invariant.specs.Good.{Good}
-use Rattle.fields.specs.Stamps.{InStamp}
 use Rattle.effects.specs.View.{viewOf, Names, Mine, listed, pending, spare-free, mine-low}
 use Rattle.effects.specs.Effect.{Effect, NoneNew, none-one, new-later, new-earlier, more-effect}
 use Rattle.effects.specs.Change.{where-after}

@@ -17,7 +17,7 @@ use Rattle.format.specs.Fcb.{fcbBytes, fcbEnd}
 use Rattle.format.specs.declared.Found.the-variants.{At}
 use Rattle.facts.specs.Found.{FirstAt}
 use Rattle.facts.specs.Find.{fileTest, file-says}
-use Rattle.facts.specs.Naming.{file-named, file-user, file-run}
+use Rattle.facts.specs.Naming.{file-user, file-run}
 use Rattle.consistency.specs.Naming.{file-used}
 use Rattle.rows.specs.Entries.{length-entryAt}
 use Rattle.model.specs.declared.Asked.{Asked}
@@ -29,7 +29,7 @@ use Rattle.model.specs.Lent.{Drive, Lent, Outcome, protected, ended}
 use Rattle.model.specs.Entering.{entered}
 use Rattle.model.specs.Target.{presentEntry}
 use Rattle.model.specs.Calls.{openedAt, opened}
-use Rattle.model.specs.Stamps.{Stamp, first, timeStamp, accessStamps, stampsBy, stampedOutcome, whereDated}
+use Rattle.model.specs.Stamps.{Stamp, first, accessStamps, stampsBy, stampedOutcome, whereDated}
 use Rattle.model.specs.Step.{told, does}
 use Rattle.model.specs.Table.{timeRight, askedEntry, ownRows, moveChanges, protectionHolds}
 use Rattle.fields.specs.Agree.{count-cong}
