@@ -1,6 +1,6 @@
 -- What two runs of the picker that meet its contract come to: document 02's "however often it is started".
-use mathlib.Core.Path.{_≡_, refl, ap, sym, subst, _∙_}
-use mathlib.Core.Logic.{_⊎_, inl, inr}
+use mathlib.Core.Path.{_≡_, ap, sym, subst, _∙_}
+use mathlib.Core.Logic.{_⊎_}
 use mathlib.Core.Bool.{Bool, cond}
 use Prim.Native.Nat.{ℕ, _<_}
 use native.Mathlib.Omega.{arith}
@@ -12,7 +12,6 @@ use Rattle.stored.specs.Closed.{Restamped}
 use Rattle.picking.specs.declared.Wanted.{Wanted}
 use Rattle.picking.specs.declared.Time.{Time}
 use Rattle.picking.specs.declared.Pick.{Pick}
-use Rattle.picking.specs.declared.Pick.the-variants.{Logged, Again, DayOver, NoBook, NoWord, OneFile, NoFirst, LogFull, LogReadOnly, DirectoryFull, DiskFull, Other}
 use Rattle.picking.specs.Numbers.{saysOf}
 use Rattle.picking.specs.Picker.{picked}
 use Rattle.once.specs.Bytes.{Named}
@@ -22,6 +21,7 @@ use Rattle.once.specs.Eight.{three-second}
 use Rattle.benzokamuri.specs.declared.Picked.{Picked}
 use Rattle.benzokamuri.specs.Handed.{Handed}
 use Rattle.twice.specs.declared.Twice.{Twice}
+use Rattle.twice.specs.Once.{picks-word}
 
 -- a second run, on the disk m, answers again, with the first one's word, and leaves m as it was but for access stamps of book and log
 pub record SameWord (wanted : Wanted) (again : Time) (m e : Disk) (second : Picked) (word other : Bytes) : Type 0 where
@@ -42,23 +42,9 @@ pub record PickedTwice (wanted : Wanted) (time again : Time) (d : Disk) (lent em
   pub same-word : (r .first .number ≡ 0) ⊎ (r .first .number ≡ 1) → Timed again → length empty ≡ recordBytes
       → SameWord wanted again (between wanted time d lent) (diskOf image map (r .second .session)) (r .second) word other
 
--- ---- 0 and 1 are the numbers of "picked and logged" and "picked again", and of no trouble
+-- 0 and 1 are the numbers of a run that picked the word, logged or again
 low-number : (n : ℕ) → (n ≡ 0) ⊎ (n ≡ 1) → n < 2
 low-number n h = split h (λ z. omega arith) (λ z. omega arith)
-
-picks-word : (p : Pick) → saysOf p .number < 2 → (p ≡ Logged) ⊎ (p ≡ Again)
-picks-word Logged h = inl refl
-picks-word Again h = inr refl
-picks-word DayOver h = absurd (omega arith)
-picks-word NoBook h = absurd (omega arith)
-picks-word NoWord h = absurd (omega arith)
-picks-word OneFile h = absurd (omega arith)
-picks-word NoFirst h = absurd (omega arith)
-picks-word LogFull h = absurd (omega arith)
-picks-word LogReadOnly h = absurd (omega arith)
-picks-word DirectoryFull h = absurd (omega arith)
-picks-word DiskFull h = absurd (omega arith)
-picks-word (Other a b) h = absurd (omega arith)
 
 -- ---- two runs that meet the picker's contract, the second on the image, the map and the session that the first left
 module _ (wanted : Wanted) (named : Named wanted) (time again : Time) (d : Disk) (lent empty : Bytes) (r : Twice) (word other image map left kept : Bytes)

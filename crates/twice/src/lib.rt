@@ -1,10 +1,27 @@
-// Request [11], of the export itself: two runs of the picker, by its contract alone, which ask nothing of what they are handed.
+// Request [11], of the export itself: one run of the picker, and a second one, by its contract alone, which ask nothing of what they are handed.
 ghost use Rattle.demands.specs.Runs.{diskOf};
+ghost use Rattle.twice.specs.Once.{PickedOnce};
 ghost use Rattle.twice.specs.Twice.{PickedTwice};
 use benzokamuri::Picked;
 use model::Session;
 use picking::Time;
 use picking::Wanted;
+
+// One run, and what the theorems say of it: the answer is the table's, the word is what 33 gives, and a run that answered 0 logged one record; any other
+// changes no byte of image or map but access stamps of book and log.
+pub fn pick_once(
+    wanted: Wanted,
+    time: Time,
+    image: &mut [u8],
+    map: &mut [u16],
+    word: &mut [u8],
+    session: Session,
+) -> Picked
+    ensures { λ r. ⌜ PickedOnce wanted time (diskOf (now (image .entry)) (now (map .entry)) session) (now (word .entry))
+        r (now (word .exit)) (now (image .exit)) (now (map .exit)) ⌝ }
+{
+    benzokamuri::benzo_pick(wanted, time, image, map, word, session)
+}
 
 // What two runs tell.
 pub struct Twice {
