@@ -150,8 +150,8 @@ fn replayed(file: &Path, out: &mut dyn Write) -> io::Result<bool> {
 /// Whether the two pickers showed no difference, and kept the laws.
 fn picked(seed: u64, runs: usize, out: &mut dyn Write) -> io::Result<bool> {
     let mut counts = picking::Counts::default();
-    let mut left = reference::pick;
-    match picking::run(seed, runs, &mut left, &mut Proved, &mut counts) {
+    let mut right = reference::pick;
+    match picking::run(seed, runs, &mut Proved, &mut right, &mut counts) {
         Ok(()) => {
             writeln!(out, "seed {seed}: no difference\n{counts}")?;
             Ok(true)
@@ -167,8 +167,8 @@ fn picked(seed: u64, runs: usize, out: &mut dyn Write) -> io::Result<bool> {
 /// Whether a run that failed shows no difference any more.
 fn picked_again(case: u64, out: &mut dyn Write) -> io::Result<bool> {
     let mut counts = picking::Counts::default();
-    let mut left = reference::pick;
-    let again = picking::one(case, &mut left, &mut Proved, &mut counts);
+    let mut right = reference::pick;
+    let again = picking::one(case, &mut Proved, &mut right, &mut counts);
     let said = again.as_ref().err().map_or("no difference", |what| what);
     writeln!(out, "{}", said.trim_end())?;
     Ok(again.is_ok())
