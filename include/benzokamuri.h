@@ -81,7 +81,8 @@ extern "C" {
  * start at zero. Nothing else is stamped, and a refused call stamps nothing. So
  * 15 may change the image once the write protection is lifted, and so may 20 and
  * 33 where they move: who saves an image saves it after them too, or reads on a
- * protected session, where nothing changes and nothing is to be saved.
+ * protected session, where no call changes it and nothing is to be saved; after
+ * benzo_pick, which writes its log there too, it is.
  *
  * A label asks by its byte 12: bit 4 for create, 5 for update, 6 for access. A
  * date entry has from byte 1 on ten bytes for each of the three entries before
@@ -113,10 +114,11 @@ typedef struct {
  * --protect set it again. A read that is refused so would leave an extent that
  * was written to and not closed: close the file first, which takes a lift too.
  *
- * So whoever only reads never lifts it, and need not save the image; who writes
- * lifts it as late as may be. What was written and not closed when the
- * protection is set again stays pending, and is closed after another lift. Every
- * answer has the field as it came. */
+ * So whoever only reads by calls never lifts it, and need not save the image;
+ * who writes lifts it as late as may be. benzo_pick lifts it for its log by
+ * itself, so after its answer 0 the image is to be saved all the same. What was
+ * written and not closed when the protection is set again stays pending, and is
+ * closed after another lift. Every answer has the field as it came. */
 typedef struct {
     uint8_t user;        /* 0 to 15 */
     uint8_t pattern[12]; /* of the last search: name, type and extent */
@@ -217,11 +219,10 @@ benzo_session benzo_protect(benzo_session session);
 
 /* The word picker.
  *
- * A book has records of 128 bytes, record 0 for day 0 of a year. However often
- * the job of a day is started, the log has the day once, and a run after the
- * first changes nothing on the disk but access stamps. Names are those of an FCB,
- * eleven bytes, as "WORDS   DAT" and "WORDS   LOG"; the files are those of the
- * session's user. docs/PICKER.md says more. */
+ * What is wanted: the record of a day from a book, of 128 bytes, record 0 for day
+ * 0 of a year. Names are those of an FCB, eleven bytes, as "WORDS   DAT" and
+ * "WORDS   LOG"; the files are those of the session's user. docs/PICKER.md says
+ * more. */
 typedef struct {
     uint16_t year;    /* 0 to 65,535 */
     uint16_t day;     /* 0 to 365 */
@@ -287,10 +288,13 @@ typedef struct {
 
 /* Picks a word.
  *
- * Image and map are those of benzo_call, after a log-in. The word is lent 128
- * bytes, BENZO_BUFFER_LEN; where none is handed out they stay as they were. What
- * was said of pointers and lengths there goes for these three too: any lengths,
- * bytes, notes, times and sessions are answered. */
+ * Image and map are those of benzo_call, after a log-in. After answer 0 the
+ * image is to be saved, on a write-protected session too: a day whose log record
+ * is not saved is picked and logged once more the next time. On a session that
+ * is lifted any answer may have left access stamps, as 15 does. The word is lent
+ * 128 bytes, BENZO_BUFFER_LEN; where none is handed out they stay as they were.
+ * What was said of pointers and lengths there goes for these three too: any
+ * lengths, bytes, notes, times and sessions are answered. */
 benzo_picked benzo_pick(benzo_wanted wanted, benzo_time time,
                         uint8_t *image, size_t image_len,
                         uint16_t *map, size_t map_len,

@@ -14,17 +14,19 @@ static const size_t width[4] = {1, sizeof(uint16_t), 1, 1};
 
 static unsigned long made, refused;
 
+/* As many bytes as are asked for, all the same, or NULL for none. */
+static uint8_t *lent_bytes(size_t length, uint8_t filling) {
+    uint8_t *bytes = length == 0 ? NULL : malloc(length);
+    if (length > 0 && bytes == NULL) exit(2);
+    if (bytes != NULL) memset(bytes, filling, length);
+    return bytes;
+}
+
 /* Makes a call with these lengths, on buffers full of one byte. */
 static void lend(uint8_t number, const size_t *length, uint8_t filling) {
     uint8_t *lent[4];
     int changed = 0;
-    for (int i = 0; i < 4; i++) {
-        lent[i] = NULL;
-        if (length[i] == 0) continue;
-        lent[i] = malloc(length[i] * width[i]);
-        if (lent[i] == NULL) exit(2);
-        memset(lent[i], filling, length[i] * width[i]);
-    }
+    for (int i = 0; i < 4; i++) lent[i] = lent_bytes(length[i] * width[i], filling);
     benzo_asked asked = {number, 0, 17851, 0x06, 0x00};
     benzo_session protected = {0};
     benzo_session session = benzo_lift(protected);
@@ -44,44 +46,55 @@ static void lend(uint8_t number, const size_t *length, uint8_t filling) {
     refused++;
 }
 
-/* As many bytes as are asked for, or NULL for none. */
-static uint8_t *lent_bytes(size_t length, uint8_t filling) {
-    uint8_t *bytes = length == 0 ? NULL : malloc(length);
-    if (length > 0 && bytes == NULL) exit(2);
-    if (bytes != NULL) memset(bytes, filling, length);
-    return bytes;
+/* The three buffers of a picker, and their lengths in bytes. */
+struct picking {
+    uint8_t *lent[3];
+    size_t bytes[3];
+};
+
+/* A book whose one record is in block 2, as far as there is room for it. */
+static struct picking with_book(const size_t *length, const uint8_t *book) {
+    struct picking with = {{NULL}, {length[0], length[1] * sizeof(uint16_t), length[2]}};
+    static const uint8_t fillings[3] = {0xE5, 0, 0x5E};
+    for (int i = 0; i < 3; i++) with.lent[i] = lent_bytes(with.bytes[i], fillings[i]);
+    if (length[0] >= 6656 + 32) {
+        uint8_t *entry = with.lent[0] + 6656; /* entry 0 */
+        memset(entry, 0, 32);
+        memcpy(entry + 1, book, 11);
+        entry[15] = 1;
+        entry[16] = 2;
+    }
+    uint16_t *map = (uint16_t *)(void *)with.lent[1];
+    for (size_t block = 0; block < 3 && block < length[1]; block++) map[block] = block < 2 ? 1 : 2;
+    return with;
 }
 
-/* Picks a word with these lengths, from a book whose one record is in block 2. */
+/* Picks a word with these lengths. Where one is wrong no byte may change. */
 static void pick(size_t image_len, size_t map_len, size_t word_len) {
-    uint8_t *image = lent_bytes(image_len, 0xE5), *word = lent_bytes(word_len, 0x5E);
-    uint16_t *map = (uint16_t *)(void *)lent_bytes(map_len * sizeof *map, 0);
+    const size_t length[3] = {image_len, map_len, word_len};
     benzo_wanted wanted = {2026, 0, {0}, {0}};
     benzo_time time = {17851, 0x06, 0x00};
     benzo_session session = {0};
+    int changed = 0;
     memcpy(wanted.book, "WORDS   DAT", 11);
     memcpy(wanted.log, "WORDS   LOG", 11);
-    if (image_len >= 6656 + 32) {
-        memset(image + 6656, 0, 32); /* entry 0 */
-        memcpy(image + 6656 + 1, wanted.book, 11);
-        image[6656 + 15] = 1;
-        image[6656 + 16] = 2;
+    struct picking was = with_book(length, wanted.book), is = with_book(length, wanted.book);
+    benzo_picked picked = benzo_pick(wanted, time, is.lent[0], image_len, (uint16_t *)(void *)is.lent[1],
+                                     map_len, is.lent[2], word_len, session);
+    for (int i = 0; i < 3; i++) {
+        changed |= is.bytes[i] > 0 && memcmp(is.lent[i], was.lent[i], is.bytes[i]) != 0;
+        free(is.lent[i]);
+        free(was.lent[i]);
     }
-    for (size_t block = 0; block < 3 && block < map_len; block++) map[block] = block < 2 ? 1 : 2;
-    benzo_picked picked = benzo_pick(wanted, time, image, image_len, map, map_len, word, word_len, session);
-    int right = image_len == BENZO_IMAGE_LEN && map_len == BENZO_MAP_LEN && word_len == BENZO_BUFFER_LEN;
+    int all_right = image_len == BENZO_IMAGE_LEN && map_len == BENZO_MAP_LEN && word_len == BENZO_BUFFER_LEN;
     int refused_so = picked.number == BENZO_PICK_OTHER && picked.a == 255 && picked.h == 4 && !picked.given;
-    if (right ? picked.number != BENZO_PICK_LOGGED : !refused_so) {
-        printf("picked with lengths %zu %zu %zu: %d, %d, %d\n", image_len, map_len, word_len,
-               picked.number, picked.a, picked.h);
+    if (all_right ? picked.number != BENZO_PICK_LOGGED || !changed : !refused_so || changed) {
+        printf("picked with lengths %zu %zu %zu: %d, %d, %d%s\n", image_len, map_len, word_len,
+               picked.number, picked.a, picked.h, changed ? ", and a buffer changed" : "");
         exit(1);
     }
-    if (!right && word_len > 0 && word[0] != 0x5E) exit(1);
-    free(image);
-    free(map);
-    free(word);
     made++;
-    refused += !right;
+    refused += !all_right;
 }
 
 static void pick_with_every_length_wrong(void) {

@@ -18,7 +18,9 @@ const DATES: u8 = 0x21;
 /// A disk begins write-protected: no call changes its image, and those that
 /// would are refused with [`Code::Protected`], until [`Disk::lift`] is called.
 /// Reading, listing and logging in need no lift; only a read that would leave an
-/// extent which was written to and not closed is refused, since it closes it.
+/// extent which was written to and not closed is refused, since it closes it. The
+/// word picker lifts the protection for its log by itself: after [`Disk::pick`] has
+/// told [`Pick::Logged`] the image is to be saved, lifted or not.
 ///
 /// A disk begins at [`Time::ZERO`], and its time stands still until
 /// [`Disk::set_time`] is called: what a call does is decided by what it is given
@@ -354,6 +356,10 @@ impl Disk {
     /// the log has it. Both files are the present user's. The disk may be
     /// write-protected, and is afterwards what it was: the protection is lifted
     /// for the log alone. The transfer buffer stays as it is.
+    ///
+    /// After [`Pick::Logged`] the image is to be saved, or the day is picked and
+    /// logged once more the next time. On a disk that is lifted any answer may have
+    /// left access stamps.
     ///
     /// ```
     /// # fn main() -> Result<(), Box<dyn std::error::Error>> {

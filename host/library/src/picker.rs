@@ -67,13 +67,14 @@ macro_rules! picks {
                 }
             }
 
-            /// What is to be done about a trouble; nothing where there is none.
+            /// What is to be done about a trouble; empty where there is none.
             pub const fn remedy(self) -> &'static str {
                 match self {
                     $(Pick::$pick => $remedy,)*
-                    Pick::Other(Code::BadDisk) => "Check the disk: `benzokamuri check` says what is wrong.",
+                    Pick::Other(Code::BadDisk) => Pick::CHECK,
                     Pick::Other(Code::BadName) => "Give the files names that CP/M knows.",
-                    _ => "Look the code up on the help card.",
+                    Pick::Unknown(_) | Pick::Other(Code::Unknown { .. }) => Pick::REBUILD,
+                    Pick::Other(_) => "Look the code up on the help card.",
                 }
             }
         }
@@ -107,13 +108,13 @@ picks! {
         "Rename the log; the next run makes a new one.";
     LogReadOnly = 8, true,
         "The log is read-only, so the day was not logged.",
-        "Take the read-only attribute from the log.";
+        "Take the read-only attribute from the log, or name another log.";
     DirectoryFull = 9, true,
         "The directory is full: the log needs an entry, and none is empty.",
         "Delete a file that is no longer needed.";
     DiskFull = 10, true,
         "The disk is full: the log needs a block, and none is free.",
-        "Delete a file that is no longer needed; where a program left blocks pending, log in.";
+        "Delete a file that is no longer needed.";
 }
 
 impl Pick {
@@ -122,6 +123,13 @@ impl Pick {
 
     /// The help card's sentence for it.
     pub const REFUSED: &'static str = "A call was refused; its A and H say why.";
+
+    /// What to do about a disk that the calls refuse.
+    const CHECK: &'static str = "Check the disk: `benzokamuri check` says what is wrong; if it \
+        finds nothing, the map is not this image's: log in.";
+
+    /// What to do about an answer that the proved archive does not give.
+    const REBUILD: &'static str = "The archive is of another version: build anew with one of this.";
 
     /// What the help card says of the word picker, in lines of at most 80
     /// characters.
@@ -198,6 +206,16 @@ mod tests {
         assert_eq!(unknown, Pick::Other(Code::Unknown { a: 255, h: 7 }));
         assert_eq!(Pick::read(&told(12, 0, 0)), Pick::Unknown(12));
         assert_eq!(refused.number(), 11);
+    }
+
+    #[test]
+    fn what_is_not_on_the_card_is_not_looked_up_there() {
+        let unknown = Code::Unknown { a: 255, h: 7 };
+        for pick in [Pick::Unknown(12), Pick::Other(unknown)] {
+            assert!(!pick.remedy().contains("help card"), "{pick}");
+        }
+        let wrong = Pick::Other(Code::BadCall);
+        assert!(wrong.remedy().contains("help card"));
     }
 
     #[test]

@@ -166,8 +166,25 @@ fn the_header_has_every_answer_of_the_picker_and_no_other() {
     let defined = header
         .lines()
         .filter(|line| line.starts_with("#define BENZO_PICK_"));
-    let numbers = defined.map(|line| line.rsplit(' ').next().expect("a number"));
-    assert!(numbers.eq((0..=Pick::OTHER).map(|number| number.to_string())));
+    let other = Pick::Other(Code::BadCall);
+    let answers = Pick::NAMED.iter().chain([&other]).map(|pick| {
+        let name = as_a_constant(&format!("{pick:?}"));
+        format!("#define BENZO_PICK_{name} {}", pick.number())
+    });
+    assert_eq!(defined.collect::<Vec<_>>(), answers.collect::<Vec<_>>());
+}
+
+/// The name of a variant as C writes constants: `NoBook` is `NO_BOOK`.
+fn as_a_constant(variant: &str) -> String {
+    let name = variant.split('(').next().unwrap_or_default();
+    let mut constant = String::new();
+    for letter in name.chars() {
+        if letter.is_ascii_uppercase() && !constant.is_empty() {
+            constant.push('_');
+        }
+        constant.push(letter.to_ascii_uppercase());
+    }
+    constant
 }
 
 /// What to do about each trouble stands in the workshop's page.
@@ -179,6 +196,14 @@ fn the_workshops_page_has_every_remedy() {
         assert!(page.contains(pick.remedy()), "{}", pick.remedy());
     }
     assert!(page.contains(Pick::REFUSED));
+    for code in [Code::BadDisk, Code::BadName, Code::BadCall] {
+        let (a, h) = code.numbers();
+        let (_, of_it) = page.split_once(&format!("{a}, {h}")).expect("it is told");
+        let of_it = of_it.split(" 255, ").next().unwrap_or_default();
+        let remedy = Pick::Other(code).remedy();
+        assert!(of_it.contains(remedy), "{remedy}");
+    }
+    assert!(page.contains(Pick::Unknown(12).remedy()));
 }
 
 #[test]

@@ -9,7 +9,10 @@ use benzokamuri::{
 use std::mem::{align_of, offset_of, size_of};
 
 /// What both sides have to have: a size or place, and its number.
-fn rust_layout() -> Vec<(&'static str, usize)> {
+type Layout = Vec<(&'static str, usize)>;
+
+/// Of what the calls take and answer.
+fn of_calls() -> Layout {
     vec![
         ("benzo_asked", size_of::<Asked>()),
         ("benzo_asked.number", offset_of!(Asked, number)),
@@ -27,6 +30,12 @@ fn rust_layout() -> Vec<(&'static str, usize)> {
         ("benzo_answer.a", offset_of!(Answer, a)),
         ("benzo_answer.h", offset_of!(Answer, h)),
         ("benzo_answer.session", offset_of!(Answer, session)),
+    ]
+}
+
+/// Of what the picker takes and tells.
+fn of_the_picker() -> Layout {
+    vec![
         ("benzo_wanted", size_of::<Wanted>()),
         ("benzo_wanted.year", offset_of!(Wanted, year)),
         ("benzo_wanted.day", offset_of!(Wanted, day)),
@@ -42,6 +51,12 @@ fn rust_layout() -> Vec<(&'static str, usize)> {
         ("benzo_picked.a", offset_of!(Told, a)),
         ("benzo_picked.h", offset_of!(Told, h)),
         ("benzo_picked.session", offset_of!(Told, session)),
+    ]
+}
+
+/// Of the version and the lengths.
+fn of_constants() -> Layout {
+    vec![
         ("BENZO_VERSION", VERSION as usize),
         ("BENZO_IMAGE_LEN", IMAGE_LEN),
         ("BENZO_MAP_LEN", MAP_LEN),
@@ -69,6 +84,23 @@ fn rust_has_the_sizes_and_places_of_version_4() {
         ("benzo_answer.a", 0),
         ("benzo_answer.h", 1),
         ("benzo_answer.session", 2),
+    ];
+    assert_eq!(of_calls(), expected);
+    let expected = [
+        ("BENZO_VERSION", 4),
+        ("BENZO_IMAGE_LEN", 256_256),
+        ("BENZO_MAP_LEN", 243),
+        ("BENZO_FCB_LEN", 36),
+        ("BENZO_BUFFER_LEN", 128),
+    ];
+    assert_eq!(of_constants(), expected);
+    let aligned = [align_of::<Asked>(), align_of::<Session>()];
+    assert_eq!((aligned, align_of::<Answer>()), ([2, 2], 2));
+}
+
+#[test]
+fn rust_has_the_sizes_and_places_of_the_picker() {
+    let expected = [
         ("benzo_wanted", 26),
         ("benzo_wanted.year", 0),
         ("benzo_wanted.day", 2),
@@ -84,16 +116,8 @@ fn rust_has_the_sizes_and_places_of_version_4() {
         ("benzo_picked.a", 2),
         ("benzo_picked.h", 3),
         ("benzo_picked.session", 4),
-        ("BENZO_VERSION", 4),
-        ("BENZO_IMAGE_LEN", 256_256),
-        ("BENZO_MAP_LEN", 243),
-        ("BENZO_FCB_LEN", 36),
-        ("BENZO_BUFFER_LEN", 128),
     ];
-    assert_eq!(rust_layout(), expected);
-    assert_eq!(align_of::<Asked>(), 2);
-    assert_eq!(align_of::<Session>(), 2);
-    assert_eq!(align_of::<Answer>(), 2);
+    assert_eq!(of_the_picker(), expected);
     assert_eq!(align_of::<Wanted>(), 2);
     assert_eq!(align_of::<PickedAt>(), 2);
     assert_eq!(align_of::<Told>(), 2);
@@ -102,7 +126,8 @@ fn rust_has_the_sizes_and_places_of_version_4() {
 #[test]
 fn c_has_the_same() {
     let printed = common::compile("host/library/tests/c/layout.c").run();
-    let expected: String = rust_layout()
+    let layout = [of_calls(), of_the_picker(), of_constants()].concat();
+    let expected: String = layout
         .iter()
         .map(|(what, number)| format!("{what} {number}\n"))
         .collect();
@@ -221,11 +246,23 @@ fn the_time_comes_out_as_a_stamp() {
     assert_eq!(stamps[..4], some_time().stamp());
 }
 
-/// Every field of what a picker is asked and tells, across and back.
-#[test]
-fn every_field_of_the_picker_crosses_the_boundary() {
+/// What a picker is asked, and when, with fields that are told apart.
+const WANTED: Wanted = Wanted {
+    year: 0xFEDC,
+    day: 261,
+    book: *b"BOOK   1ABC",
+    log: *b"LOG    2XYZ",
+};
+const AT: PickedAt = PickedAt {
+    day: 0x1234,
+    hour: 0x56,
+    minute: 0x78,
+};
+
+/// A dated disk, its map, and the place of the day's word: the book's record 5 of
+/// extent 2, in block 2.
+fn with_book() -> (Vec<u8>, [u16; MAP_LEN], usize) {
     let mut image = common::dated_image(0x30);
-    // A book of one entry whose day's word is in block 2: record 5 of extent 2.
     for (entry, extent, rc, block) in [(1, 0, 1, 9), (2, 2, 6, 2)] {
         let row = &mut image[common::entry_place(entry)..][..32];
         row.fill(0);
@@ -237,19 +274,15 @@ fn every_field_of_the_picker_crosses_the_boundary() {
     let mut map = [0; MAP_LEN];
     map[..3].copy_from_slice(&[1, 1, 2]);
     map[9] = 2;
-    let wanted = Wanted {
-        year: 0xFEDC,
-        day: 261,
-        book: *b"BOOK   1ABC",
-        log: *b"LOG    2XYZ",
-    };
-    let at = PickedAt {
-        day: 0x1234,
-        hour: 0x56,
-        minute: 0x78,
-    };
+    (image, map, word)
+}
+
+/// Every field of what a picker is asked and tells, across and back.
+#[test]
+fn every_field_of_the_picker_crosses_the_boundary() {
+    let (mut image, mut map, word) = with_book();
     let mut given = [0; BUFFER_LEN];
-    let told = benzokamuri::pick(wanted, at, &mut image, &mut map, &mut given, SESSION);
+    let told = benzokamuri::pick(WANTED, AT, &mut image, &mut map, &mut given, SESSION);
     let ended = Session {
         place: 0,
         on: 0,
@@ -271,29 +304,33 @@ fn every_field_of_the_picker_crosses_the_boundary() {
         place: 0x0140,
         ..SESSION
     };
-    let told = benzokamuri::pick(wanted, at, &mut image, &mut map, &mut given, far);
+    let told = benzokamuri::pick(WANTED, AT, &mut image, &mut map, &mut given, far);
     assert_eq!((told.number, told.given, told.a, told.h), (11, 0, 255, 4));
     assert_eq!(told.session, far);
 }
 
-/// Each length by itself is looked at, and nothing is written where it is wrong.
+/// Each length by itself is looked at, on a disk that has the word, and nothing is
+/// written where it is wrong.
 #[test]
 fn the_lengths_of_the_picker_are_looked_at() {
-    let wanted = Wanted {
-        year: 2026,
-        day: 0,
-        book: *b"WORDS   DAT",
-        log: *b"WORDS   LOG",
-    };
-    for (image_len, map_len) in [(0, MAP_LEN), (IMAGE_LEN - 1, MAP_LEN), (IMAGE_LEN, 0)] {
-        let mut image = vec![0xE5; image_len];
-        let mut map = vec![0; map_len];
-        let mut word = [7; 3];
-        let at = PickedAt::default();
-        let session = Session::default();
-        let told = benzokamuri::pick(wanted, at, &mut image, &mut map, &mut word, session);
-        assert_eq!((told.number, told.given, told.a, told.h), (11, 0, 255, 4));
-        assert_eq!(told.session, session);
-        assert!(image.iter().all(|&byte| byte == 0xE5) && word == [7; 3]);
+    let right = [IMAGE_LEN, MAP_LEN, BUFFER_LEN];
+    for which in 0..3 {
+        for wrong in [0, 1, right[which] - 1, right[which] + 1] {
+            let mut lengths = right;
+            lengths[which] = wrong;
+            let (image, map, _) = with_book();
+            let (mut image, mut map) = (image, map.to_vec());
+            image.resize(lengths[0], 0xE5);
+            map.resize(lengths[1], 0);
+            let mut word = vec![7; lengths[2]];
+            let before = (image.clone(), map.clone(), word.clone());
+            let told = benzokamuri::pick(WANTED, AT, &mut image, &mut map, &mut word, SESSION);
+            let refused = (told.number, told.given, told.a, told.h);
+            assert_eq!(refused, (11, 0, 255, 4), "{lengths:?}");
+            assert!((image, map, word) == before, "{lengths:?}");
+            // A word's length is told by the read, after the open was accepted.
+            let on = if which == 2 { 0 } else { SESSION.on };
+            assert_eq!(told.session.on, on, "{lengths:?}");
+        }
     }
 }

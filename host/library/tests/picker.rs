@@ -1,6 +1,8 @@
 //! The word picker of the safe crate: every answer on a disk of its own.
 
-use benzokamuri::{Code, Disk, Fcb, Name, Pick, Picked, LOG_RECORDS};
+mod common;
+
+use benzokamuri::{Code, Disk, Fcb, Name, Pick, Picked, Stamps, Time, LOG_RECORDS};
 
 fn name(text: &str) -> Name {
     text.parse().expect("a name")
@@ -92,6 +94,33 @@ fn a_day_is_logged_once() {
     disk.lift();
     assert_eq!(disk.pick(65_535, 0, book(), log()).answer, Pick::Logged);
     assert!(!disk.is_protected());
+}
+
+/// The picker is handed the disk's time: the log is stamped with it.
+#[test]
+fn the_log_is_stamped_with_the_time() {
+    // The label asks for create and update.
+    let mut disk = Disk::new(common::dated_image(0x30)).expect("a disk");
+    write(&mut disk, book(), (0..3).map(word));
+    let mut stamps_at = |time: &str, day: u16| {
+        disk.set_time(time.parse().expect("a time"));
+        assert_eq!(disk.pick(2026, day, book(), log()).answer, Pick::Logged);
+        let found = disk.search_first(&mut Fcb::named(log())).expect("a log");
+        found.stamps.expect("a dated disk")
+    };
+    let at = |time: &str| -> Time { time.parse().expect("a time") };
+    let first = at("2026-10-25 02:30");
+    let made = stamps_at("2026-10-25 02:30", 1);
+    assert_eq!(
+        made,
+        Stamps {
+            first,
+            update: first
+        }
+    );
+    let update = at("2031-02-03 17:45");
+    let later = stamps_at("2031-02-03 17:45", 2);
+    assert_eq!(later, Stamps { first, update });
 }
 
 #[test]

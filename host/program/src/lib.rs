@@ -43,6 +43,8 @@ pub struct Desk<'a> {
     pub err: &'a mut dyn Write,
     /// Whether `out` shows colours.
     pub colours: bool,
+    /// Whether only what is wrong is said, and not what was done.
+    pub quiet: bool,
     /// Says what time it is, where the command line does not.
     pub clock: fn() -> Result<Time, BadTime>,
     /// How often the write protection of a disk was lifted. A verb that only
@@ -61,6 +63,7 @@ impl<'a> Desk<'a> {
             },
             err,
             colours: false,
+            quiet: false,
             clock: Time::now,
             lifts: 0,
         }
@@ -71,6 +74,13 @@ impl<'a> Desk<'a> {
     fn lift(&mut self, disk: &mut Disk) {
         self.lifts += 1;
         disk.lift();
+    }
+
+    /// Says what was done, unless that is not to be said.
+    fn tell_done(&mut self, what: fmt::Arguments) {
+        if !self.quiet {
+            self.remark(what);
+        }
     }
 
     /// Says what is worth a remark. That nobody reads it is no reason to stop.

@@ -135,12 +135,12 @@ impl ImageFile {
         ready.take_place(desk)?;
         let (name, lacks, blank) = (self.name(), self.lacks(), self.blank_stamps);
         if lacks > 0 {
-            desk.remark(format_args!(
+            desk.tell_done(format_args!(
                 "{name}: saved at its full length, {lacks} bytes more than it had"
             ));
         }
         if blank > 0 {
-            desk.remark(format_args!(
+            desk.tell_done(format_args!(
                 "{name}: saved with zeros in {blank} stamps that were E5H, never written"
             ));
         }

@@ -212,7 +212,7 @@ fn there_is_one_way_to_pick() {
         [
             "demo.rs: let picked = disk.pick(DAY.0, DAY.1, book, log);",
             "looking.rs: let picked = self.0.pick(year, day, book, log);",
-            "pick.rs: let (disk, picked) = image.log_in(words.user(), time)?.picked(wanted, files);",
+            "pick.rs: let (disk, picked) = log_in(&image, &words, time)?.picked(wanted, files);",
         ]
     );
 }

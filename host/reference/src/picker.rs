@@ -151,8 +151,8 @@ pub fn pick(
     }
 }
 
-/// The record of a day in a log: "five digits of the year, a space, three digits
-/// of the day, CR, LF, 117 bytes 1AH".
+/// The record of a day in a log: five digits of the year, a space, three digits
+/// of the day, CR, LF, 117 bytes 1AH.
 fn log_record(wanted: Wanted) -> Record {
     let mut bytes = [FILLING; RECORD_BYTES];
     let (year, day) = (wanted.year, wanted.day);
@@ -227,7 +227,7 @@ impl<'a> Desk<'a> {
         Ok(desk)
     }
 
-    /// "The word is record `day` of the book."
+    /// The word: the book's record of the day, whose number is the day's.
     fn read_word(&self, word: &mut [u8]) -> Result<(), Pick> {
         let word: &mut Record = word.try_into().map_err(|_| BAD_CALL)?;
         let (extent, within) = parts(u32::from(self.wanted.day));
@@ -285,8 +285,8 @@ impl<'a> Desk<'a> {
         (within < self.count(entry) && block != 0).then_some(block)
     }
 
-    /// Whether a record of the log has the year and day. "One that is not there
-    /// (a hole) has no year and no day."
+    /// Whether a record of the log has the year and day. All below its size are
+    /// searched, also past 1,024; one that is not there has no day.
     fn has_day(&self, entries: Entries) -> bool {
         let wanted = log_record(self.wanted);
         let tells = |entry: usize, within: u8| {
@@ -345,8 +345,8 @@ impl<'a> Desk<'a> {
         })
     }
 
-    /// The place of record 0 of a log that is to be made: "disk full before
-    /// directory full where it is to be made".
+    /// The place of record 0 of a log that is to be made: a full disk is told
+    /// before a full directory, so that no empty log is left behind.
     fn place_in_new_log(&self) -> Result<Place, Pick> {
         let block = map::first_free(self.map).ok_or(Pick::DiskFull)?;
         let entry = self.directory.first_empty().ok_or(Pick::DirectoryFull)?;

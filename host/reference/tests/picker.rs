@@ -188,7 +188,7 @@ fn troubles_of_the_log() {
     troubled(&mut desk, wanted(1, 0), Pick::DiskFull, true);
 }
 
-/// "One that is not there (a hole) has no year and no day"; with its block it
+/// A record that is not there, a hole, has no year and no day; with its block it
 /// may come to have one.
 #[test]
 fn a_hole_has_no_day() {

@@ -83,3 +83,27 @@ fn the_program_searches_and_replays() {
         assert_eq!(run(wrong).0, Some(2), "{wrong:?}");
     }
 }
+
+/// What would be left undone is not passed over in silence.
+#[test]
+fn what_does_not_go_together_is_wrong_usage() {
+    let folder = std::path::Path::new(env!("CARGO_TARGET_TMPDIR")).join("fuzz-usage");
+    let [_, last_call] = keep(&failure(), &folder).unwrap();
+    let file = last_call.to_str().unwrap();
+    for (wrong, other, job) in [
+        (["--picks", "2", "--calls", "3"], "--calls", "--picks"),
+        (["--picks", "2", "--case", "3"], "--case", "--picks"),
+        (["--picks", "2", "--replay", file], "--picks", "--replay"),
+        (["--replay", file, "--case", "5"], "--case", "--replay"),
+        (["--replay", file, "--calls", "5"], "--calls", "--replay"),
+        (["--case", "5", "--seed", "5"], "--seed", "--case"),
+    ] {
+        let mut command = std::process::Command::new(env!("CARGO_BIN_EXE_fuzz"));
+        let output = command.args(wrong).output().unwrap();
+        let said = String::from_utf8(output.stderr).unwrap();
+        assert_eq!(output.status.code(), Some(2), "{wrong:?}");
+        let why = format!("fuzz: {other} does not go together with {job}\nusage: ");
+        assert!(said.starts_with(&why), "{said}");
+        assert!(output.stdout.is_empty(), "{wrong:?}");
+    }
+}

@@ -1,6 +1,7 @@
 //! The proved picker beside the reference's, on random books and logs from a
-//! fixed seed; all bytes are compared. The table of what came up is printed, and
-//! has to be full enough.
+//! fixed seed; all bytes are compared. The proved one is the left one, of which
+//! laws are asked, and which runs a second time. The table of what came up is
+//! printed, and has to be full enough.
 
 use generator::picking::{by_calls, run, Counts};
 use trials::Proved;
@@ -8,13 +9,13 @@ use trials::Proved;
 /// Runs made.
 const RUNS: usize = 10_000;
 
-/// Fewer runs, by the proved calls in Rust.
+/// Fewer runs, beside the same sequence of the proved calls.
 const RUNS_BY_CALLS: usize = 1_000;
 
 #[test]
 fn picker_beside_reference() {
     let mut counts = Counts::default();
-    let done = run(1, RUNS, &mut reference::pick, &mut Proved, &mut counts);
+    let done = run(1, RUNS, &mut Proved, &mut reference::pick, &mut counts);
     if let Err(failed) = done {
         panic!("case {}: {}", failed.seed, failed.what);
     }
@@ -23,7 +24,7 @@ fn picker_beside_reference() {
     assert!(too_few.is_empty(), "{counts}\ntoo few: {too_few:#?}");
 }
 
-/// The laws are asked of the left one.
+/// Beside the sequence of calls that it is made of, the laws hold on other disks.
 #[test]
 fn the_laws_hold_of_the_proved_picker() {
     let mut calls = Proved;

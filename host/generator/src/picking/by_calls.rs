@@ -1,7 +1,7 @@
 //! The picker as a sequence of calls, over any implementation of them; and the
 //! same with one slip, which has to be found out.
 
-use crate::world::Implementation;
+use crate::world::{Implementation, World, DATES};
 use reference::{Answer, Asked, Pick, Picked, Session, Time, Wanted, FCB_BYTES};
 
 /// Writes the slips down as an enum with a list of all.
@@ -57,6 +57,8 @@ slips! {
     OpensAtNoTime;
     /// The log is closed with a time of zeros.
     ClosesAtNoTime;
+    /// A byte of a date entry that is no stamp of its files changes with the log.
+    TouchesADateEntry;
     /// The log is closed twice, the second time after another write.
     WritesTwice;
     /// Day 366 is taken.
@@ -470,6 +472,10 @@ impl Desk<'_, '_> {
             let mut further = at_record(fcb, size + 1);
             self.call_lifted(34, &mut further, &mut bytes);
             self.call_lifted(16, &mut further, &mut [0; 128]);
+        }
+        let last = World::entry_place(63);
+        if self.slips(Slip::TouchesADateEntry) && self.image[last] == DATES {
+            self.image[last + 9] ^= 1;
         }
         let closed = self.call_lifted(16, &mut fcb, &mut [0; 128]);
         match closed.h == 0 && closed.a != 255 {

@@ -4,8 +4,8 @@
 use super::{Picker, Run};
 use crate::disks::some_time;
 use crate::random::Random;
-use crate::world::{asks, World, DATES};
-use reference::diskette::{self, BLOCKS, DIRECTORY_PLACES, RECORD_BYTES};
+use crate::world::{asks, World, DATES, EMPTY};
+use reference::diskette::{self, BLOCKS, RECORD_BYTES};
 use reference::{Pick, Picked, Session};
 
 /// The records that an rc counts.
@@ -83,7 +83,65 @@ pub fn check(before: &World, after: &World, run: &Run, picked: Picked) -> Result
     if before.is_sound() && !after.is_sound() {
         return Err("a sound disk is one no more");
     }
-    check_word(before, after, run, picked)
+    check_word(before, after, run, picked)?;
+    match is_so(before, run, picked.pick) {
+        true => Ok(()),
+        false => Err("what is told is not so"),
+    }
+}
+
+/// Whether it is so what a run tells, in words of the directory and the map; that
+/// the word is missing is told by [`check_word`].
+fn is_so(before: &World, run: &Run, told: Pick) -> bool {
+    let (book, log) = (&run.wanted.book, &run.wanted.log);
+    match told {
+        Pick::DayOver => run.wanted.day > 365,
+        _ if run.wanted.day > 365 => false,
+        Pick::Other { a, h } => a == 255 && [1, 4, 9].contains(&h),
+        Pick::NoBook => extent_of(before, book, 0).is_none(),
+        Pick::NoWord => true,
+        Pick::OneFile => one_file(book, log),
+        _ => !one_file(book, log) && is_so_of_the_log(before, run, told),
+    }
+}
+
+/// The same of answers that are told of a log which is not the book.
+fn is_so_of_the_log(before: &World, run: &Run, told: Pick) -> bool {
+    let log = &run.wanted.log;
+    let size = size_of(before, log).unwrap_or(0);
+    let first = extent_of(before, log, 0);
+    let last = extent_of(before, log, size / 128);
+    let read_only = [first, last]
+        .into_iter()
+        .flatten()
+        .any(|entry| before.entry(entry)[9] & 0x80 != 0);
+    let no_entry = (0..64).all(|entry| before.entry(entry)[0] != EMPTY);
+    match told {
+        Pick::NoFirst => first.is_none() && !entries_of(before, log).is_empty(),
+        Pick::Again => has_day(before, run),
+        _ if has_day(before, run) => false,
+        Pick::LogFull => size >= 1_024,
+        _ if size >= 1_024 => false,
+        Pick::LogReadOnly => read_only,
+        _ if read_only => false,
+        Pick::DirectoryFull => no_entry,
+        Pick::DiskFull => !before.map.cells().contains(&0),
+        _ => true,
+    }
+}
+
+/// Whether two names are one by their low seven bits.
+fn one_file(book: &[u8; 11], log: &[u8; 11]) -> bool {
+    book.iter()
+        .zip(log)
+        .all(|(one, other)| (one ^ other) & 0x7F == 0)
+}
+
+/// Whether a record of the log that is there has the year and day.
+fn has_day(world: &World, run: &Run) -> bool {
+    let wanted = log_record(run);
+    let mut records = records_of(world, &run.wanted.log).into_iter();
+    records.any(|(_, place)| bytes_at(world, place)[..9] == wanted[..9])
 }
 
 /// The session is the one that came, or the same with its search ended.
@@ -123,33 +181,42 @@ fn check_word(
     }
 }
 
-/// Nothing changes but access stamps of book and log, where the label asks for
-/// them and the session is not protected.
+/// Nothing changes but access stamps.
 fn only_access_stamps(before: &World, after: &World, run: &Run) -> Result<(), &'static str> {
     if before.map != after.map {
         return Err("the map changed");
     }
+    match with_access_stamps(before, after, run).image == after.image {
+        true => Ok(()),
+        false => Err("the image changed in more than access stamps"),
+    }
+}
+
+/// The world before, with those access stamps of book and log that it has now:
+/// where the label asks for them and the session is not protected.
+fn with_access_stamps(before: &World, after: &World, run: &Run) -> World {
     let mut due = before.clone();
     if before.asks(asks::ACCESS) && before.is_dated() && !before.is_protected() {
         for name in [&run.wanted.book, &run.wanted.log] {
             let Some(entry) = extent_of(before, name, 0) else {
                 continue;
             };
-            let place = access_place(entry);
-            let now: [u8; 4] = std::array::from_fn(|i| after.image.cells()[place + i]);
-            if now == before.time.stamp() {
-                due.image.cells_mut()[place..][..4].copy_from_slice(&now);
+            let place = stamps_place(entry);
+            if after.image.cells()[place..][..4] == before.time.stamp() {
+                put(&mut due, place, &before.time.stamp());
             }
         }
     }
-    match due.image == after.image {
-        true => Ok(()),
-        false => Err("the image changed in more than access stamps"),
-    }
+    due
 }
 
-/// Where the first stamp beside an entry stands.
-fn access_place(entry: usize) -> usize {
+/// Puts bytes into an image.
+fn put(world: &mut World, place: usize, bytes: &[u8]) {
+    world.image.cells_mut()[place..][..bytes.len()].copy_from_slice(bytes);
+}
+
+/// Where the two stamps beside an entry stand.
+fn stamps_place(entry: usize) -> usize {
     World::entry_place(entry | 3) + 1 + 10 * (entry % 4)
 }
 
@@ -179,33 +246,49 @@ fn check_logged(before: &World, after: &World, run: &Run) -> Result<(), &'static
     check_frame(before, after, run, place)
 }
 
-/// Of the directory one entry of the log changed, and stamps; of the rest the
-/// new record alone; of the map at most one note, of a free block to 2.
+/// One entry of the log changed, and the stamps that are due for it; of the rest
+/// access stamps and the new record alone; of the map at most one note, of a free
+/// block to 2.
 fn check_frame(before: &World, after: &World, run: &Run, new: usize) -> Result<(), &'static str> {
-    let mut due = before.image.cells().to_vec();
-    for place in DIRECTORY_PLACES.into_iter().chain([new]) {
-        let now = &after.image.cells()[place..][..RECORD_BYTES];
-        due[place..][..RECORD_BYTES].copy_from_slice(now);
-    }
-    if due != after.image.cells() {
-        return Err("something behind the directory changed that is not the new record");
-    }
+    let changed = (0..64).filter(|&entry| {
+        before.entry(entry)[0] != DATES && before.entry(entry) != after.entry(entry)
+    });
     let log = entries_of(after, &run.wanted.log);
-    let changed: Vec<usize> = (0..64)
-        .filter(|&entry| before.entry(entry) != after.entry(entry))
-        .collect();
-    let files = changed
-        .iter()
-        .filter(|&&entry| before.entry(entry)[0] != DATES);
-    let files: Vec<usize> = files.copied().collect();
-    if files.len() != 1 || !log.contains(&files[0]) {
-        return Err("not one entry of the log changed");
+    let entry = match changed.collect::<Vec<usize>>()[..] {
+        [entry] if log.contains(&entry) => entry,
+        _ => return Err("not one entry of the log changed"),
+    };
+    let mut due = with_access_stamps(before, after, run);
+    put_log_stamps(&mut due, before, after, entry);
+    put(&mut due, World::entry_place(entry), after.entry(entry));
+    put(&mut due, new, bytes_at(after, new));
+    if due.image != after.image {
+        return Err("more changed than the new record, the log's entry and stamps beside it");
     }
     let notes = before.map.cells().iter().zip(after.map.cells());
     let mut changes = notes.filter(|(was, is)| was != is);
     match (changes.next(), changes.next()) {
         (None, _) | (Some((0, 2)), None) => Ok(()),
         _ => Err("the map changed in more than the new block"),
+    }
+}
+
+/// The stamps of the log's entry that changed: a new one's begin at zero, its
+/// extent 0 is created now, and any is updated now, where the label asks for it.
+fn put_log_stamps(due: &mut World, before: &World, after: &World, entry: usize) {
+    if !before.is_dated() {
+        return;
+    }
+    let place = stamps_place(entry);
+    let now = before.time.stamp();
+    if !before.is_used(entry) {
+        put(due, place, &[0; 8]);
+        if extent(after.entry(entry)) == 0 && before.asks(asks::CREATE) {
+            put(due, place, &now);
+        }
+    }
+    if before.asks(asks::UPDATE) {
+        put(due, place + 4, &now);
     }
 }
 

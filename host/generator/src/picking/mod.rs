@@ -109,7 +109,7 @@ pub struct Failed {
 }
 
 /// Makes runs of two pickers side by side, from the cases of a seed. The left one
-/// has to keep the laws too.
+/// has to keep the laws too, and runs a second time: it is the one that is tried.
 pub fn run(
     seed: u64,
     runs: usize,

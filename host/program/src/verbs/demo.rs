@@ -3,6 +3,7 @@
 
 use super::colours;
 use super::ls::shown;
+use super::pick::{BOOK, LOG};
 use crate::dates::{put_dates, put_label, Label};
 use crate::files;
 use crate::layout::Stamp;
@@ -310,7 +311,7 @@ fn words_of_a_year() -> Vec<u8> {
 }
 
 fn clocks_go_back(user: u8, desk: &mut Desk) -> Result<(), Trouble> {
-    let [book, log] = ["WORDS.DAT", "WORDS.LOG"].map(|name| super::named::<Name>(name.as_ref()));
+    let [book, log] = [BOOK, LOG].map(|name| super::named::<Name>(name.as_ref()));
     let (book, log) = (book?, log?);
     let mut disk = Disk::erased();
     disk.set_user(user).doing("call 32")?;
@@ -350,9 +351,8 @@ fn clocks_go_back(user: u8, desk: &mut Desk) -> Result<(), Trouble> {
 fn shown_run(number: u8, clock: &str, picked: &Picked, desk: &mut Desk) -> Result<(), Trouble> {
     let Picked { answer, word } = picked;
     let told = answer.number();
-    let word = word.map_or(Vec::new(), |word| word.to_vec());
-    let end = word.iter().position(|&byte| byte == files::FILLING);
-    let word = String::from_utf8_lossy(&word[..end.unwrap_or(word.len())]).into_owned();
+    let word = word.as_ref().map_or(&[][..], |word| files::text(word));
+    let word = String::from_utf8_lossy(word);
     writeln!(
         desk.out,
         " {number}. pick at {TWICE}, {clock}: {told}: {answer}\n    {word}"

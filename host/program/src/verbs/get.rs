@@ -1,7 +1,7 @@
 //! `get`: files from the disk.
 
 use super::{image_or_held, logged_in, named};
-use crate::files::{self, File, FILLING};
+use crate::files::{self, File};
 use crate::looking::Looking;
 use crate::saving::{already_there, Held, Ready};
 use crate::store::ImageFile;
@@ -194,8 +194,7 @@ fn copied(
         ));
     }
     if words.has("-t") {
-        let end = contents.bytes.iter().position(|&byte| byte == FILLING);
-        contents.bytes.truncate(end.unwrap_or(contents.bytes.len()));
+        contents.bytes.truncate(files::text(&contents.bytes).len());
     } else if !words.has("-r") {
         contents.bytes.truncate(file.bytes() as usize);
     }

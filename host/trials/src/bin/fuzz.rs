@@ -9,39 +9,54 @@
 //! Exit status: 0 no difference; 1 a difference; 2 wrong usage.
 
 use generator::picking;
+use std::collections::HashMap;
 use std::io::{self, Write};
-use std::path::PathBuf;
+use std::path::{Path, PathBuf};
 use std::process::ExitCode;
 use trials::fuzz::{again, keep, new_seed, search};
 use trials::Proved;
 
 /// What the words ask for.
-struct Wanted {
-    seed: u64,
-    calls: Option<usize>,
-    folder: PathBuf,
-    replay: Option<PathBuf>,
-    picks: Option<usize>,
-    case: Option<u64>,
+enum Job {
+    Search {
+        seed: u64,
+        calls: Option<usize>,
+        folder: PathBuf,
+    },
+    Replay(PathBuf),
+    Picks {
+        seed: u64,
+        runs: usize,
+    },
+    Case(u64),
 }
 
+const USAGE: &str = "usage: fuzz [--seed SEED] [--calls CALLS] [--folder FOLDER] | --replay FILE | --picks RUNS [--seed SEED] | --case NUMBER";
+
+/// The options that say which job it is, each with those that it takes beside it.
+const JOBS: [(&str, &[&str]); 3] = [("--replay", &[]), ("--picks", &["--seed"]), ("--case", &[])];
+
+/// The options of a search.
+const SEARCH: [&str; 3] = ["--seed", "--calls", "--folder"];
+
 fn main() -> ExitCode {
-    let wanted = match wanted(std::env::args().skip(1)) {
-        Ok(wanted) => wanted,
+    let job = match job(std::env::args().skip(1)) {
+        Ok(job) => job,
         Err(wrong) => {
-            eprintln!("fuzz: {wrong}");
-            eprintln!(
-                "usage: fuzz [--seed SEED] [--calls CALLS] [--folder FOLDER] | --replay FILE | --picks RUNS [--seed SEED] | --case NUMBER"
-            );
+            eprintln!("fuzz: {wrong}\n{USAGE}");
             return ExitCode::from(2);
         }
     };
     let out = &mut io::stdout();
-    let done = match (&wanted.replay, wanted.picks, wanted.case) {
-        (Some(file), ..) => replayed(file, out),
-        (_, _, Some(case)) => picked_again(case, out),
-        (_, Some(runs), _) => picked(wanted.seed, runs, out),
-        _ => searched(&wanted, out),
+    let done = match job {
+        Job::Search {
+            seed,
+            calls,
+            folder,
+        } => searched(seed, calls, &folder, out),
+        Job::Replay(file) => replayed(&file, out),
+        Job::Picks { seed, runs } => picked(seed, runs, out),
+        Job::Case(case) => picked_again(case, out),
     };
     match done {
         Ok(true) => ExitCode::SUCCESS,
@@ -53,35 +68,57 @@ fn main() -> ExitCode {
     }
 }
 
-fn wanted(mut words: impl Iterator<Item = String>) -> Result<Wanted, String> {
-    let mut wanted = Wanted {
-        seed: new_seed(),
-        calls: None,
-        folder: PathBuf::from("."),
-        replay: None,
-        picks: None,
-        case: None,
-    };
+/// Reads the words. What has no meaning beside the others is refused, so that
+/// nobody takes it for done.
+fn job(mut words: impl Iterator<Item = String>) -> Result<Job, String> {
+    let mut given: HashMap<String, String> = HashMap::new();
     while let Some(word) = words.next() {
+        let known = SEARCH.contains(&&*word) || JOBS.iter().any(|(job, _)| *job == word);
+        if !known {
+            return Err(format!("there is no option {word}"));
+        }
         let value = words.next().ok_or(format!("{word} lacks its value"))?;
-        let number = || value.parse().map_err(|_| format!("{value} is no number"));
-        match word.as_str() {
-            "--seed" => wanted.seed = number()?,
-            "--calls" => wanted.calls = Some(number()? as usize),
-            "--folder" => wanted.folder = value.into(),
-            "--replay" => wanted.replay = Some(value.into()),
-            "--picks" => wanted.picks = Some(number()? as usize),
-            "--case" => wanted.case = Some(number()?),
-            _ => return Err(format!("there is no option {word}")),
+        given.insert(word, value);
+    }
+    if let Some((job, beside)) = JOBS.iter().find(|(job, _)| given.contains_key(*job)) {
+        let mut others = given.keys().filter(|word| word != job);
+        if let Some(other) = others.find(|word| !beside.contains(&&***word)) {
+            return Err(format!("{other} does not go together with {job}"));
         }
     }
-    Ok(wanted)
+    let number = |option: &str| {
+        let read = |value: &String| value.parse::<u64>().ok();
+        let value = given.get(option);
+        let number = value.map(|value| read(value).ok_or(format!("{value} is no number")));
+        number.transpose()
+    };
+    let seed = number("--seed")?.unwrap_or_else(new_seed);
+    if let Some(file) = given.get("--replay") {
+        return Ok(Job::Replay(file.into()));
+    }
+    Ok(match (number("--picks")?, number("--case")?) {
+        (Some(runs), _) => Job::Picks {
+            seed,
+            runs: runs as usize,
+        },
+        (_, Some(case)) => Job::Case(case),
+        _ => Job::Search {
+            seed,
+            calls: number("--calls")?.map(|calls| calls as usize),
+            folder: given.get("--folder").map_or(".", String::as_str).into(),
+        },
+    })
 }
 
 /// Whether no difference was found.
-fn searched(wanted: &Wanted, out: &mut dyn Write) -> io::Result<bool> {
+fn searched(
+    seed: u64,
+    calls: Option<usize>,
+    folder: &Path,
+    out: &mut dyn Write,
+) -> io::Result<bool> {
     let (mut left, mut right) = (reference::call, Proved);
-    match search(wanted.seed, wanted.calls, &mut left, &mut right, out)? {
+    match search(seed, calls, &mut left, &mut right, out)? {
         Ok(counts) => {
             // The table says how often things come up in 300,000 calls.
             if counts.calls >= 300_000 {
@@ -90,7 +127,7 @@ fn searched(wanted: &Wanted, out: &mut dyn Write) -> io::Result<bool> {
             Ok(true)
         }
         Err(failure) => {
-            for file in keep(&failure, &wanted.folder)? {
+            for file in keep(&failure, folder)? {
                 writeln!(
                     out,
                     "run it again with `make fuzz REPLAY={}`",
@@ -103,7 +140,7 @@ fn searched(wanted: &Wanted, out: &mut dyn Write) -> io::Result<bool> {
 }
 
 /// Whether a kept sequence shows no difference any more.
-fn replayed(file: &PathBuf, out: &mut dyn Write) -> io::Result<bool> {
+fn replayed(file: &Path, out: &mut dyn Write) -> io::Result<bool> {
     let text = std::fs::read_to_string(file)?;
     let sequence = text.parse().map_err(io::Error::other)?;
     let (mut left, mut right) = (reference::call, Proved);
@@ -113,8 +150,8 @@ fn replayed(file: &PathBuf, out: &mut dyn Write) -> io::Result<bool> {
 /// Whether the two pickers showed no difference, and kept the laws.
 fn picked(seed: u64, runs: usize, out: &mut dyn Write) -> io::Result<bool> {
     let mut counts = picking::Counts::default();
-    let mut left = reference::pick;
-    match picking::run(seed, runs, &mut left, &mut Proved, &mut counts) {
+    let mut right = reference::pick;
+    match picking::run(seed, runs, &mut Proved, &mut right, &mut counts) {
         Ok(()) => {
             writeln!(out, "seed {seed}: no difference\n{counts}")?;
             Ok(true)
@@ -130,8 +167,8 @@ fn picked(seed: u64, runs: usize, out: &mut dyn Write) -> io::Result<bool> {
 /// Whether a run that failed shows no difference any more.
 fn picked_again(case: u64, out: &mut dyn Write) -> io::Result<bool> {
     let mut counts = picking::Counts::default();
-    let mut left = reference::pick;
-    let again = picking::one(case, &mut left, &mut Proved, &mut counts);
+    let mut right = reference::pick;
+    let again = picking::one(case, &mut Proved, &mut right, &mut counts);
     let said = again.as_ref().err().map_or("no difference", |what| what);
     writeln!(out, "{}", said.trim_end())?;
     Ok(again.is_ok())
