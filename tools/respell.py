@@ -14,7 +14,7 @@ import re
 import sys
 
 TOKEN = re.compile(r"[A-Za-zα-ωΑ-Ω_][A-Za-z0-9_'′α-ω₀-₉-]*")
-DECLARED = re.compile(r"^\s*(?:(?:pub|unfoldable|abbrev|opaque|private|instance)\s+)*(record|data)?\s*([^\s:({]+)(\s[^:=]*)?\s:\s(.*)")
+DECLARED = re.compile(r"^\s*(?:(?:pub|unfoldable|abbrev|opaque|private|instance)\s+)*(record\s+|data\s+)?([^\s:({]+)(\s[^:=]*)?\s:\s(.*)")
 
 
 def texts(ends):

@@ -3,7 +3,7 @@ use Rattle.std.specs.Prelude.{◌≡◌, true, false, not, ◌≤◌, eqb, leb, 
 use Rattle.std.proofs.Common.{ap, ◌∙◌}
 use borrow.Author.Tests.{eqb-true, eq-eqb, le-leb}
 use Rattle.lists.specs.Tests.{◌or◌, and_left, and_right, and_then, or_then, or_left}
-use Rattle.format.specs.Diskette.{Geometry, Long, recordBytes}
+use Rattle.format.specs.Diskette.{Geometry, Long, record_bytes}
 use Rattle.format.specs.Fcb.{fcb_bytes}
 use Rattle.facts.specs.Long.{long_says, long_is}
 use Rattle.model.specs.declared.Asked.{Asked}
@@ -27,7 +27,7 @@ module _ (G : Geometry) (l : Lent) where
 
   -- the last length decides where the others are right
   pub buffer_decides : Long G l.drive.image → length l.drive.map ≡ G.blocks → length l.fcb ≡ fcb_bytes
-      → lengths_right_rule G l ≡ eqb (length l.buffer) recordBytes
+      → lengths_right_rule G l ≡ eqb (length l.buffer) record_bytes
   unfolding lengths_right_rule
   buffer_decides i m f =
       and_then _ _ (long_is G l.drive.image i) ∙ and_then _ _ (eq-eqb _ _ m) ∙ and_then _ _ (eq-eqb _ _ f)

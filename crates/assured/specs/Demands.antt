@@ -5,7 +5,7 @@ use Rattle.std.proofs.Common.{ap, sym, ◌∙◌}
 use Rattle.lists.specs.Cases.{split}
 use Rattle.lists.specs.Tests.{◌and◌, and_left, and_right}
 use Rattle.lists.specs.Splice.{splice}
-use Rattle.format.specs.Diskette.{Bytes, eight_inch, recordBytes, extents, extent_records}
+use Rattle.format.specs.Diskette.{Bytes, eight_inch, record_bytes, extents, extent_records}
 use Rattle.format.specs.Fcb.{fcb_bytes}
 use Rattle.disk.specs.Eight.{eight_sound}
 use Rattle.model.specs.declared.Asked.{Asked}
@@ -144,7 +144,7 @@ pub data ReadsBack (d : Disk) (w : Request) (acts : List Act) (again : Asked) (e
       → back ≡ empty → ReadsBack d w acts again empty r image map fcb written back
   write_read : r.accepted ≡ true → writes_to d w ≡ true → written ≡ (outcome_of eight_inch d w).lent.buffer
       → outcome r.answer image map fcb back ≡ read_after d w acts again empty
-      → (length empty ≡ recordBytes → time_right_rule again ≡ true → LeftAlone d w acts → Gives (outcome r.answer image map fcb back) w.buffer)
+      → (length empty ≡ record_bytes → time_right_rule again ≡ true → LeftAlone d w acts → Gives (outcome r.answer image map fcb back) w.buffer)
       → ReadsBack d w acts again empty r image map fcb written back
 
 module _ (d : Disk) (w : Request) (took : writes_to d w ≡ true) where
@@ -163,8 +163,8 @@ module _ (d : Disk) (w : Request) (took : writes_to d w ≡ true) where
   pub extent_low : target_extent w.asked.number w.fcb < extents
   extent_low = (wrote eight_sound d w writes accepted).extent
 
-  pub record-low : target_record w.asked.number w.fcb < extent_records
-  record-low = (wrote eight_sound d w writes accepted).holds.inside
+  pub record_low : target_record w.asked.number w.fcb < extent_records
+  record_low = (wrote eight_sound d w writes accepted).holds.inside
 
   -- call 33 on the disk after the run
   module _ (o : Outcome) (met : o ≡ outcome_of eight_inch d w) (acts : List Act) (e : Disk) (made : e ≡ run eight_inch (after eight_inch d w) acts)
@@ -174,7 +174,7 @@ module _ (d : Disk) (w : Request) (took : writes_to d w ≡ true) where
     unfolding read_after read_fcb at_record_rule outcome_of
     read_last = last ∙ rw (made, is.extent, is.at, met)
 
-    pub reads_again : length empty ≡ recordBytes → time_right_rule again ≡ true → LeftAlone d w acts → Gives p w.buffer
+    pub reads_again : length empty ≡ record_bytes → time_right_rule again ≡ true → LeftAlone d w acts → Gives p w.buffer
     unfolding read_after time_right_rule
     reads_again long time alone =
         subst (λ (y : Outcome). Gives y w.buffer) (sym read_last) (eight_read_back d w writes accepted acts alone (calling 33 again) refl time empty long)

@@ -8,7 +8,7 @@ use Rattle.std.proofs.lemmas.Bool.{eqb-false}
 use Rattle.lists.specs.Cases.{split, bool_cases, bool_ext, refute, not_both}
 use Rattle.lists.specs.Tests.{◌and◌, and_left, and_right, and_both, and_then, and_assoc, and_first, and_fails_left, and_fails_right, or_left, or_then, or_first}
 use Rattle.lists.specs.Below.{all_below, all_none, all_at, all_intro, all_more, all_fails}
-use Rattle.format.specs.Diskette.{Bytes, Geometry, Sound, Long, recordAt, slot_count, entries_per_record}
+use Rattle.format.specs.Diskette.{Bytes, Geometry, Sound, Long, record_at, slot_count, entries_per_record}
 use Rattle.format.specs.Entries.{Rows, entry_at, slot_of, empty, used}
 use Rattle.format.specs.Dates.{is_label, label_right_rule, dates_right_rule}
 use Rattle.format.specs.Consistent.{slots_right, file_right, aside_right, entry_right, slots_in_all, listed_once, alone, dates_placed, label_once, places_right, consistent_rows}
@@ -249,7 +249,7 @@ module _ (G : Geometry) (d : Rows) where
   }
 
 -- the first n rows of a record, where they are all empty
-pub passed_rows : {G : Geometry} → Sound G → (img : Bytes) → Long G img → (k : ℕ) → entries_per_record * k < G.entries → (n : ℕ) → n ≤ entries_per_record → (four : Bytes) → four ≡ recordAt G img k
+pub passed_rows : {G : Geometry} → Sound G → (img : Bytes) → Long G img → (k : ℕ) → entries_per_record * k < G.entries → (n : ℕ) → n ≤ entries_per_record → (four : Bytes) → four ≡ record_at G img k
     → all_below (λ (i : ℕ). empty (row_of four i)) n ≡ true → (marks chain aside : Bytes) → Passed G (entry_at G img) (entries_per_record * k) marks chain aside
     → Passed G (entry_at G img) (entries_per_record * k + n) marks chain aside
 passed_rows {G} S img long k h n l four q z marks chain aside p =

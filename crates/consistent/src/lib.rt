@@ -2,7 +2,7 @@
 ghost use Rattle.std.specs.Prelude.{◌≡◌, true, false, ℕ, ◌+◌, ◌*◌, ◌/◌, ◌%◌, ◌≤◌, ◌<◌, eqb, length, get_or, set};
 ghost use Rattle.lists.specs.Tests.{◌and◌};
 ghost use Rattle.lists.specs.Below.{all_below};
-ghost use Rattle.format.specs.Diskette.{eight_inch, Long, recordBytes, entry_bytes, entries_per_record};
+ghost use Rattle.format.specs.Diskette.{eight_inch, Long, record_bytes, entry_bytes, entries_per_record};
 ghost use Rattle.format.specs.Entries.{entry_at, empty};
 ghost use Rattle.format.specs.Dates.{label_right_rule};
 ghost use Rattle.format.specs.Consistent.{consistent, consistent_rows};
@@ -84,8 +84,8 @@ fn take_entry(
 
 // Where the rows begin that are tested one by one. On a disk with date entries three empty rows are passed over at once.
 fn first_tested(four: &[u8], dates: u8) -> usize
-    requires { length four.now ≡ recordBytes }
-    ensures { (all_below (λ (i : ℕ). empty (row_of four.now i)) (result / entry_bytes) ≡ true) × (result % entry_bytes ≡ 0) × (result ≤ recordBytes) }
+    requires { length four.now ≡ record_bytes }
+    ensures { (all_below (λ (i : ℕ). empty (row_of four.now i)) (result / entry_bytes) ≡ true) × (result % entry_bytes ≡ 0) × (result ≤ record_bytes) }
 {
     if dates != 0 {
         if rows::three_empty(four) {

@@ -8,7 +8,7 @@ use Rattle.std.proofs.Math.ListN.{length}
 use borrow.Author.Tests.{eq-eqb, le-ltb}
 use Rattle.lists.specs.Cases.{split, bool_cases, not_both}
 use Rattle.lists.specs.Tests.{◌or◌, and_left, and_right}
-use Rattle.format.specs.Diskette.{Bytes, Geometry, Sound, recordBytes}
+use Rattle.format.specs.Diskette.{Bytes, Geometry, Sound, record_bytes}
 use Rattle.format.specs.Names.{name_right_rule}
 use Rattle.format.specs.Entries.{entry_at, ex_of, extent_of, used, read_only, empty, is_file_rule, find_empty_rule}
 use Rattle.format.specs.Notes.{free_note, note_at_rule, fresh_note_rule, fresh_map, find_free}
@@ -169,7 +169,7 @@ module _ {G : Geometry} (S : Sound G) (d : Disk) (q : Request) (number : q.asked
   some_free_law b h z = found_cases (find_free G l.drive.map) (λ k e. record { place = k; is = e }) (λ e. absurd (none_free G l.drive.map e b h z))
 
   written_next : (b : ℕ) → b < G.blocks → note_at_rule l.drive.map b ≡ free_note
-      → (w : Request) → w.asked.number ≡ 21 → w.fcb ≡ (created_at G d.session l t).lent.fcb → time_right_rule w.asked ≡ true → length w.buffer ≡ recordBytes → accepts G made w ≡ true
+      → (w : Request) → w.asked.number ≡ 21 → w.fcb ≡ (created_at G d.session l t).lent.fcb → time_right_rule w.asked ≡ true → length w.buffer ≡ record_bytes → accepts G made w ≡ true
   unfolding made outcome_of created created_at t protected
   written_next b h z w n fcb time buffer =
       let row : Bytes = made_row_rule d.session.user l.fcb in
@@ -192,7 +192,7 @@ module _ {G : Geometry} (S : Sound G) (d : Disk) (q : Request) (number : q.asked
 
   -- a write through the FCB handed back, where a block is free
   pub make_then_write : (b : ℕ) → b < G.blocks → note_at_rule d.drive.map b ≡ free_note
-      → (w : Request) → w.asked.number ≡ 21 → w.fcb ≡ (outcome_of G d q).lent.fcb → time_right_rule w.asked ≡ true → length w.buffer ≡ recordBytes → accepts G (after G d q) w ≡ true
+      → (w : Request) → w.asked.number ≡ 21 → w.fcb ≡ (outcome_of G d q).lent.fcb → time_right_rule w.asked ≡ true → length w.buffer ≡ record_bytes → accepts G (after G d q) w ≡ true
   unfolding after made
   make_then_write b h z w n fcb time buffer =
       subst (λ (o : Outcome). accepts G (left o) w ≡ true) (sym made_is)
@@ -204,7 +204,7 @@ pub record Asks (q : Request) (n : ℕ) : Type 0 where
   pub number : q.asked.number ≡ n
   pub time : time_right_rule q.asked ≡ true
   pub fcb : length q.fcb ≡ fcb_bytes
-  pub buffer : length q.buffer ≡ recordBytes
+  pub buffer : length q.buffer ≡ record_bytes
 
 module _ {G : Geometry} (S : Sound G) (some : 0 < G.entries) where
   -- nothing is listed, so that the first block past the directory is free after a log-in

@@ -39,7 +39,7 @@ use Rattle.table.specs.Reflect.{ready_of}
 use Rattle.table.specs.Accept.{passes}
 use Rattle.table.specs.Total.{CarriedOut, total_refused, total_accepted}
 use Rattle.table.specs.Accepted.{carried_says}
-use Rattle.table.specs.Stamping.{where_undated, record-stamps}
+use Rattle.table.specs.Stamping.{where_undated, record_stamps}
 use Rattle.demands.specs.Stamped.{stamped_as, stamped_as_law}
 use Rattle.demands.specs.Runs.{Request, Disk, lent_to, outcome_of, accepts, lifted_by}
 
@@ -197,7 +197,7 @@ pub closes_first : (G : Geometry) (d : Disk) (q : Request) → of_record (kind_o
 unfolding outcome_of kind_of closed closed_at moved made
 closes_first G d q k w b nonzero =
     let c = close_follows G q.asked (lent_to d q) d.session b nonzero k w in
-    let by = record-stamps G q.asked (lent_to d q) d.session (kind_of q.asked.number) k in
+    let by = record_stamps G q.asked (lent_to d q) d.session (kind_of q.asked.number) k in
     let own : (p : Plan) → plan_of G d q ≡ p → number_of G.entries (present_entry G d.session.user (lent_to d q)) ≡ closed_by p =
     λ p z. sym (plan_closes G q.asked.number d.session.user (lent_to d q)) ∙ ap closed_by z in
     let closes : (e : ℕ) → number_of G.entries (present_entry G d.session.user (lent_to d q)) ≡ e

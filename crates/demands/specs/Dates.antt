@@ -33,7 +33,7 @@ use Rattle.model.specs.Step.{settled, does, step}
 use Rattle.table.specs.Own.{same_is}
 use Rattle.table.specs.Total.{RefusedBy, CarriedOut}
 use Rattle.invariant.specs.Good.{Good}
-use Rattle.table.specs.Stamping.{where_dated_law, record-stamps, stamp_calls, other_stamps}
+use Rattle.table.specs.Stamping.{where_dated_law, record_stamps, stamp_calls, other_stamps}
 use Rattle.invariant.specs.Updates.{dates_beside}
 use Rattle.invariant.specs.Stamps.{newest}
 use Rattle.demands.specs.StepOk.{ready_good}
@@ -187,7 +187,7 @@ module _ {G : Geometry} (S : Sound G) (asked : Asked) (l : Lent) (s : Session) (
     -- 20, 21, 33, 34
     module _ (k : Kind) (q : kind_of asked.number ≡ k) (r : of_record k ≡ true) (f t b : ℕ) where
       planned : (p : Plan) → plan G asked.number s.user l ≡ p → after e which ≡ newest (move_stamps G asked l s p) e which (before e which)
-      planned p w = made_by_law k q _ (record-stamps G asked l s k r ∙ ap (move_stamps G asked l s) w)
+      planned p w = made_by_law k q _ (record_stamps G asked l s k r ∙ ap (move_stamps G asked l s) w)
 
       pub stay_else : plan G asked.number s.user l ≡ Stay f b → after e which ≡ before e which
       stay_else w = planned (Stay f b) w

@@ -1,7 +1,7 @@
 -- The demands on the 8-inch disk: that its sizes are sound is shown, and no longer asked.
 use Rattle.std.specs.Prelude.{◌≡◌, true, false, List, [], ◌∷◌, ℕ, ◌%◌, ◌≤◌, ◌<◌, length, get_or}
 use Rattle.std.proofs.Common.{arith}
-use Rattle.format.specs.Diskette.{Bytes, eight_inch, recordBytes}
+use Rattle.format.specs.Diskette.{Bytes, eight_inch, record_bytes}
 use Rattle.format.specs.Names.{name_right_rule}
 use Rattle.format.specs.Entries.{Rows, ex_of}
 use Rattle.format.specs.Dates.{dated, stamp_at}
@@ -37,7 +37,7 @@ use Rattle.demands.specs.Begins.{Asks, erased_begins}
 -- demand 2
 pub eight_read_back : (d : Disk) (w : Request) → kind_of w.asked.number ≡ Write → accepts eight_inch d w ≡ true
     → (acts : List Act) → AllLeaveAlone eight_inch (outcome_of eight_inch d w).lent.fcb (after eight_inch d w) acts
-    → (asked : Asked) → asked.number ≡ 33 → time_right_rule asked ≡ true → (buffer : Bytes) → length buffer ≡ recordBytes
+    → (asked : Asked) → asked.number ≡ 33 → time_right_rule asked ≡ true → (buffer : Bytes) → length buffer ≡ record_bytes
     → Gives (outcome_of eight_inch (run eight_inch (after eight_inch d w) acts) (record { asked = asked; fcb = read_fcb eight_inch d w; buffer = buffer })) w.buffer
 eight_read_back = read_back eight_sound
 

@@ -1,7 +1,7 @@
 -- The demands speak of something: an erased disk is accepted by the log-in, with any map, FCB, buffer and session that fit.
 use Rattle.std.specs.Prelude.{◌≡◌, refl, true, ℕ, length}
 use Rattle.std.proofs.Common.{ap, ◌∙◌}
-use Rattle.format.specs.Diskette.{Geometry, Sound, recordBytes}
+use Rattle.format.specs.Diskette.{Geometry, Sound, record_bytes}
 use Rattle.format.specs.Fcb.{fcb_bytes}
 use Rattle.model.specs.Table.{time_right_rule, verdict}
 use Rattle.fields.specs.Erased.{ErasedDisk, erased_consistent}
@@ -16,7 +16,7 @@ use Rattle.table.specs.Accepted.{carried_says}
 use Rattle.demands.specs.Runs.{Request, Disk, lent_to, outcome_of, accepts}
 
 pub erased_accepted : {G : Geometry} (S : Sound G) (d : Disk) (q : Request) → ErasedDisk G d.drive.image → length d.drive.map ≡ G.blocks → InRange G d.session
-    → q.asked.number ≡ 13 → time_right_rule q.asked ≡ true → length q.fcb ≡ fcb_bytes → length q.buffer ≡ recordBytes → accepts G d q ≡ true
+    → q.asked.number ≡ 13 → time_right_rule q.asked ≡ true → length q.fcb ≡ fcb_bytes → length q.buffer ≡ record_bytes → accepts G d q ≡ true
 unfolding outcome_of is_call kind_of
 erased_accepted {G} S d q erased map range n time fcb buffer =
     carried_says G q.asked (lent_to d q) d.session

@@ -5,7 +5,7 @@ use Rattle.std.proofs.Common.{ap, sym, ◌∙◌, arith}
 use Rattle.std.proofs.Math.Path.{subst}
 use mathlib.Core.List.{List, [], ◌∷◌}
 use Rattle.lists.specs.Cases.{split}
-use Rattle.format.specs.Diskette.{Geometry, Sound, recordBytes, Long}
+use Rattle.format.specs.Diskette.{Geometry, Sound, record_bytes, Long}
 use Rattle.format.specs.Entries.{entry_at}
 use Rattle.format.specs.Dates.{fourth_of}
 use Rattle.format.specs.Consistent.{consistent}
@@ -124,7 +124,7 @@ module _ {G : Geometry} (S : Sound G) where
   bytes_stay d q = let ok = step_ok S q.asked (lent_to d q) d.session in record { frame = ok.frame; map_length = ok.map_length }
 
   -- the system tracks are never touched
-  pub system_stays : (d : Disk) (q : Request) (i : ℕ) → i < G.reserved * G.sectors * recordBytes → get_or (after G d q).drive.image i 0 ≡ get_or d.drive.image i 0
+  pub system_stays : (d : Disk) (q : Request) (i : ℕ) → i < G.reserved * G.sectors * record_bytes → get_or (after G d q).drive.image i 0 ≡ get_or d.drive.image i 0
   system_stays d q i h = split ((bytes_stay d q).frame.byte i) (λ e. e) (λ w. absurd (go w))
     where
       go : Where G d.drive.image (after G d q).drive.image (names q.asked.number d.session.user q.fcb) (MayWrite G q.asked.number (lent_to d q) d.session (outcome_of G d q)) i → ⊥

@@ -6,7 +6,7 @@ use Rattle.std.proofs.Common.{ap, sym, ◌∙◌, arith, get_or-set_same, get_or
 use Rattle.std.proofs.Math.Bool.{false}
 use mathlib.Core.List.{List, [], ◌∷◌}
 use Rattle.lists.specs.Cases.{split}
-use Rattle.format.specs.Diskette.{Bytes, Geometry, Sound, recordBytes, extents}
+use Rattle.format.specs.Diskette.{Bytes, Geometry, Sound, record_bytes, extents}
 use Rattle.format.specs.Entries.{user_of, extent_of, named}
 use Rattle.format.specs.Fcb.{fcb_bytes}
 use Rattle.facts.specs.Names.{like_at}
@@ -36,7 +36,7 @@ use Rattle.table.specs.Accepted.{accepted_carried}
 use Rattle.demands.specs.StepOk.{ready_good}
 use Rattle.demands.specs.Stamped.{stamped_as, stamped_as_law, holds_on, step_ok, step_accepted, step_good}
 use Rattle.demands.specs.Runs.{Request, Disk, lent_to, outcome_of, accepts, after, Act, one_call, lifts, protects, after_act, run}
-use Rattle.demands.specs.Reading.{at_record_rule, recordNumber, Gives, reads_back, length_at_record, rest_at_record}
+use Rattle.demands.specs.Reading.{at_record_rule, record_number, Gives, reads_back, length_at_record, rest_at_record}
 
 -- ---- runs that leave a file alone
 -- a row of the file that the FCB f names for a user
@@ -127,20 +127,20 @@ module _ {G : Geometry} (S : Sound G) (user : ℕ) (f : Bytes) (hf : length f �
 
   -- and is read then
   pub kept_read : (d : Disk) → Kept G d user f e rec v → get_or f 0 0 ≤ 1 → extent_of f < extents → (asked : Asked) → asked.number ≡ 33 → time_right_rule asked ≡ true → (buffer : Bytes)
-      → length buffer ≡ recordBytes → Gives (outcome_of G d (record { asked = asked; fcb = at_record_rule f (recordNumber (extent_of f) rec); buffer = buffer })) v
+      → length buffer ≡ record_bytes → Gives (outcome_of G d (record { asked = asked; fcb = at_record_rule f (record_number (extent_of f) rec); buffer = buffer })) v
   unfolding outcome_of
   kept_read d k drive low asked n time buffer hb =
-      let fcb : Bytes = at_record_rule f (recordNumber (extent_of f) rec) in
+      let fcb : Bytes = at_record_rule f (record_number (extent_of f) rec) in
       reads_back S asked n (lent_to d (record { asked = asked; fcb = fcb; buffer = buffer })) d.session k.good
       record {
         image_long = k.good.image_long;
         map_long = k.good.map_long;
-        fcb_long = length_at_record f (recordNumber (extent_of f) rec) hf;
+        fcb_long = length_at_record f (record_number (extent_of f) rec) hf;
         buffer_long = hb;
         user_low = k.range.user;
         place_low = k.range.place;
       }
-      time (rw (rest_at_record f (recordNumber (extent_of f) rec) hf 0 (omega arith) (omega arith)) drive) f hf e rec v
+      time (rw (rest_at_record f (record_number (extent_of f) rec) hf 0 (omega arith) (omega arith)) drive) f hf e rec v
       (subst (λ (x : ℕ). Holds G (view_of G d.drive.image d.drive.map) x f e rec v) (sym k.same) k.holds) low refl
 
 -- ---- what an accepted write leaves
@@ -196,12 +196,12 @@ module _ {G : Geometry} (S : Sound G) (d : Disk) (w : Request) (writes : kind_of
 -- ---- demand 2
 -- the FCB that the write w handed back, with r0 to r2 set to the record that it wrote
 unfoldable pub read_fcb : Geometry → Disk → Request → Bytes
-read_fcb G d w = at_record_rule (outcome_of G d w).lent.fcb (recordNumber (target_extent w.asked.number w.fcb) (target_record w.asked.number w.fcb))
+read_fcb G d w = at_record_rule (outcome_of G d w).lent.fcb (record_number (target_extent w.asked.number w.fcb) (target_record w.asked.number w.fcb))
 
 -- with any buffer of 128 bytes, any argument and any time in BCD, on a session protected or not: the read stays in its extent
 pub read_back : {G : Geometry} (S : Sound G) (d : Disk) (w : Request) → kind_of w.asked.number ≡ Write → accepts G d w ≡ true
     → (acts : List Act) → AllLeaveAlone G (outcome_of G d w).lent.fcb (after G d w) acts
-    → (asked : Asked) → asked.number ≡ 33 → time_right_rule asked ≡ true → (buffer : Bytes) → length buffer ≡ recordBytes
+    → (asked : Asked) → asked.number ≡ 33 → time_right_rule asked ≡ true → (buffer : Bytes) → length buffer ≡ record_bytes
     → Gives (outcome_of G (run G (after G d w) acts) (record { asked = asked; fcb = read_fcb G d w; buffer = buffer })) w.buffer
 unfolding read_fcb
 read_back {G} S d w writes accepted acts alone asked n time buffer hb =
@@ -209,7 +209,7 @@ read_back {G} S d w writes accepted acts alone asked n time buffer hb =
     let f : Bytes = (outcome_of G d w).lent.fcb in
     let rec : ℕ = target_record w.asked.number w.fcb in
     let x : extent_of f ≡ target_extent w.asked.number w.fcb = k.fcb.extent in
-    subst (λ (i : ℕ). Gives (outcome_of G (run G (after G d w) acts) (record { asked = asked; fcb = at_record_rule f (recordNumber i rec); buffer = buffer })) w.buffer) x
+    subst (λ (i : ℕ). Gives (outcome_of G (run G (after G d w) acts) (record { asked = asked; fcb = at_record_rule f (record_number i rec); buffer = buffer })) w.buffer) x
     (kept_read S d.session.user f k.fcb.long k.entry rec w.buffer (run G (after G d w) acts)
     (kept_run S d.session.user f k.fcb.long k.entry rec w.buffer (after G d w) acts alone (wrote_kept S d w writes accepted))
     (rw k.fcb.first k.drive) (rw x k.extent) asked n time buffer hb)

@@ -8,7 +8,7 @@ use borrow.Author.Tests.{eq-eqb, ne_eqb, lt-ltb}
 use Rattle.lists.specs.Cases.{not_both}
 use Rattle.lists.specs.Tests.{and_both}
 use Rattle.lists.specs.Splice.{splice}
-use Rattle.format.specs.Diskette.{Bytes, Geometry, Sound, recordAt, extents, extent_records}
+use Rattle.format.specs.Diskette.{Bytes, Geometry, Sound, record_at, extents, extent_records}
 use Rattle.format.specs.Entries.{slot_of, slot_for_rule, count_of, extent_of}
 use Rattle.format.specs.Fcb.{fcb_bytes, fcb_right_rule, random_of_rule}
 use Rattle.format.specs.declared.Found.TheVariants.{At}
@@ -19,14 +19,14 @@ use Rattle.model.specs.declared.Plan.{Plan}
 use Rattle.model.specs.declared.Kind.TheVariants.{Read}
 use Rattle.model.specs.Lent.{Lent, Outcome}
 use Rattle.model.specs.Entering.{three_bytes}
-use Rattle.model.specs.Target.{target_extent, target_record, target_slot, present_entry, stays, block_there, count_there, recordThere, plan, place_in, have_read}
+use Rattle.model.specs.Target.{target_extent, target_record, target_slot, present_entry, stays, block_there, count_there, record_there, plan, place_in, have_read}
 use Rattle.model.specs.Calls.{read_at, reading, read}
 use Rattle.model.specs.Step.{step}
 use Rattle.model.specs.Table.{time_right_rule}
 use Rattle.current.specs.Current.{fcb_says}
 use Rattle.fields.specs.Agree.{Agree, SameName, name_cong, slot_cong, extent_cong, count_cong}
 use Rattle.fields.specs.Numbers.{below_three, length_three, random_three}
-use Rattle.fields.specs.Target.{extent_random, record-random, stays_extent}
+use Rattle.fields.specs.Target.{extent_random, record_random, stays_extent}
 use Rattle.table.specs.Own.{calling}
 use Rattle.model.specs.Kinds.{kind_of, is_call, is_random_rule}
 use Rattle.table.specs.Protection.{unchanged_spared, stay_unchanged}
@@ -47,8 +47,8 @@ unfoldable pub at_record_rule : Bytes → ℕ → Bytes
 at_record_rule f r = splice f 33 (three_bytes r)
 
 -- the number of a record of an extent
-abbrev pub recordNumber : ℕ → ℕ → ℕ
-recordNumber ext rec = extent_records * ext + rec
+abbrev pub record_number : ℕ → ℕ → ℕ
+record_number ext rec = extent_records * ext + rec
 
 module _ (f : Bytes) (r : ℕ) (hf : length f ≡ fcb_bytes) where
   pub length_at_record : length (at_record_rule f r) ≡ fcb_bytes
@@ -95,15 +95,15 @@ pub record Gives (o : Outcome) (v : Bytes) : Type 0 where
 module _ {G : Geometry} (S : Sound G) (asked : Asked) (number : asked.number ≡ 33) (l : Lent) (s : Session) (g : Good G l.drive.image l.drive.map) (fits : Fits G l s)
     (time : time_right_rule asked ≡ true) (drive : get_or l.fcb 0 0 ≤ 1) (f : Bytes) (hf : length f ≡ fcb_bytes) (e rec : ℕ) (v : Bytes)
     (h : Holds G (view_of G l.drive.image l.drive.map) s.user f e rec v) (low : extent_of f < extents)
-    (is : l.fcb ≡ at_record_rule f (recordNumber (extent_of f) rec)) where
+    (is : l.fcb ≡ at_record_rule f (record_number (extent_of f) rec)) where
   at : present_entry G s.user l ≡ At e
   unfolding present_entry
   at =
       cur_current G l.drive.image l.drive.map s.user l.fcb e g.inv.dir fits.user_low
-      (rw is (cur_at_record f (recordNumber (extent_of f) rec) hf G (view_of G l.drive.image l.drive.map) s.user e h.cur))
+      (rw is (cur_at_record f (record_number (extent_of f) rec) hf G (view_of G l.drive.image l.drive.map) s.user e h.cur))
 
   random : random_of_rule l.fcb ≡ 128 * extent_of f + rec
-  random = ap random_of_rule is ∙ random_at_record f (recordNumber (extent_of f) rec) hf (let a = h.inside in omega arith)
+  random = ap random_of_rule is ∙ random_at_record f (record_number (extent_of f) rec) hf (let a = h.inside in omega arith)
 
   target_extent_law : target_extent 33 l.fcb ≡ extent_of f
   unfolding is_random_rule
@@ -111,11 +111,11 @@ module _ {G : Geometry} (S : Sound G) (asked : Asked) (number : asked.number ≡
 
   target_record_law : target_record 33 l.fcb ≡ rec
   unfolding is_random_rule
-  target_record_law = record-random 33 l.fcb refl ∙ (let q = random in let a = h.inside in omega arith)
+  target_record_law = record_random 33 l.fcb refl ∙ (let q = random in let a = h.inside in omega arith)
 
   stays_there : stays 33 l.fcb ≡ true
   unfolding stays
-  stays_there = eq-eqb _ _ (target_extent_law ∙ sym (ap extent_of is ∙ extent_at_record f (recordNumber (extent_of f) rec) hf))
+  stays_there = eq-eqb _ _ (target_extent_law ∙ sym (ap extent_of is ∙ extent_at_record f (record_number (extent_of f) rec) hf))
 
   target_slot_law : target_slot G 33 l.fcb ≡ slot_for_rule G (extent_of f) rec
   unfolding target_slot
@@ -124,17 +124,17 @@ module _ {G : Geometry} (S : Sound G) (asked : Asked) (number : asked.number ≡
   block : block_there G 33 s.user l ≡ rec_slot G f rec
   block =
       stay_block G 33 s.user l stays_there ∙ ap (slot_of G l.fcb) target_slot_law ∙ ap (λ (x : Bytes). slot_of G x (slot_for_rule G (extent_of f) rec)) is
-      ∙ slot_at_record_law f (recordNumber (extent_of f) rec) hf G (slot_for_rule G (extent_of f) rec)
+      ∙ slot_at_record_law f (record_number (extent_of f) rec) hf G (slot_for_rule G (extent_of f) rec)
 
   counted : rec < count_there G 33 s.user l
   unfolding count_there
   counted =
-      let q : count_of l.fcb ≡ count_of f = ap count_of is ∙ count_at_record f (recordNumber (extent_of f) rec) hf in
+      let q : count_of l.fcb ≡ count_of f = ap count_of is ∙ count_at_record f (record_number (extent_of f) rec) hf in
       let own = fcb_count_there l.fcb (target_extent 33 l.fcb) (stays_extent 33 l.fcb stays_there) in
       let k = h.counted in rw (stays_within G 33 s.user l stays_there, own) (omega arith)
 
-  there : recordThere G 33 s.user l ≡ true
-  unfolding recordThere
+  there : record_there G 33 s.user l ≡ true
+  unfolding record_there
   there = and_both _ _ (rw target_record_law (lt-ltb _ _ counted)) (ap not (ne_eqb _ _ (λ z. h.real (sym block ∙ z))))
 
   reads : Reads G l s 33
@@ -159,8 +159,8 @@ module _ {G : Geometry} (S : Sound G) (asked : Asked) (number : asked.number ≡
   got : (p : Plan) → Planned G 33 s.user l (There G 33 s.user l) p → (reading G s l 33 p).lent.buffer ≡ v
   unfolding read_at have_read
   got p (stay k b q t target w) =
-      ap (λ (x : ℕ). recordAt G l.drive.image (place_in G x (target_record 33 l.fcb))) (sym w.is ∙ block)
-      ∙ ap (λ (x : ℕ). recordAt G l.drive.image (place_in G (rec_slot G f rec) x)) target_record_law ∙ h.dat
+      ap (λ (x : ℕ). record_at G l.drive.image (place_in G x (target_record 33 l.fcb))) (sym w.is ∙ block)
+      ∙ ap (λ (x : ℕ). record_at G l.drive.image (place_in G (rec_slot G f rec) x)) target_record_law ∙ h.dat
   got p (move k t b q go target w) = not_both (stays 33 l.fcb) stays_there go
   got p (make k t b q go none room w) = not_both (stays 33 l.fcb) stays_there go
 

@@ -4,7 +4,7 @@ use Rattle.std.specs.Prelude.{◌≡◌, refl, Bool, List, [], ◌∷◌, ◌⊎
 use Rattle.std.proofs.Common.{ap, sym, ◌∙◌, arith, eqb-true, leb-true}
 use Rattle.lists.specs.Table.{every_from, table_at}
 use Rattle.lists.specs.Tests.{◌and◌}
-use Rattle.format.specs.Diskette.{skew, skewed, eight_inch, Sound, recordBytes, image_bytes, sectors_before, offset_of, extent_records, slots_on}
+use Rattle.format.specs.Diskette.{skew, skewed, eight_inch, Sound, record_bytes, image_bytes, sectors_before, offset_of, extent_records, slots_on}
 use Rattle.disk.specs.Places.{block_records, spare_apart}
 
 -- the logical sector, counted from 0, of each physical one
@@ -75,7 +75,7 @@ eight_sound = record {
 -- the last six logical sectors of track 76, as the disk records past the last block's: they lie in the image, and no record of a
 -- block shares a byte with them
 pub six_spare : (x : ℕ) → block_records eight_inch ≤ x → x < block_records eight_inch + 6
-    → (offset_of eight_inch x + recordBytes ≤ image_bytes eight_inch)
-    × ((d : ℕ) → d < block_records eight_inch → (offset_of eight_inch d + recordBytes ≤ offset_of eight_inch x) ⊎ (offset_of eight_inch x + recordBytes ≤ offset_of eight_inch d))
+    → (offset_of eight_inch x + record_bytes ≤ image_bytes eight_inch)
+    × ((d : ℕ) → d < block_records eight_inch → (offset_of eight_inch d + record_bytes ≤ offset_of eight_inch x) ⊎ (offset_of eight_inch x + record_bytes ≤ offset_of eight_inch d))
 unfolding offset_of
 six_spare x a b = (let p = eight_place x (omega arith) in omega arith, λ d h. spare_apart eight_sound d x h a)

@@ -6,7 +6,7 @@ use Rattle.std.proofs.Math.Nat.{mod-lt, mul_comm, mul-add}
 use Rattle.std.proofs.Common.{arith}
 use Rattle.lists.specs.Cases.{split, lt_or_le}
 use Rattle.lists.specs.Product.{digits_below, digits_first, digits_last, same_digits}
-use Rattle.format.specs.Diskette.{Geometry, Sound, recordBytes, image_bytes, disk_record, sectors_before, offset_of}
+use Rattle.format.specs.Diskette.{Geometry, Sound, record_bytes, image_bytes, disk_record, sectors_before, offset_of}
 
 -- the records of all blocks
 abbrev pub block_records : Geometry → ℕ
@@ -40,12 +40,12 @@ module _ {G : Geometry} (S : Sound G) where
   unfolding sectors_before digit sector
   before_digits d = omega (arith, S.physical_low (d % G.sectors) (mod-lt d S.some_sector))
 
-  pub offset_fits : (d : ℕ) → d < block_records G → offset_of G d + recordBytes ≤ image_bytes G
+  pub offset_fits : (d : ℕ) → d < block_records G → offset_of G d + record_bytes ≤ image_bytes G
   unfolding offset_of
   offset_fits d h = omega (arith, S.image-Holds d h)
 
   -- no record lies in the system tracks
-  pub offset_past : (d : ℕ) → G.reserved * G.sectors * recordBytes ≤ offset_of G d
+  pub offset_past : (d : ℕ) → G.reserved * G.sectors * record_bytes ≤ offset_of G d
   unfolding offset_of
   offset_past d = omega (arith, before_digits d, mul-add G.sectors G.reserved (d / G.sectors), mul_comm G.sectors G.reserved)
 
@@ -63,7 +63,7 @@ module _ {G : Geometry} (S : Sound G) where
       same_digits n d e (omega arith) m
 
   -- two records are apart: this holds of any disk records, also of those past the last block
-  pub offset_apart : (d e : ℕ) → (d ≡ e → ⊥) → (offset_of G d + recordBytes ≤ offset_of G e) ⊎ (offset_of G e + recordBytes ≤ offset_of G d)
+  pub offset_apart : (d e : ℕ) → (d ≡ e → ⊥) → (offset_of G d + record_bytes ≤ offset_of G e) ⊎ (offset_of G e + record_bytes ≤ offset_of G d)
   unfolding offset_of
   offset_apart d e ne =
       split (lt_or_le (sectors_before G d) (sectors_before G e)) (λ w. inl (omega arith))
@@ -74,5 +74,5 @@ module _ {G : Geometry} (S : Sound G) where
   offset_once d e q = before_once d e (omega arith)
 
   -- ---- the sectors that belong to no block: no record of a block shares a byte with them
-  pub spare_apart : (d x : ℕ) → d < block_records G → block_records G ≤ x → (offset_of G d + recordBytes ≤ offset_of G x) ⊎ (offset_of G x + recordBytes ≤ offset_of G d)
+  pub spare_apart : (d x : ℕ) → d < block_records G → block_records G ≤ x → (offset_of G d + record_bytes ≤ offset_of G x) ⊎ (offset_of G x + record_bytes ≤ offset_of G d)
   spare_apart d x hd hx = offset_apart d x (λ q. omega arith)

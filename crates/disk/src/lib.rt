@@ -1,6 +1,6 @@
 // The diskette: where disk records lie in the image, and copies of them.
 ghost use Rattle.std.specs.Prelude.{◌≡◌, ◌+◌, ◌*◌, ◌≤◌, ◌<◌, length};
-ghost use Rattle.format.specs.Diskette.{eight_inch, skewed, offset_of, recordBytes, Long, image_bytes, recordAt, with_record};
+ghost use Rattle.format.specs.Diskette.{eight_inch, skewed, offset_of, record_bytes, Long, image_bytes, record_at, with_record};
 
 // The physical sector of a logical one, computed: each lies six on from the one before, around the track, and the second thirteen, which
 // would fall on the first, one further. The published table says the same (`skewed-computed`). Only this function knows of the order.
@@ -14,7 +14,7 @@ fn physical(s: usize) -> usize
 // The place in the image of a disk record.
 pub fn offset(d: usize) -> usize
     requires { d < eight_inch.per_block * eight_inch.blocks }
-    ensures { (result ≡ offset_of eight_inch d) × (result + recordBytes ≤ image_bytes eight_inch) }
+    ensures { (result ≡ offset_of eight_inch d) × (result + record_bytes ≤ image_bytes eight_inch) }
 {
     let track = format::RESERVED_TRACKS + d / format::SECTORS;
     let sector = physical(d % format::SECTORS);
@@ -23,8 +23,8 @@ pub fn offset(d: usize) -> usize
 
 // Copies a disk record into the buffer.
 pub fn read_record(image: &[u8], d: usize, buf: &mut [u8])
-    requires { Long eight_inch image.now × (d < eight_inch.per_block * eight_inch.blocks) × (length buf.old ≡ recordBytes) }
-    ensures { buf.new ≡ recordAt eight_inch image.now d }
+    requires { Long eight_inch image.now × (d < eight_inch.per_block * eight_inch.blocks) × (length buf.old ≡ record_bytes) }
+    ensures { buf.new ≡ record_at eight_inch image.now d }
 {
     let at = offset(d);
     lists::get(image, at, buf);
@@ -32,7 +32,7 @@ pub fn read_record(image: &[u8], d: usize, buf: &mut [u8])
 
 // Copies the buffer into a disk record.
 pub fn write_record(image: &mut [u8], d: usize, buf: &[u8])
-    requires { Long eight_inch image.old × (d < eight_inch.per_block * eight_inch.blocks) × (length buf.now ≡ recordBytes) }
+    requires { Long eight_inch image.old × (d < eight_inch.per_block * eight_inch.blocks) × (length buf.now ≡ record_bytes) }
     ensures { image.new ≡ with_record eight_inch image.old d buf.now }
 {
     let at = offset(d);

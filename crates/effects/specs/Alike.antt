@@ -8,7 +8,7 @@ use Rattle.lists.specs.Cases.{split, bool_cases, not_both, refute}
 use Rattle.lists.specs.Tests.{◌and◌, and_fails_left}
 use Rattle.lists.specs.Below.{any_cong}
 use Rattle.lists.specs.Fold.{fold_cong}
-use Rattle.format.specs.Diskette.{Bytes, Geometry, Sound, recordAt}
+use Rattle.format.specs.Diskette.{Bytes, Geometry, Sound, record_at}
 use Rattle.format.specs.Entries.{entry_at, user_of, used, empty, named, is_file_rule, find_file_rule, find_named_rule, find_empty_rule}
 use Rattle.format.specs.Dates.{is_label, is_dates, asks}
 use Rattle.facts.specs.Found.{find_cong}
@@ -28,7 +28,7 @@ use Rattle.effects.specs.Cur.{Cur, Holds, cur_kept, holds_kept}
 pub record Alike (G : Geometry) (img img' : Bytes) : Type 0 where
   pub user : (k : ℕ) → k < G.entries → user_of (entry_at G img' k) ≡ user_of (entry_at G img k)
   pub row : (k : ℕ) → k < G.entries → is_dates (entry_at G img k) ≡ false → entry_at G img' k ≡ entry_at G img k
-  pub recs : (r : ℕ) → area_records G ≤ r → r < block_records G → recordAt G img' r ≡ recordAt G img r
+  pub recs : (r : ℕ) → area_records G ≤ r → r < block_records G → record_at G img' r ≡ record_at G img r
 
 pub alike_same : (G : Geometry) (img : Bytes) → Alike G img img
 alike_same G img = record { user = λ k l. refl; row = λ k l n. refl; recs = λ r h w. refl }

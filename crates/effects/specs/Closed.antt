@@ -8,7 +8,7 @@ use Rattle.format.specs.Notes.{note_at_rule, pending_for}
 use Rattle.rows.specs.Entries.{length_entry_at}
 use Rattle.model.specs.Closing.{closed_row_rule, closed_image, closed_map}
 use Rattle.fields.specs.Closing.{Takes, length_closed_row, note_closed_cases}
-use Rattle.fields.specs.Images.{closed_stored, row_closed_image_other, record-closedImage}
+use Rattle.fields.specs.Images.{closed_stored, row_closed_image_other, record_closed_image}
 use Rattle.invariant.specs.Good.{Good}
 use Rattle.invariant.specs.CloseGood.{good_closed}
 use Rattle.effects.specs.View.{view_of, Names}
@@ -54,7 +54,7 @@ module _ {G : Geometry} (S : Sound G) (img map : Bytes) (g : Good G img map) (us
       let t = view_of G (closed_image G img e fcb) (closed_map G (entry_at G img e) fcb map) in
       let nm = cur_named G s user hu fcb e c in
       record {
-        effect = one_effect G s t (by_name user fcb) g.inv (record-closedImage S img g.image_long e c.low fcb) e
+        effect = one_effect G s t (by_name user fcb) g.inv (record_closed_image S img g.image_long e c.low fcb) e
             (row_closed_image_other S img g.image_long e c.low fcb) (by_name_used G img map user fcb hu) nm;
         keeps = keeps_by G s t (by_name user fcb)
             (λ b l. split (closed_notes b l) (λ q. inl q) (λ t. inr (held_named s (by_name user fcb) b e t.slot t.below nm (taken_noted b t))));

@@ -10,14 +10,14 @@ use Rattle.lists.specs.Below.{any_below, any_some, any_never}
 use Rattle.format.specs.Diskette.{Bytes, Geometry, Sound, entry_bytes, slot_count}
 use Rattle.format.specs.Names.{name_right_rule}
 use Rattle.format.specs.Entries.{entry_at, with_entry, entry_place_rule, slot_of, empty, named, is_file_rule}
-use Rattle.format.specs.Notes.{free_note, area_note, recordedNote, note_at_rule, pending_for, released_note, released_map}
+use Rattle.format.specs.Notes.{free_note, area_note, recorded_note, note_at_rule, pending_for, released_note, released_map}
 use Rattle.freeing.specs.Laws.{released_at}
 use Rattle.notes.specs.Numbers.{pending_not}
 use Rattle.notes.specs.Right.{NoteOk, ok_area, ok_recorded, ok_free, ok_pending}
-use Rattle.rows.specs.Entries.{entry_stored, entry_left, record-kept}
+use Rattle.rows.specs.Entries.{entry_stored, entry_left, record_kept}
 use Rattle.model.specs.Calls.{changed_rows, erased_row}
 use Rattle.model.specs.Entering.{renamed_row_rule}
-use Rattle.fields.specs.Changing.{row_unpicked, record-changedRows, byte_changed_rows, length_erased_row}
+use Rattle.fields.specs.Changing.{row_unpicked, record_changed_rows, byte_changed_rows, length_erased_row}
 use Rattle.fields.specs.Making.{length_renamed_row}
 use Rattle.consistency.specs.Facts.{Fine}
 use Rattle.consistency.specs.Naming.{named_used}
@@ -42,7 +42,7 @@ module _ {G : Geometry} (S : Sound G) (picks : Names) (change : Bytes → Bytes)
 
   recs : RecsStay G (view_of G img map) (view_of G after map')
   unfolding after
-  recs d p b = record-changedRows S picks change keeps img g.image_long d p b
+  recs d p b = record_changed_rows S picks change keeps img g.image_long d p b
 
   pub picked_effect : Effect G (view_of G img map) (view_of G (changed_rows G picks change img) map') picks
   unfolding after
@@ -89,7 +89,7 @@ module _ {G : Geometry} (S : Sound G) (picks : Names) (img map : Bytes) (g : Goo
       go : NoteOk G (entry_at G img) b (note_at_rule map b) → (note_at_rule (released_map G (entry_at G img) (λ (e : ℕ). picks (entry_at G img e)) map) b ≡ note_at_rule map b)
           ⊎ ((e j : ℕ) → j < slot_count → note_at_rule map b ≡ pending_for e j → picks (entry_at G img e) ≡ true)
       go (ok_area q a) = inr (λ e j l p. absurd (pending_not area_note (omega arith) e j (sym p ∙ q)))
-      go (ok_recorded q a y) = inr (λ e j l p. absurd (pending_not recordedNote (omega arith) e j (sym p ∙ q)))
+      go (ok_recorded q a y) = inr (λ e j l p. absurd (pending_not recorded_note (omega arith) e j (sym p ∙ q)))
       go (ok_free q x) = inr (λ e j l p. absurd (pending_not free_note (omega arith) e j (sym p ∙ q)))
       go (ok_pending e j q l i u x) =
           split (bool_cases (picks (entry_at G img e)))
@@ -139,7 +139,7 @@ module _ {G : Geometry} (S : Sound G) (N : Names) (img map : Bytes) (g : Good G 
   made_there k h q = entry_left S img g.image_long t low row whole k h (λ z. q (sym z))
 
   made_recs : RecsStay G (view_of G img map) (view_of G (with_entry G img t row) map)
-  made_recs d p b = record-kept S img g.image_long t low row whole d p b
+  made_recs d p b = record_kept S img g.image_long t low row whole d p b
 
   made_named : N (entry_at G (with_entry G img t row) t) ≡ true
   made_named = ap N made_here ∙ nm

@@ -4,12 +4,12 @@ use Rattle.std.proofs.Math.Path.{ap, sym, subst}
 use Rattle.std.proofs.Common.{◌∙◌, mod-lt, arith, eq-eqb, ne_eqb}
 use Rattle.std.proofs.Math.Logic.{inl, inr}
 use Rattle.lists.specs.Cases.{split, eq_or_ne}
-use Rattle.format.specs.Diskette.{Bytes, Geometry, Sound, recordBytes, recordAt, with_record, slot_count, slots_on, extent_records}
+use Rattle.format.specs.Diskette.{Bytes, Geometry, Sound, record_bytes, record_at, with_record, slot_count, slots_on, extent_records}
 use Rattle.format.specs.Entries.{entry_at, slot_of, slot_for_rule, extent_of, is_file_rule}
 use Rattle.format.specs.Notes.{free_note, note_at_rule, pending_for}
 use Rattle.format.specs.Fcb.{fcb_bytes, fcb_right_rule}
 use Rattle.notes.specs.Numbers.{pending_not}
-use Rattle.disk.specs.Records.{record-written, record-left}
+use Rattle.disk.specs.Records.{record_written, record_left}
 use Rattle.rows.specs.Entries.{block_past, entry_kept}
 use Rattle.facts.specs.Slots.{slot_for_below, slots_on_high}
 use Rattle.model.specs.Target.{place_in, written_map, written_fcb}
@@ -22,7 +22,7 @@ use Rattle.effects.specs.View.{view_of, Names, Mine, mine_one, mine_low, mine_no
 use Rattle.effects.specs.Effect.{Foreign, NamesStay, not_entry, notes_stay}
 use Rattle.effects.specs.Steps.{rows_names_stay, put_effect, take_keeps}
 use Rattle.effects.specs.Cur.{Cur, cur_uses, cur_mine, cur_zero, Holds, rec_slot}
-use Rattle.effects.specs.Where.{in_record, record-or-same}
+use Rattle.effects.specs.Where.{in_record, record_or_same}
 use Rattle.effects.specs.Book.{Book, entered_for}
 use Rattle.effects.specs.Tracks.{Tracks, same_tracks, taken_tracks}
 use Rattle.effects.specs.Change.{Change}
@@ -39,7 +39,7 @@ put_book G f t j b u = cond (eqb (slot_of G f j) 0) (entered_for b t j u) u
 
 module _ {G : Geometry} (S : Sound G) (img map : Bytes) (g : Good G img map) (user : ℕ) (hu : user ≤ 15) (f : Bytes) (hf : length f ≡ fcb_bytes)
     (t : ℕ) (c : Cur G (view_of G img map) user f t) (r : ℕ) (hr : r < extent_records) (j : ℕ) (hj : j ≡ slot_for_rule G (extent_of f) r)
-    (b : ℕ) (k : ForSlot G map (slot_of G f j) b) (buf : Bytes) (hb : length buf ≡ recordBytes) where
+    (b : ℕ) (k : ForSlot G map (slot_of G f j) b) (buf : Bytes) (hb : length buf ≡ record_bytes) where
   pub put_real : j < slots_on G
   put_real = rw hj (slot_for_below S (extent_of f) r hr)
 
@@ -104,10 +104,10 @@ module _ {G : Geometry} (S : Sound G) (img map : Bytes) (g : Good G img map) (us
         let s' = view_of G (with_record G img (place_in G b r) buf) (written_map G map f t j b) in
         record {
           effect = put_effect G s s' N g.inv b (r % G.per_block) (mod-lt r S.some_record) put_rows
-              (λ d p l n. record-left S img g.image_long (place_in G b r) place buf hb d l (λ z. n (sym z))) not_theirs;
+              (λ d p l n. record_left S img g.image_long (place_in G b r) place buf hb d l (λ z. n (sym z))) not_theirs;
           keeps = split (eq_or_ne (slot_of G f j) 0) (λ z. take_keeps G s s' N b (k.free z) (λ x l n. note_written_other G map f t j b x n))
               (λ z. notes_stay G s s' N (λ x l. same_notes z x));
-          frame = λ i. split (record-or-same S img g.image_long (place_in G b r) place buf hb i) (λ q. inl q) (λ p. inr (in_record (place_in G b r) p w));
+          frame = λ i. split (record_or_same S img g.image_long (place_in G b r) place buf hb i) (λ q. inl q) (λ p. inr (in_record (place_in G b r) p w));
           aside = λ e l u z. put_rows e l;
           good = put_good;
           book = put_tracks;
@@ -174,6 +174,6 @@ module _ {G : Geometry} (S : Sound G) (img map : Bytes) (g : Good G img map) (us
           inside = hr;
           real = λ z. omega (arith, put_low, S.area_some);
           counted = target_counted G f count j b r cr put_real hf hr;
-          dat = ap (λ (x : ℕ). recordAt G (with_record G img (place_in G b r) buf) (place_in G x r)) q
-              ∙ record-written S img g.image_long (place_in G b r) place buf hb;
+          dat = ap (λ (x : ℕ). record_at G (with_record G img (place_in G b r) buf) (place_in G x r)) q
+              ∙ record_written S img g.image_long (place_in G b r) place buf hb;
         }

@@ -8,7 +8,7 @@ use Rattle.lists.specs.Below.{any_below, any_cong}
 use Rattle.format.specs.Diskette.{Bytes, Geometry, slot_count, slots_on}
 use Rattle.format.specs.Entries.{Rows, slots_of, used}
 use Rattle.facts.specs.Slots.{slot_in_slots_of, slot_place}
-use Rattle.format.specs.Notes.{recordedNote, pending_for, is_pending, note_at_rule, fresh_note_rule, settled_note_rule, held_for_rule, listed_by, released_note, is_listed}
+use Rattle.format.specs.Notes.{recorded_note, pending_for, is_pending, note_at_rule, fresh_note_rule, settled_note_rule, held_for_rule, listed_by, released_note, is_listed}
 use Rattle.notes.specs.Numbers.{pending_is, pending_entry_law, settled_not}
 use Rattle.notes.specs.Right.{NoteOk, ok_area, ok_recorded, ok_free, ok_pending, ok_settles, fresh_settled}
 use Rattle.model.specs.Closing.{closed_map}
@@ -128,7 +128,7 @@ pub closed_tracks : (G : Geometry) (u : Book) (row fcb map : Bytes) → length m
     → Tracks G (settled_by G row fcb u) (note_at_rule (closed_map G row fcb map))
 unfolding settled_by
 closed_tracks G u row fcb map wide t b h =
-    let n : note_at_rule (closed_map G row fcb map) b ≡ cond (any_below (takes_block G (slots_of row) (slots_of fcb) b) slot_count) recordedNote (note_at_rule map b) =
+    let n : note_at_rule (closed_map G row fcb map) b ≡ cond (any_below (takes_block G (slots_of row) (slots_of fcb) b) slot_count) recorded_note (note_at_rule map b) =
     note_closed G row fcb map b (omega arith) in
     rw (settles_taken G row fcb b, n)
     (split (bool_cases (any_below (takes_block G (slots_of row) (slots_of fcb) b) slot_count))

@@ -2,7 +2,7 @@
 use Rattle.std.specs.Prelude.{◌≡◌, Bool, true, ℕ, ◌≤◌, ◌<◌}
 use Rattle.std.proofs.Common.{sym, ◌∙◌, arith}
 use Rattle.lists.specs.Cases.{not_both}
-use Rattle.format.specs.Diskette.{Bytes, Geometry, recordAt, slot_count}
+use Rattle.format.specs.Diskette.{Bytes, Geometry, record_at, slot_count}
 use Rattle.format.specs.Entries.{Rows, entry_at, empty}
 use Rattle.format.specs.Notes.{free_note, note_at_rule, pending_for}
 use Rattle.consistency.specs.Facts.{Stands}
@@ -19,7 +19,7 @@ pub record View : Type 0 where
   pub recs : ℕ → Bytes
 
 abbrev pub view_of : Geometry → Bytes → Bytes → View
-view_of G img map = record { rows = entry_at G img; notes = note_at_rule map; recs = recordAt G img }
+view_of G img map = record { rows = entry_at G img; notes = note_at_rule map; recs = record_at G img }
 
 -- the directory is consistent and the map right for it
 abbrev pub Right : Geometry → View → Type 0

@@ -2,12 +2,12 @@
 use Rattle.std.specs.Prelude.{◌≡◌, ◌⊎◌, true, ℕ, ◌+◌, ◌≤◌, ◌<◌, length, get_or}
 use Rattle.std.proofs.Common.{inl, inr, arith}
 use Rattle.lists.specs.Cases.{split, lt_or_le}
-use Rattle.format.specs.Diskette.{Bytes, Geometry, Sound, recordBytes, offset_of, with_record, entry_bytes, Long}
+use Rattle.format.specs.Diskette.{Bytes, Geometry, Sound, record_bytes, offset_of, with_record, entry_bytes, Long}
 use Rattle.format.specs.Entries.{entry_place_rule, entry_at, with_entry, empty}
 use Rattle.format.specs.Dates.{is_dates, fourth_of}
 use Rattle.format.specs.Notes.{free_note, note_at_rule}
 use Rattle.disk.specs.Places.{block_records}
-use Rattle.disk.specs.Records.{record-byte-left}
+use Rattle.disk.specs.Records.{record_byte_left}
 use Rattle.rows.specs.Entries.{entry_byte_left}
 use Rattle.model.specs.Target.{place_in}
 use Rattle.facts.specs.Beside.{fourth_below}
@@ -22,7 +22,7 @@ pub record InEntry (G : Geometry) (e i : ℕ) : Type 0 where
 
 pub record InRecord (G : Geometry) (d i : ℕ) : Type 0 where
   pub from : offset_of G d ≤ i
-  pub upto : i < offset_of G d + recordBytes
+  pub upto : i < offset_of G d + record_bytes
 
 -- a stamp lies in the date entry of its record
 pub stamp_entry : {G : Geometry} → Sound G → (e which i : ℕ) → InStamp G e which i → InEntry G (fourth_of e) i
@@ -107,12 +107,12 @@ module _ {G : Geometry} (S : Sound G) (img : Bytes) (long : Long G img) where
       (λ l. split (lt_or_le i (entry_place_rule G e + entry_bytes)) (λ h. inr record { low = he; from = l; upto = h })
       (λ h. inl (entry_byte_left S img long e he row lr i (inr h))))
 
-  pub record-or-same : (d : ℕ) → d < block_records G → (bytes : Bytes) → length bytes ≡ recordBytes → (i : ℕ)
+  pub record_or_same : (d : ℕ) → d < block_records G → (bytes : Bytes) → length bytes ≡ record_bytes → (i : ℕ)
       → (get_or (with_record G img d bytes) i 0 ≡ get_or img i 0) ⊎ InRecord G d i
-  record-or-same d hd bytes lb i =
-      split (lt_or_le i (offset_of G d)) (λ l. inl (record-byte-left S img long d hd bytes lb i (inl l)))
-      (λ l. split (lt_or_le i (offset_of G d + recordBytes)) (λ h. inr record { from = l; upto = h })
-      (λ h. inl (record-byte-left S img long d hd bytes lb i (inr h))))
+  record_or_same d hd bytes lb i =
+      split (lt_or_le i (offset_of G d)) (λ l. inl (record_byte_left S img long d hd bytes lb i (inl l)))
+      (λ l. split (lt_or_le i (offset_of G d + record_bytes)) (λ h. inr record { from = l; upto = h })
+      (λ h. inl (record_byte_left S img long d hd bytes lb i (inr h))))
 
 -- what was theirs is so by a naming that has more
 pub theirs_more : (G : Geometry) (img map : Bytes) (M N : Names) → ((r : Bytes) → M r ≡ true → N r ≡ true) → (b : ℕ) → Theirs G img map M b → Theirs G img map N b

@@ -4,7 +4,7 @@ use Rattle.std.specs.Prelude.{◌≡◌, refl, true, ℕ, ◌≤◌, ◌<◌, le
 use Rattle.std.proofs.Math.Path.{ap, subst}
 use Rattle.std.proofs.Common.{sym, ◌∙◌, inr, arith}
 use Rattle.std.proofs.Math.ListN.{length-set}
-use Rattle.format.specs.Diskette.{Geometry, Sound, recordBytes, with_record, slot_count, slots_on, extents, extent_records}
+use Rattle.format.specs.Diskette.{Geometry, Sound, record_bytes, with_record, slot_count, slots_on, extents, extent_records}
 use Rattle.format.specs.Entries.{entry_at, slot_of, slot_for_rule, extent_of, count_in}
 use Rattle.format.specs.Fcb.{fcb_bytes, fcb_right_rule, cr_of}
 use Rattle.format.specs.Found.{number_of}
@@ -18,7 +18,7 @@ use Rattle.model.specs.Calls.{read_at, reading, read, written_at, writing, writt
 use Rattle.facts.specs.Slots.{slots_on_high}
 use Rattle.fields.specs.Agree.{SameName}
 use Rattle.consistency.specs.Naming.{file_found}
-use Rattle.fields.specs.Target.{record-below, cr_after_high, target_slot_below, length_written_fcb, head_written, name_written, extent_written, slot_written, name_read, extent_read, head_read}
+use Rattle.fields.specs.Target.{record_below, cr_after_high, target_slot_below, length_written_fcb, head_written, name_written, extent_written, slot_written, name_read, extent_read, head_read}
 use Rattle.table.specs.Facts.{Fits, Reads, Writes}
 use Rattle.table.specs.Plans.{entry_of, Block, There, Planned, stay, move, make, planned_read, planned_write}
 use Rattle.table.specs.Plans as Plans
@@ -86,7 +86,7 @@ module _ {G : Geometry} (S : Sound G) (n : ℕ) (l : Lent) (s : Session) (g : Go
 
   r_below : r < extent_records
   unfolding r
-  r_below = record-below n l.fcb cr
+  r_below = record_below n l.fcb cr
 
   j_real : j < slots_on G
   unfolding j
@@ -124,7 +124,7 @@ module _ {G : Geometry} (S : Sound G) (n : ℕ) (l : Lent) (s : Session) (g : Go
         go (Plans.there q real) = subst (Theirs G l.drive.image l.drive.map (by_name s.user l.fcb)) q (came.theirs (λ z. real (sym q ∙ z)))
         go (Plans.free z q) = was_free (free_is G l.drive.map b q).free
 
-    full : length there.buffer ≡ recordBytes
+    full : length there.buffer ≡ record_bytes
     full = ap length came.buffer ∙ f.buffer_long
 
     right : fcb_right_rule (written_fcb G there.fcb count j b r (cr_after n l.fcb)) ≡ true

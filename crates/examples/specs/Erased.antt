@@ -9,7 +9,7 @@ use Rattle.lists.specs.Tests.{◌and◌}
 use Rattle.lists.specs.Splice.{part, splice, part_splice_same}
 use Rattle.lists.specs.Count.{count_from}
 use Rattle.table.specs.Own.{calling, ask}
-use Rattle.format.specs.Diskette.{Bytes, Geometry, Sound, recordBytes, eight_inch, Long}
+use Rattle.format.specs.Diskette.{Bytes, Geometry, Sound, record_bytes, eight_inch, Long}
 use Rattle.format.specs.Entries.{Rows, entry_at}
 use Rattle.format.specs.Dates.{bcd}
 use Rattle.format.specs.Consistent.{consistent}
@@ -67,7 +67,7 @@ erased_count {G} S img erased =
 pub record Fitting (G : Geometry) (map fcb buffer : Bytes) (s : Session) : Type 0 where
   pub map_long : length map ≡ G.blocks
   pub fcb_long : length fcb ≡ fcb_bytes
-  pub buffer_long : length buffer ≡ recordBytes
+  pub buffer_long : length buffer ≡ record_bytes
   pub user_low : s.user ≤ 15
   pub place_low : s.place ≤ G.entries
 

@@ -16,7 +16,7 @@ use Rattle.table.specs.First.{◌&◌, here}
 use Rattle.table.specs.Own.{calling, at_one}
 use Rattle.table.specs.Protection.{lifted_spared, failing_spared}
 use Rattle.table.specs.Facts.{Ready}
-use Rattle.fields.specs.Target.{extent_random, record-random}
+use Rattle.fields.specs.Target.{extent_random, record_random}
 use Rattle.table.specs.Refuse.{random_over}
 use Rattle.table.specs.Total.{step_refused}
 
@@ -67,6 +67,6 @@ random_last G asked l s which r =
     record {
       is_number = is;
       extent = extent_random asked.number l.fcb random ∙ rw is;
-      is_record = record-random asked.number l.fcb random ∙ rw is;
+      is_record = record_random asked.number l.fcb random ∙ rw is;
       not_six = λ q. omega (arith, random_over G asked l s q);
     }

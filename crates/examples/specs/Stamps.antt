@@ -10,7 +10,7 @@ use Rattle.lists.specs.Tab.{tab}
 use Rattle.lists.specs.Tests.{◌and◌, ◌or◌, agree}
 use Rattle.format.specs.Consistent.{slot_right, slots_right, file_right, aside_right, entry_right, listed, listed_once, same_file_rule, alone, dates_placed, label_once, places_right, consistent_rows, consistent}
 use Rattle.format.specs.Dates.{is_label, is_dates, bcd, stamp_right, asks_create, asks_update, asks_access, label_right_rule, asks, dates_right_rule, with_stamp}
-use Rattle.format.specs.Diskette.{Bytes, Geometry, Sound, slots_on, is_long, sectors_before, offset_of, recordAt, with_record}
+use Rattle.format.specs.Diskette.{Bytes, Geometry, Sound, slots_on, is_long, sectors_before, offset_of, record_at, with_record}
 use Rattle.format.specs.Entries.{entry_place_rule, entry_at, with_entry, count_of, with_numbers, slots_of, slot_in, slot_at, slot_of, with_slot, empty, used, read_only, extent_of, run_of, covers, count_in, end_of, slot_for_rule, named, is_file_rule, find_file_rule, find_empty_rule}
 use Rattle.format.specs.Fcb.{fcb_end, fcb_count_in, random_of_rule, fcb_right_rule, slot_fits_rule, slots_fit_rule, current}
 use Rattle.format.specs.Found.{found_below}
@@ -23,7 +23,7 @@ use Rattle.model.specs.Kinds.{kind_of, uses_fcb_rule, is_random_rule, is_call}
 use Rattle.model.specs.Stamps.{time_stamp_rule, no_stamp, access_stamps, close_stamps, new_stamps, create_stamps}
 use Rattle.model.specs.Step.{told, settled, effect, step}
 use Rattle.model.specs.Table.{time_right_rule, lengths_right_rule, parameters_right_rule, disk_right_rule, asked_entry, first_row, would_succeed, move_changes, protection_holds, table, verdict}
-use Rattle.model.specs.Target.{target_extent, target_record, cr_after, present_entry, stays, within, target_slot, target_entry, block_there, target_block, read_only_there, count_there, recordThere, plan_from, plan, moved, made, place_in, have_read, written_count, written_fcb, written_map, have_written}
+use Rattle.model.specs.Target.{target_extent, target_record, cr_after, present_entry, stays, within, target_slot, target_entry, block_there, target_block, read_only_there, count_there, record_there, plan_from, plan, moved, made, place_in, have_read, written_count, written_fcb, written_map, have_written}
 use Rattle.model.specs.declared.Asked.{Asked}
 use Rattle.model.specs.declared.Session.{Session}
 use Rattle.model.specs.Lent.{lend, Outcome, lift, protect, protected}
@@ -155,7 +155,7 @@ pub record Stamps : Type 0 where
 pub stamps : Stamps
 unfolding disk_with file_fcb all_below any_below first_of first_in fold_below taken part splice tab ◌and◌ ◌or◌ agree slot_right slots_right file_right
     aside_right entry_right listed listed_once same_file_rule alone dates_placed label_once places_right consistent_rows consistent is_label is_dates bcd
-    stamp_right asks_create asks_update asks_access label_right_rule asks dates_right_rule with_stamp slots_on is_long sectors_before offset_of recordAt with_record
+    stamp_right asks_create asks_update asks_access label_right_rule asks dates_right_rule with_stamp slots_on is_long sectors_before offset_of record_at with_record
     entry_place_rule entry_at with_entry count_of with_numbers slots_of slot_in slot_at slot_of with_slot empty used read_only extent_of run_of covers count_in
     end_of slot_for_rule named is_file_rule find_file_rule find_empty_rule fcb_end fcb_count_in random_of_rule fcb_right_rule slot_fits_rule slots_fit_rule current found_below name_byte_rule name_right_rule byte_like_rule name_like_rule
     pending_for is_pending pending_entry pending_slot is_listed held_by_used_rule note_right_rule map_right fresh_note_rule fresh_map is_free find_free with_note
@@ -163,7 +163,7 @@ unfolding disk_with file_fcb all_below any_below first_of first_in fold_below ta
     closed_row_rule closed_note closed_map close_changes_rule closed_image closed_fcb copied interface_byte interface_cleared as_extent entered made_row_rule next_row_rule
     kind_of uses_fcb_rule is_random_rule is_call time_stamp_rule no_stamp access_stamps close_stamps new_stamps create_stamps told settled effect step time_right_rule
     lengths_right_rule parameters_right_rule disk_right_rule asked_entry first_row protected would_succeed move_changes protection_holds table verdict target_extent target_record cr_after present_entry stays within
-    target_slot target_entry block_there target_block read_only_there count_there recordThere plan_from plan moved made place_in have_read written_count written_fcb written_map have_written
+    target_slot target_entry block_there target_block read_only_there count_there record_there plan_from plan moved made place_in have_read written_count written_fcb written_map have_written
 stamps = record {
   make = (refl, refl, refl);
   write = (refl, refl, refl);

@@ -8,7 +8,7 @@ use Rattle.lists.specs.Cases.{split, eq_or_ne}
 use Rattle.lists.specs.Tests.{◌and◌}
 use Rattle.lists.specs.Splice.{splice}
 use Rattle.table.specs.Own.{ask, verdict_unlisted}
-use Rattle.format.specs.Diskette.{Bytes, recordBytes, image_bytes, eight_inch, LongBy, Long}
+use Rattle.format.specs.Diskette.{Bytes, record_bytes, image_bytes, eight_inch, LongBy, Long}
 use Rattle.format.specs.Entries.{entry_at}
 use Rattle.format.specs.Consistent.{consistent}
 use Rattle.format.specs.Fcb.{fcb_bytes}
@@ -31,7 +31,7 @@ use Rattle.fields.specs.Erased.{ErasedDisk, all_erased, erased_consistent}
 use Rattle.table.specs.Total.{total, total_refused}
 use Rattle.table.specs.Accepted.{accepted_answer}
 use Rattle.demands.specs.Runs.{Request, Disk, lent_to, outcome_of, left, accepts, after, lifted_disk, run}
-use Rattle.demands.specs.Reading.{Gives, at_record_rule, recordNumber}
+use Rattle.demands.specs.Reading.{Gives, at_record_rule, record_number}
 use Rattle.demands.specs.ReadBack.{read_fcb}
 use Rattle.demands.specs.Begins.{Asks}
 use Rattle.demands.specs.Eight.{eight_read_back, eight_begins}
@@ -68,7 +68,7 @@ abbrev pub asked_back : Build → ℕ → Disk → Request → Asked → Bytes �
 asked_back b k d w asked buffer =
     done_by b (suc k) (left (done_by b k d w)) record {
       asked = asked;
-      fcb = at_record_rule (done_by b k d w).lent.fcb (recordNumber (target_extent w.asked.number w.fcb) (target_record w.asked.number w.fcb));
+      fcb = at_record_rule (done_by b k d w).lent.fcb (record_number (target_extent w.asked.number w.fcb) (target_record w.asked.number w.fcb));
       buffer = buffer;
     }
 
@@ -85,7 +85,7 @@ pub record Forgets (b : Build) : Type 0 where
   pub reads : reading.number ≡ 33
   pub time : time_right_rule reading ≡ true
   pub buffer : Bytes
-  pub buffer_long : length buffer ≡ recordBytes
+  pub buffer_long : length buffer ≡ record_bytes
   pub lost : Gives (asked_back b (length earlier) (run_by b 0 begin earlier) write reading buffer) write.buffer → ⊥
 
 -- the right build gives every write back

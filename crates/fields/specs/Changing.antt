@@ -8,11 +8,11 @@ use borrow.Author.Tests.{eq-eqb}
 use Rattle.lists.specs.Cases.{split, bool_cases, lt_or_le}
 use Rattle.lists.specs.Splice.{splice_set}
 use Rattle.lists.specs.Fold.{fold_below, fold_builds}
-use Rattle.format.specs.Diskette.{Bytes, Geometry, Sound, image_bytes, recordAt, entry_bytes, Long}
+use Rattle.format.specs.Diskette.{Bytes, Geometry, Sound, image_bytes, record_at, entry_bytes, Long}
 use Rattle.format.specs.Entries.{entry_place_rule, entry_at, with_entry, user_of, empty}
 use Rattle.disk.specs.Places.{block_records}
 use Rattle.facts.specs.Long.{long_on}
-use Rattle.rows.specs.Entries.{area_records, entry_fits_law, length_entry_at, length_with_entry, entry_stored, entry_left, entry_byte_left, record-kept}
+use Rattle.rows.specs.Entries.{area_records, entry_fits_law, length_entry_at, length_with_entry, entry_stored, entry_left, entry_byte_left, record_kept}
 use Rattle.model.specs.Calls.{changed_row, changed_rows, erased_row}
 use Rattle.fields.specs.Agree.{Agree}
 
@@ -32,7 +32,7 @@ module _ {G : Geometry} (S : Sound G) (picks : Bytes → Bool) (change : Bytes �
     size : length out ≡ length img
     done : (e : ℕ) → e < n → e < G.entries → entry_at G out e ≡ after (entry_at G img e)
     left : (e : ℕ) → n ≤ e → e < G.entries → entry_at G out e ≡ entry_at G img e
-    past : (d : ℕ) → area_records G ≤ d → d < block_records G → recordAt G out d ≡ recordAt G img d
+    past : (d : ℕ) → area_records G ≤ d → d < block_records G → record_at G out d ≡ record_at G img d
     byte : (i : ℕ) → Outside n i → get_or out i 0 ≡ get_or img i 0
 
   so_long : (out : Bytes) → length out ≡ length img → Long G out
@@ -65,7 +65,7 @@ module _ {G : Geometry} (S : Sound G) (picks : Bytes → Bool) (change : Bytes �
             (λ l. entry_left S out (so_long out s.size) n h row w e b (λ q. omega arith) ∙ s.done e l b)
             (λ l. let q : e ≡ n = omega arith in rw q (entry_stored S out (so_long out s.size) n h row w ∙ rw t));
         left = λ e a b. entry_left S out (so_long out s.size) n h row w e b (λ q. omega arith) ∙ s.left e (omega arith) b;
-        past = λ d a b. record-kept S out (so_long out s.size) n h row w d a b ∙ s.past d a b;
+        past = λ d a b. record_kept S out (so_long out s.size) n h row w d a b ∙ s.past d a b;
         byte = λ i o. entry_byte_left S out (so_long out s.size) n h row w i (o n (omega arith) t) ∙ s.byte i (λ e a p. o e (omega arith) p);
       }
 
@@ -105,8 +105,8 @@ module _ {G : Geometry} (S : Sound G) (picks : Bytes → Bool) (change : Bytes �
   row_unpicked e h f = row_changed_rows e h ∙ rw f
 
   -- records past the directory stay, and so does a byte that lies in no row that is picked
-  pub record-changedRows : (d : ℕ) → area_records G ≤ d → d < block_records G → recordAt G (changed_rows G picks change img) d ≡ recordAt G img d
-  record-changedRows d a b = so_all.past d a b
+  pub record_changed_rows : (d : ℕ) → area_records G ≤ d → d < block_records G → record_at G (changed_rows G picks change img) d ≡ record_at G img d
+  record_changed_rows d a b = so_all.past d a b
 
   pub byte_changed_rows : (i : ℕ)
       → ((e : ℕ) → e < G.entries → picks (entry_at G img e) ≡ true → (i < entry_place_rule G e) ⊎ (entry_place_rule G e + entry_bytes ≤ i))

@@ -21,7 +21,7 @@ use Rattle.format.specs.Entries.{ex_of, s2_of, count_of, with_numbers, slot_of, 
 use Rattle.facts.specs.Slots.{slot_in_slots_of, past_slots_of}
 use Rattle.facts.specs.Counts.{count_most, count_by_end, fcb_count_by_end, end_none, end_some, later_larger}
 use Rattle.facts.specs.Numbers.{length_with_numbers, byte_with_numbers, ex_with_numbers, s2_with_numbers, count_with_numbers}
-use Rattle.format.specs.Notes.{note_at_rule, with_note, recordedNote}
+use Rattle.format.specs.Notes.{note_at_rule, with_note, recorded_note}
 use Rattle.format.specs.Fcb.{fcb_count_in, fcb_end, fcb_right_rule}
 use Rattle.model.specs.Closing.{takes_slot_rule, merged_byte_rule, merged_slots, ends_later_rule, later_end_rule, closed_row_rule, closed_note, closed_map, close_changes_rule, closed_fcb}
 use Rattle.consistency.specs.Facts.{Numbers, SameFile}
@@ -67,9 +67,9 @@ module _ (G : Geometry) (es fs : Bytes) where
         tab_cong slot_bytes (merged_byte_rule G es fs) (λ (i : ℕ). get_or es i 0) (λ i h. rw (any_never (takes_slot_rule G es fs) slot_count none i h))
         ∙ tab_get_d es slot_bytes long
 
-    pub recorded-none : (map : Bytes) → fold_below (closed_note G es fs) map slot_count ≡ map
+    pub recorded_none : (map : Bytes) → fold_below (closed_note G es fs) map slot_count ≡ map
     unfolding closed_note
-    recorded-none map =
+    recorded_none map =
         fold_keeps (λ (m : Bytes). m ≡ map) (closed_note G es fs) map slot_count refl
         (λ m j h q. rw (any_never (takes_slot_rule G es fs) slot_count none j h) q)
 
@@ -272,7 +272,7 @@ module _ (G : Geometry) (row fcb : Bytes) where
 
     pub map_kept : (map : Bytes) → closed_map G row fcb map ≡ map
     unfolding closed_map
-    map_kept map = recorded-none G (slots_of row) (slots_of fcb) neither.0 map
+    map_kept map = recorded_none G (slots_of row) (slots_of fcb) neither.0 map
 
   pub row_changed : length row ≡ 32 → close_changes_rule G row fcb ≡ true → closed_row_rule G row fcb ≡ row → ⊥
   unfolding close_changes_rule ends_later_rule
@@ -300,17 +300,17 @@ takes_block G es fs b j = takes_slot_rule G es fs j and eqb (slot_in G fs j) b
 pub length_closed_note : (G : Geometry) (es fs map : Bytes) (j : ℕ) → length (closed_note G es fs map j) ≡ length map
 unfolding closed_note with_note
 length_closed_note G es fs map j =
-    split (bool_cases (takes_slot_rule G es fs j)) (λ t. rw t (length-set map (slot_in G fs j) recordedNote)) (λ f. rw f)
+    split (bool_cases (takes_slot_rule G es fs j)) (λ t. rw t (length-set map (slot_in G fs j) recorded_note)) (λ f. rw f)
 
 -- the note of b after one slot
 pub note_closed_note : (G : Geometry) (es fs map : Bytes) (b j : ℕ) → b < length map
-    → note_at_rule (closed_note G es fs map j) b ≡ cond (takes_block G es fs b j) recordedNote (note_at_rule map b)
+    → note_at_rule (closed_note G es fs map j) b ≡ cond (takes_block G es fs b j) recorded_note (note_at_rule map b)
 unfolding closed_note with_note takes_block
 note_closed_note G es fs map b j h =
     split (bool_cases (takes_slot_rule G es fs j))
     (λ t. split (eq_or_ne b (slot_in G fs j))
-    (λ q. rw (and_then (takes_slot_rule G es fs j) (eqb (slot_in G fs j) b) t, eq-eqb _ _ (sym q), t) (rw q (get_or-set_same map (slot_in G fs j) recordedNote 0 (omega arith))))
-    (λ n. rw (and_then (takes_slot_rule G es fs j) (eqb (slot_in G fs j) b) t, ne_eqb (slot_in G fs j) b (λ z. n (sym z)), t) (get_or-set_other map (slot_in G fs j) b recordedNote 0 n)))
+    (λ q. rw (and_then (takes_slot_rule G es fs j) (eqb (slot_in G fs j) b) t, eq-eqb _ _ (sym q), t) (rw q (get_or-set_same map (slot_in G fs j) recorded_note 0 (omega arith))))
+    (λ n. rw (and_then (takes_slot_rule G es fs j) (eqb (slot_in G fs j) b) t, ne_eqb (slot_in G fs j) b (λ z. n (sym z)), t) (get_or-set_other map (slot_in G fs j) b recorded_note 0 n)))
     (λ f. rw (and_fails_left (takes_slot_rule G es fs j) (eqb (slot_in G fs j) b) f, f))
 
 pub length_closed_map : (G : Geometry) (row fcb map : Bytes) → length (closed_map G row fcb map) ≡ length map
@@ -322,21 +322,21 @@ length_closed_map G row fcb map =
 -- the note of b after n slots
 notes_after : (G : Geometry) (es fs map : Bytes) (b : ℕ) → b < length map → (n : ℕ)
     → (length (fold_below (closed_note G es fs) map n) ≡ length map)
-    × (note_at_rule (fold_below (closed_note G es fs) map n) b ≡ cond (any_below (takes_block G es fs b) n) recordedNote (note_at_rule map b))
+    × (note_at_rule (fold_below (closed_note G es fs) map n) b ≡ cond (any_below (takes_block G es fs b) n) recorded_note (note_at_rule map b))
 unfolding fold_below any_below
 notes_after G es fs map b h zero = (refl, refl)
 notes_after G es fs map b h (suc n) =
     let m : Bytes = fold_below (closed_note G es fs) map n in
     let l : length m ≡ length map = (notes_after G es fs map b h n).0 in
-    let e : note_at_rule m b ≡ cond (any_below (takes_block G es fs b) n) recordedNote (note_at_rule map b) = (notes_after G es fs map b h n).1 in (
+    let e : note_at_rule m b ≡ cond (any_below (takes_block G es fs b) n) recorded_note (note_at_rule map b) = (notes_after G es fs map b h n).1 in (
       length_closed_note G es fs m n ∙ l,
-      note_closed_note G es fs m b n (omega arith) ∙ ap (cond (takes_block G es fs b n) recordedNote) e
-          ∙ cond_or (any_below (takes_block G es fs b) n) (takes_block G es fs b n) recordedNote (note_at_rule map b),
+      note_closed_note G es fs m b n (omega arith) ∙ ap (cond (takes_block G es fs b n) recorded_note) e
+          ∙ cond_or (any_below (takes_block G es fs b) n) (takes_block G es fs b n) recorded_note (note_at_rule map b),
     )
 
 module _ (G : Geometry) (row fcb map : Bytes) (b : ℕ) where
   pub note_closed : b < length map
-      → note_at_rule (closed_map G row fcb map) b ≡ cond (any_below (takes_block G (slots_of row) (slots_of fcb) b) slot_count) recordedNote (note_at_rule map b)
+      → note_at_rule (closed_map G row fcb map) b ≡ cond (any_below (takes_block G (slots_of row) (slots_of fcb) b) slot_count) recorded_note (note_at_rule map b)
   unfolding closed_map
   note_closed h = (notes_after G (slots_of row) (slots_of fcb) map b h slot_count).1
 
@@ -358,7 +358,7 @@ module _ (G : Geometry) (row fcb map : Bytes) (b : ℕ) where
       (eq-eqb _ _ (slot_in_slots_of G fcb t.slot ∙ t.is)))
 
   -- a block taken is recorded, and no other note changes
-  pub note_closed_taken : b < length map → Takes G row fcb b → note_at_rule (closed_map G row fcb map) b ≡ recordedNote
+  pub note_closed_taken : b < length map → Takes G row fcb b → note_at_rule (closed_map G row fcb map) b ≡ recorded_note
   note_closed_taken h t = note_closed h ∙ rw (some_taken t)
 
   pub note_closed_left : b < length map → (Takes G row fcb b → ⊥) → note_at_rule (closed_map G row fcb map) b ≡ note_at_rule map b
@@ -367,7 +367,7 @@ module _ (G : Geometry) (row fcb map : Bytes) (b : ℕ) where
       ∙ split (bool_cases (any_below (takes_block G (slots_of row) (slots_of fcb) b) slot_count)) (λ t. absurd (n (taken_some t))) (λ f. rw f)
 
   pub note_closed_cases : b < length map
-      → (Takes G row fcb b × (note_at_rule (closed_map G row fcb map) b ≡ recordedNote))
+      → (Takes G row fcb b × (note_at_rule (closed_map G row fcb map) b ≡ recorded_note))
       ⊎ ((Takes G row fcb b → ⊥) × (note_at_rule (closed_map G row fcb map) b ≡ note_at_rule map b))
   note_closed_cases h =
       split (bool_cases (any_below (takes_block G (slots_of row) (slots_of fcb) b) slot_count))

@@ -2,10 +2,10 @@
 use Rattle.std.specs.Prelude.{◌≡◌, ℕ, ◌≤◌, ◌<◌, length}
 use Rattle.std.proofs.Common.{sym}
 use Rattle.lists.specs.Cases.{split, bool_cases}
-use Rattle.format.specs.Diskette.{Bytes, Geometry, Sound, recordAt, entry_bytes, Long}
+use Rattle.format.specs.Diskette.{Bytes, Geometry, Sound, record_at, entry_bytes, Long}
 use Rattle.format.specs.Entries.{entry_at, with_entry}
 use Rattle.disk.specs.Places.{block_records}
-use Rattle.rows.specs.Entries.{area_records, length_entry_at, length_with_entry, entry_own, entry_stored, entry_left, record-kept}
+use Rattle.rows.specs.Entries.{area_records, length_entry_at, length_with_entry, entry_own, entry_stored, entry_left, record_kept}
 use Rattle.model.specs.Closing.{closed_row_rule, close_changes_rule, closed_image}
 use Rattle.facts.specs.Long.{long_on}
 use Rattle.model.specs.Entering.{next_row_rule}
@@ -42,5 +42,5 @@ module _ {G : Geometry} (S : Sound G) (img : Bytes) (long : Long G img) (e : ℕ
       let row : length (entry_at G img e) ≡ entry_bytes = length_entry_at S img long e below in
       rw row_closed_image (next_cong (closed_row_rule G (entry_at G img e) fcb) (entry_at G img e) ext whole row (head_closed G (entry_at G img e) fcb row))
 
-  pub record-closedImage : (d : ℕ) → area_records G ≤ d → d < block_records G → recordAt G (closed_image G img e fcb) d ≡ recordAt G img d
-  record-closedImage d a b = rw closed_stored (record-kept S img long e below (closed_row_rule G (entry_at G img e) fcb) whole d a b)
+  pub record_closed_image : (d : ℕ) → area_records G ≤ d → d < block_records G → record_at G (closed_image G img e fcb) d ≡ record_at G img d
+  record_closed_image d a b = rw closed_stored (record_kept S img long e below (closed_row_rule G (entry_at G img e) fcb) whole d a b)

@@ -10,12 +10,12 @@ use Rattle.lists.specs.Cases.{split, lt_or_le, eq_or_ne}
 use Rattle.lists.specs.Tests.{◌and◌, and_left, and_right, and_both}
 use Rattle.lists.specs.Below.{all_at, all_intro}
 use Rattle.lists.specs.Splice.{part, splice, length_part, length_splice, get_d_part, get_d_splice_in, get_d_splice_at, get_d_splice_out, part_splice_same, part_splice_other}
-use Rattle.format.specs.Diskette.{Bytes, Geometry, Sound, recordAt, entry_bytes, entries_per_record, Long}
+use Rattle.format.specs.Diskette.{Bytes, Geometry, Sound, record_at, entry_bytes, entries_per_record, Long}
 use Rattle.format.specs.Entries.{entry_place_rule, entry_at, with_entry, user_of}
 use Rattle.format.specs.Dates.{is_dates, stamp_bytes, bcd, stamp_right, stamp_place, dates_right_rule, fourth_of, stamp_at, with_stamp}
 use Rattle.facts.specs.Beside.{fourth_below}
 use Rattle.disk.specs.Places.{block_records}
-use Rattle.rows.specs.Entries.{area_records, entry_fits_law, length_entry_at, length_with_entry, entry_stored, entry_left, record-kept}
+use Rattle.rows.specs.Entries.{area_records, entry_fits_law, length_entry_at, length_with_entry, entry_stored, entry_left, record_kept}
 
 -- four bytes, hour and minute in BCD
 pub record StampOk (stamp : Bytes) : Type 0 where
@@ -115,9 +115,9 @@ module _ {G : Geometry} (S : Sound G) (img : Bytes) (long : Long G img) (e : ℕ
   unfolding with_stamp k
   row_with_stamp_other f h n = entry_left S img long (fourth_of e) fourth _ whole f h n
 
-  pub record-withStamp : (d : ℕ) → area_records G ≤ d → d < block_records G → recordAt G (with_stamp G img e which stamp) d ≡ recordAt G img d
+  pub record_with_stamp : (d : ℕ) → area_records G ≤ d → d < block_records G → record_at G (with_stamp G img e which stamp) d ≡ record_at G img d
   unfolding with_stamp k
-  record-withStamp d a b = record-kept S img long (fourth_of e) fourth _ whole d a b
+  record_with_stamp d a b = record_kept S img long (fourth_of e) fourth _ whole d a b
 
   -- the stamp itself, and every other stamp
   pub stamp_same : stamp_at G (with_stamp G img e which stamp) e which ≡ stamp

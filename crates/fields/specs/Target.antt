@@ -25,9 +25,9 @@ module _ (n : ℕ) (fcb : Bytes) where
     unfolding target_extent
     extent_random = rw random
 
-    pub record-random : target_record n fcb ≡ random_of_rule fcb % 128
+    pub record_random : target_record n fcb ≡ random_of_rule fcb % 128
     unfolding target_record
-    record-random = rw random
+    record_random = rw random
 
     pub cr_after_random : cr_after n fcb ≡ target_record n fcb
     unfolding cr_after
@@ -39,32 +39,32 @@ module _ (n : ℕ) (fcb : Bytes) where
     unfolding target_extent
     extent_within h = rw (sequential, ne_eqb (cr_of fcb) 128 h)
 
-    pub record-within : (cr_of fcb ≡ 128 → ⊥) → target_record n fcb ≡ cr_of fcb
+    pub record_within : (cr_of fcb ≡ 128 → ⊥) → target_record n fcb ≡ cr_of fcb
     unfolding target_record
-    record-within h = rw (sequential, ne_eqb (cr_of fcb) 128 h)
+    record_within h = rw (sequential, ne_eqb (cr_of fcb) 128 h)
 
     pub extent_past : cr_of fcb ≡ 128 → target_extent n fcb ≡ extent_of fcb + 1
     unfolding target_extent
     extent_past h = rw (sequential, eq-eqb (cr_of fcb) 128 h)
 
-    pub record-past : cr_of fcb ≡ 128 → target_record n fcb ≡ 0
+    pub record_past : cr_of fcb ≡ 128 → target_record n fcb ≡ 0
     unfolding target_record
-    record-past h = rw (sequential, eq-eqb (cr_of fcb) 128 h)
+    record_past h = rw (sequential, eq-eqb (cr_of fcb) 128 h)
 
     pub cr_after_sequential : cr_after n fcb ≡ target_record n fcb + 1
     unfolding cr_after
     cr_after_sequential = rw sequential
 
   -- the target's record is one of an extent's 128
-  pub record-below : cr_of fcb ≤ 128 → target_record n fcb < 128
-  record-below h =
-      split (bool_cases (is_random_rule n)) (λ r. rw (record-random r) (omega arith))
-      (λ s. split (eq_or_ne (cr_of fcb) 128) (λ e. rw (record-past s e) (omega arith)) (λ e. rw (record-within s e) (omega arith)))
+  pub record_below : cr_of fcb ≤ 128 → target_record n fcb < 128
+  record_below h =
+      split (bool_cases (is_random_rule n)) (λ r. rw (record_random r) (omega arith))
+      (λ s. split (eq_or_ne (cr_of fcb) 128) (λ e. rw (record_past s e) (omega arith)) (λ e. rw (record_within s e) (omega arith)))
 
   pub cr_after_high : cr_of fcb ≤ 128 → cr_after n fcb ≤ 128
   cr_after_high h =
-      split (bool_cases (is_random_rule n)) (λ r. rw (cr_after_random r) (omega (arith, record-below h)))
-      (λ s. rw (cr_after_sequential s) (omega (arith, record-below h)))
+      split (bool_cases (is_random_rule n)) (λ r. rw (cr_after_random r) (omega (arith, record_below h)))
+      (λ s. rw (cr_after_sequential s) (omega (arith, record_below h)))
 
   pub stays_extent : stays n fcb ≡ true → target_extent n fcb ≡ extent_of fcb
   unfolding stays
@@ -74,7 +74,7 @@ module _ (n : ℕ) (fcb : Bytes) where
 module _ {G : Geometry} (S : Sound G) where
   pub target_slot_below : (n : ℕ) (fcb : Bytes) → cr_of fcb ≤ 128 → target_slot G n fcb < slots_on G
   unfolding target_slot
-  target_slot_below n fcb h = slot_for_below S (target_extent n fcb) (target_record n fcb) (record-below n fcb h)
+  target_slot_below n fcb h = slot_for_below S (target_extent n fcb) (target_record n fcb) (record_below n fcb h)
 
   pub place_below : (b r : ℕ) → b < G.blocks → place_in G b r < block_records G
   unfolding place_in

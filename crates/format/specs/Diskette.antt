@@ -25,8 +25,8 @@ pub record Geometry : Type 0 where
 -- sizes that no disk changes: the bytes of a record, of an entry and of an entry's slots, the entries of a record, the records of an extent,
 -- and one past the last extent; and the sixteen places by which slots are counted, in pending notes too, of which a disk may use only the
 -- first (`slots_on`)
-abbrev pub recordBytes : ℕ
-recordBytes = 128
+abbrev pub record_bytes : ℕ
+record_bytes = 128
 
 abbrev pub entry_bytes : ℕ
 entry_bytes = 32
@@ -66,7 +66,7 @@ slots_on G = slot_count
 
 -- the image, stored track after track
 abbrev pub image_bytes : Geometry → ℕ
-image_bytes G = G.records * recordBytes
+image_bytes G = G.records * record_bytes
 
 -- an image is as long as the disk's: the test, and what it says of a length and of an image
 unfoldable pub is_long : Geometry → Bytes → Bool
@@ -107,11 +107,11 @@ pub record Sound (G : Geometry) : Type 0 where
 
 -- the byte of the image at which disk record d starts
 unfoldable pub offset_of : Geometry → ℕ → ℕ
-offset_of G d = sectors_before G d * recordBytes
+offset_of G d = sectors_before G d * record_bytes
 
 -- the bytes of disk record d, and the image with that record replaced
-unfoldable pub recordAt : Geometry → Bytes → ℕ → Bytes
-recordAt G img d = part img (offset_of G d) recordBytes
+unfoldable pub record_at : Geometry → Bytes → ℕ → Bytes
+record_at G img d = part img (offset_of G d) record_bytes
 
 unfoldable pub with_record : Geometry → Bytes → ℕ → Bytes → Bytes
 with_record G img d bytes = splice img (offset_of G d) bytes

@@ -18,8 +18,8 @@ free_note = 0
 abbrev pub area_note : ℕ
 area_note = 1
 
-abbrev pub recordedNote : ℕ
-recordedNote = 2
+abbrev pub recorded_note : ℕ
+recorded_note = 2
 
 -- pending for slot j of entry e
 unfoldable pub pending_for : ℕ → ℕ → ℕ
@@ -52,14 +52,14 @@ held_by_used_rule G d n = is_pending n and ltb (pending_entry n) G.entries and u
 unfoldable pub note_right_rule : Geometry → Rows → ℕ → ℕ → Bool
 note_right_rule G d b n =
     cond (ltb b G.area) (eqb n area_note)
-    (cond (is_listed G d b) (eqb n recordedNote) (eqb n free_note or held_by_used_rule G d n))
+    (cond (is_listed G d b) (eqb n recorded_note) (eqb n free_note or held_by_used_rule G d n))
 
 unfoldable pub map_right : Geometry → Rows → Bytes → Bool
 map_right G d map = all_below (λ (b : ℕ). note_right_rule G d b (note_at_rule map b)) G.blocks
 
 -- the fresh map has no pending notes
 unfoldable pub fresh_note_rule : Geometry → Rows → ℕ → ℕ
-fresh_note_rule G d b = cond (ltb b G.area) area_note (cond (is_listed G d b) recordedNote free_note)
+fresh_note_rule G d b = cond (ltb b G.area) area_note (cond (is_listed G d b) recorded_note free_note)
 
 unfoldable pub fresh_map : Geometry → Rows → Bytes
 fresh_map G d = tab G.blocks (fresh_note_rule G d)

@@ -5,11 +5,11 @@ use Rattle.lists.specs.Cases.{split, bool_cases}
 use Rattle.format.specs.Diskette.{Bytes, Geometry}
 use Rattle.format.specs.Entries.{Rows}
 use Rattle.facts.specs.Marks.{Marked}
-use Rattle.format.specs.Notes.{free_note, area_note, recordedNote, is_listed, fresh_note_rule}
+use Rattle.format.specs.Notes.{free_note, area_note, recorded_note, is_listed, fresh_note_rule}
 
 -- the note that a mark tells of a block past the directory: the fresh one, where the marks are the directory's
 unfoldable pub told_note_rule : ℕ → ℕ
-told_note_rule mark = cond (eqb mark 0) free_note recordedNote
+told_note_rule mark = cond (eqb mark 0) free_note recorded_note
 
 module _ (G : Geometry) (d : Rows) (b : ℕ) where
   pub fresh_area : b < G.area → fresh_note_rule G d b ≡ area_note

@@ -7,7 +7,7 @@ use Rattle.lists.specs.Cases.{split, eq_or_ne, not_both}
 use Rattle.format.specs.Diskette.{Bytes, Geometry, Sound, slot_count}
 use Rattle.format.specs.Names.{name_right_rule}
 use Rattle.format.specs.Entries.{Rows, user_of, slot_of, used}
-use Rattle.format.specs.Notes.{free_note, area_note, recordedNote, pending_for}
+use Rattle.format.specs.Notes.{free_note, area_note, recorded_note, pending_for}
 use Rattle.facts.specs.Slots.{slot_place}
 use Rattle.consistency.specs.Facts.{Numbers, Fine, Stands, SameFile, Consistent}
 use Rattle.consistency.specs.Listed.{somewhere_listed}
@@ -20,7 +20,7 @@ use Rattle.invariant.specs.Carry.{same_trans, past_real, unlisted_never, never_u
 -- a block that is noted pending is listed nowhere
 pub pending_spare : (G : Geometry) (d : Rows) (b e j n : ℕ) → NoteOk G d b n → n ≡ pending_for e j → Spare G d b
 pending_spare G d b e j n (ok_area q a) p = absurd (pending_not area_note (omega arith) e j (sym p ∙ q))
-pending_spare G d b e j n (ok_recorded q a t) p = absurd (pending_not recordedNote (omega arith) e j (sym p ∙ q))
+pending_spare G d b e j n (ok_recorded q a t) p = absurd (pending_not recorded_note (omega arith) e j (sym p ∙ q))
 pending_spare G d b e j n (ok_free q s) p = s
 pending_spare G d b e j n (ok_pending f k q l i u s) p = s
 
@@ -40,7 +40,7 @@ pub record ClosedTo (G : Geometry) (d : Rows) (m : ℕ → ℕ) (e : ℕ) (r : B
 module _ {G : Geometry} (S : Sound G) (d d' : Rows) (m m' : ℕ → ℕ) (v : Inv G d m) (e : ℕ) (below : e < G.entries) (uses : used (d e) ≡ true)
     (there : (k : ℕ) → k < G.entries → (k ≡ e → ⊥) → d' k ≡ d k) (closed : ClosedTo G d m e (d' e))
     -- the blocks that the entry takes are recorded, the other notes stay
-    (settled : (b j : ℕ) → j < slot_count → Held G d m e j b → slot_of G (d' e) j ≡ b → (b ≡ 0 → ⊥) → m' b ≡ recordedNote)
+    (settled : (b j : ℕ) → j < slot_count → Held G d m e j b → slot_of G (d' e) j ≡ b → (b ≡ 0 → ⊥) → m' b ≡ recorded_note)
     (left : (b : ℕ) → b < G.blocks → ((j : ℕ) → j < slot_count → Held G d m e j b → slot_of G (d' e) j ≡ b → ⊥) → m' b ≡ m b) where
   held_spare : (b j : ℕ) → Held G d m e j b → Spare G d b
   held_spare b j h = pending_spare G d b e j (m b) (v.map b h.low) h.noted
@@ -156,7 +156,7 @@ module _ {G : Geometry} (S : Sound G) (d d' : Rows) (m m' : ℕ → ℕ) (v : In
 
   closed_note_law : (b : ℕ) → b < G.blocks → NoteOk G d b (m b) → NoteOk G d' b (m' b)
   closed_note_law b h (ok_area q a) = ok_area (left b h (unheld b _ q (pending_not area_note (omega arith) e)) ∙ q) a
-  closed_note_law b h (ok_recorded q a t) = ok_recorded (left b h (unheld b _ q (pending_not recordedNote (omega arith) e)) ∙ q) a (listed_on S d d' b a (forth b) t)
+  closed_note_law b h (ok_recorded q a t) = ok_recorded (left b h (unheld b _ q (pending_not recorded_note (omega arith) e)) ∙ q) a (listed_on S d d' b a (forth b) t)
   closed_note_law b h (ok_free q s) =
       ok_free (left b h (unheld b _ q (pending_not free_note (omega arith) e)) ∙ q) (spare_still b (unheld b _ q (pending_not free_note (omega arith) e)) s)
   closed_note_law b h (ok_pending f k q l i u s) =

@@ -3,7 +3,7 @@ use Rattle.std.specs.Prelude.{◌≡◌, refl, ◌⊎◌, Bool, true, false, con
 use Rattle.std.proofs.Common.{ap, sym, ◌∙◌, subst, inl, inr, arith, eqb-true, eq-eqb}
 use Rattle.lists.specs.Cases.{split, bool_cases, eq_or_ne, not_both}
 use Rattle.lists.specs.Tests.{◌and◌, and_left, and_right, and_both}
-use Rattle.format.specs.Diskette.{Bytes, Geometry, Sound, recordAt, entries_per_record}
+use Rattle.format.specs.Diskette.{Bytes, Geometry, Sound, record_at, entries_per_record}
 use Rattle.format.specs.Entries.{entry_at, user_of, used, empty, find_empty_rule}
 use Rattle.format.specs.Dates.{is_dates, dated, fourth_of, bcd, stamp_right, stamp_at, with_stamp, asks_create, asks_update, asks_access, asks}
 use Rattle.format.specs.declared.Found.TheVariants.{At}
@@ -23,7 +23,7 @@ use Rattle.model.specs.Target.{present_entry, plan}
 use Rattle.model.specs.Closing.{close_changes_rule}
 use Rattle.model.specs.Stamps.{Stamp, time_stamp_rule, no_stamp, first, update, only_if, where_dated, stamped_with, access_stamps, close_stamps, new_stamps, create_stamps, move_stamps, stamps_by}
 use Rattle.facts.specs.Beside.{Beside, fourth_below}
-use Rattle.fields.specs.Stamps.{StampOk, user_stamped, row_with_stamp, row_with_stamp_other, stamp_same, stamp_other, record-withStamp}
+use Rattle.fields.specs.Stamps.{StampOk, user_stamped, row_with_stamp, row_with_stamp_other, stamp_same, stamp_other, record_with_stamp}
 use Rattle.table.specs.Facts.{Fits, AcceptedCall}
 use Rattle.table.specs.Accept.{own_at}
 use Rattle.table.specs.Plans.{entry_of, Block, There, Planned, stay, move, make, planned_read, planned_write}
@@ -69,7 +69,7 @@ pub record Stamped (G : Geometry) (img img' map : Bytes) (xs : List Stamp) : Typ
   pub dates : dated (entry_at G img') ≡ true
   -- every row but a date entry stays, and every record past the directory
   pub row : (k : ℕ) → k < G.entries → is_dates (entry_at G img k) ≡ false → entry_at G img' k ≡ entry_at G img k
-  pub recs : (d : ℕ) → area_records G ≤ d → d < block_records G → recordAt G img' d ≡ recordAt G img d
+  pub recs : (d : ℕ) → area_records G ≤ d → d < block_records G → record_at G img' d ≡ record_at G img d
   pub at : (e which : ℕ) → e < G.entries → e % entries_per_record < 3 → which < 2 → stamp_at G img' e which ≡ newest xs e which (stamp_at G img e which)
 
 module _ {G : Geometry} (S : Sound G) (map : Bytes) where
@@ -86,7 +86,7 @@ module _ {G : Geometry} (S : Sound G) (map : Bytes) where
         good = good;
         dates = dates_still S img map g dates x.entry p.below p.beside x.which p.two x.bytes p.ok 3 (omega (arith, S.fours, S.some_entry)) ∙ dates;
         row = stamp_kept S img map g dates x.entry p.below p.beside x.which p.two x.bytes p.ok;
-        recs = record-withStamp S img g.image_long x.entry p.below p.beside x.which p.two x.bytes p.ok;
+        recs = record_with_stamp S img g.image_long x.entry p.below p.beside x.which p.two x.bytes p.ok;
         at = λ e which l b w. split (bool_cases (eqb x.entry e and eqb x.which which))
             (λ t. let a : x.entry ≡ e = eqb-true _ _ (and_left _ _ t) in let c : x.which ≡ which = eqb-true _ _ (and_right _ _ t) in
             rw t (subst (λ (k : ℕ). stamp_at G (with_stamp G img x.entry x.which x.bytes) k which ≡ x.bytes) a

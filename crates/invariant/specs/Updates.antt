@@ -3,7 +3,7 @@ use Rattle.std.specs.Prelude.{◌≡◌, refl, Bool, true, false, ℕ, ◌*◌, 
 use Rattle.std.proofs.Common.{ap, sym, ◌∙◌, subst, eq-eqb, arith}
 use Rattle.lists.specs.Cases.{split, eq_or_ne, not_both}
 use Rattle.lists.specs.Tests.{and_both}
-use Rattle.format.specs.Diskette.{Bytes, Geometry, Sound, recordBytes, with_record, entry_bytes, entries_per_record, slot_count, slots_on, Long}
+use Rattle.format.specs.Diskette.{Bytes, Geometry, Sound, record_bytes, with_record, entry_bytes, entries_per_record, slot_count, slots_on, Long}
 use Rattle.format.specs.Names.{name_right_rule}
 use Rattle.format.specs.Entries.{entry_at, with_entry, slot_of, used, empty, named, is_file_rule}
 use Rattle.format.specs.Consistent.{consistent}
@@ -67,7 +67,7 @@ module _ {G : Geometry} (S : Sound G) (img map : Bytes) (g : Good G img map) whe
   whole k l = length_entry_at S img g.image_long k l
 
   -- a record of a block past the directory
-  pub good_record : (b r : ℕ) → G.area ≤ b → b < G.blocks → (bytes : Bytes) → length bytes ≡ recordBytes → Good G (with_record G img (place_in G b r) bytes) map
+  pub good_record : (b r : ℕ) → G.area ≤ b → b < G.blocks → (bytes : Bytes) → length bytes ≡ record_bytes → Good G (with_record G img (place_in G b r) bytes) map
   unfolding place_in
   good_record b r past below bytes full =
       let p : place_in G b r < G.per_block * G.blocks = place_below S b r below in

@@ -11,7 +11,7 @@ use Rattle.lists.specs.Count.{count_below, count_empty, count_next, count_zero}
 use Rattle.format.specs.Diskette.{Bytes, Geometry}
 use Rattle.format.specs.Entries.{Rows}
 use Rattle.facts.specs.Marks.{Marked}
-use Rattle.format.specs.Notes.{free_note, area_note, recordedNote, note_at_rule, is_listed, held_by_used_rule, note_right_rule, map_right, fresh_note_rule}
+use Rattle.format.specs.Notes.{free_note, area_note, recorded_note, note_at_rule, is_listed, held_by_used_rule, note_right_rule, map_right, fresh_note_rule}
 use Rattle.fresh.specs.Note.{told_note_rule, fresh_area, fresh_told}
 use Rattle.notes.specs.Right.{NoteOk, ok_map, fresh_ok}
 
@@ -39,7 +39,7 @@ module _ (G : Geometry) (d : Rows) (b : ℕ) where
     unmarked_spare : get_or marks b 0 ≡ 0 → is_listed G d b ≡ false
     unmarked_spare z = not-true _ (sym (m.mark b past below) ∙ eq-eqb _ _ z)
 
-    pub right_recorded : (n : ℕ) → (get_or marks b 0 ≡ 0 → ⊥) → note_right_rule G d b n ≡ eqb n recordedNote
+    pub right_recorded : (n : ℕ) → (get_or marks b 0 ≡ 0 → ⊥) → note_right_rule G d b n ≡ eqb n recorded_note
     unfolding note_right_rule
     right_recorded n z = rw (le-ltb b G.area past, marked_listed z)
 

@@ -3,7 +3,7 @@
 use Rattle.std.specs.Prelude.{Bool, true, false, cond, ℕ, ◌+◌, ◌*◌, ◌/◌, ◌%◌, max, eqb, set}
 use Rattle.lists.specs.Splice.{splice}
 use Rattle.lists.specs.Fold.{fold_below}
-use Rattle.format.specs.Diskette.{Bytes, Geometry, recordAt, entries_per_record, extent_records}
+use Rattle.format.specs.Diskette.{Bytes, Geometry, record_at, entries_per_record, extent_records}
 use Rattle.format.specs.Entries.{Rows, entry_at, with_entry, ex_of, extent_of, end_of, named, find_empty_rule}
 use Rattle.format.specs.Notes.{fresh_map, freed_map, released_map, free_count_rule}
 use Rattle.format.specs.Fcb.{cr_of}
@@ -90,7 +90,7 @@ module _ (G : Geometry) (s : Session) (l : Lent) where
   unfoldable pub found_at : Bytes → ℕ → Outcome
   found_at pattern e =
       ends (Accepted (entry_number e)) (searching s pattern (e + 1))
-      (lend l.drive.image l.drive.map l.fcb (recordAt G l.drive.image (e / entries_per_record)))
+      (lend l.drive.image l.drive.map l.fcb (record_at G l.drive.image (e / entries_per_record)))
 
   unfoldable pub searched : Bytes → ℕ → Outcome
   searched pattern place = found_at pattern (number_of G.entries (find_hit_rule G (rows_of G l) s.user pattern place))

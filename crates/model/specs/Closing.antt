@@ -9,7 +9,7 @@ use Rattle.format.specs.Diskette.{Bytes, Geometry, slot_count, slot_bytes}
 use Rattle.format.specs.Names.{seven_bits}
 use Rattle.format.specs.Entries.{entry_at, with_entry, ex_of, s2_of, count_of, with_numbers, slots_of, slot_in, slot_at, end_of}
 use Rattle.format.specs.Fcb.{fcb_end}
-use Rattle.format.specs.Notes.{with_note, recordedNote}
+use Rattle.format.specs.Notes.{with_note, recorded_note}
 
 -- a slot where the entry (es) has 0 and the FCB (fs) doesn't takes the FCB's block
 unfoldable pub takes_slot_rule : Geometry → Bytes → Bytes → ℕ → Bool
@@ -36,7 +36,7 @@ closed_row_rule G row fcb = splice (later_end_rule row fcb) 16 (merged_slots G (
 
 -- the notes of the blocks taken become recorded
 unfoldable pub closed_note : Geometry → Bytes → Bytes → Bytes → ℕ → Bytes
-closed_note G es fs map j = cond (takes_slot_rule G es fs j) (with_note map (slot_in G fs j) recordedNote) map
+closed_note G es fs map j = cond (takes_slot_rule G es fs j) (with_note map (slot_in G fs j) recorded_note) map
 
 unfoldable pub closed_map : Geometry → Bytes → Bytes → Bytes → Bytes
 closed_map G row fcb map = fold_below (closed_note G (slots_of row) (slots_of fcb)) map slot_count

@@ -1,6 +1,6 @@
 -- Document 01: "Every call lends four buffers .. it answers with A, H and the session."
 use Rattle.std.specs.Prelude.{◌≡◌, Bool, true, false, cond, ℕ, eqb, length}
-use Rattle.format.specs.Diskette.{Bytes, Geometry, Long, recordBytes}
+use Rattle.format.specs.Diskette.{Bytes, Geometry, Long, record_bytes}
 use Rattle.format.specs.Entries.{Rows, entry_at}
 use Rattle.format.specs.Fcb.{fcb_bytes}
 use Rattle.model.specs.declared.Session.{Session}
@@ -25,7 +25,7 @@ lend i m f b = record { drive = record { image = i; map = m }; fcb = f; buffer =
 -- each of the four has its length
 abbrev pub AllLong : Geometry → Lent → Type 0
 AllLong G l =
-    Long G l.drive.image × (length l.drive.map ≡ G.blocks) × (length l.fcb ≡ fcb_bytes) × (length l.buffer ≡ recordBytes)
+    Long G l.drive.image × (length l.drive.map ≡ G.blocks) × (length l.fcb ≡ fcb_bytes) × (length l.buffer ≡ record_bytes)
 
 -- the rows of the directory, as they were lent
 abbrev pub rows_of : Geometry → Lent → Rows

@@ -4,7 +4,7 @@
 use Rattle.std.specs.Prelude.{Bool, true, false, cond, not, List, [], ◌∷◌, ℕ, eqb, leb, ltb, get_or, length}
 use Rattle.lists.specs.Tests.{◌and◌, ◌or◌}
 use Rattle.lists.specs.Below.{any_below}
-use Rattle.format.specs.Diskette.{Bytes, Geometry, is_long, recordBytes, extents, last_record}
+use Rattle.format.specs.Diskette.{Bytes, Geometry, is_long, record_bytes, extents, last_record}
 use Rattle.format.specs.Names.{name_right_rule}
 use Rattle.format.specs.Entries.{ex_of, named, read_only, find_file_rule, find_named_rule, find_empty_rule}
 use Rattle.format.specs.Dates.{bcd}
@@ -22,7 +22,7 @@ use Rattle.model.specs.declared.Asked.{Asked}
 use Rattle.model.specs.Kinds.{one_of, uses_fcb_rule, is_call}
 use Rattle.model.specs.Lent.{Lent, rows_of, search_on, protected}
 use Rattle.model.specs.Closing.{close_changes_rule}
-use Rattle.model.specs.Target.{target_extent, present_entry, stays, target_entry, block_there, recordThere, read_only_there}
+use Rattle.model.specs.Target.{target_extent, present_entry, stays, target_entry, block_there, record_there, read_only_there}
 use Rattle.model.specs.Search.{pattern_of, find_hit_rule}
 
 -- ---- the tests
@@ -34,7 +34,7 @@ module _ (G : Geometry) (l : Lent) where
   unfoldable pub lengths_right_rule : Bool
   lengths_right_rule =
       is_long G l.drive.image and eqb (length l.drive.map) G.blocks and eqb (length l.fcb) fcb_bytes
-      and eqb (length l.buffer) recordBytes
+      and eqb (length l.buffer) record_bytes
 
   -- a length, the session's user or place, the time, or byte 0 of an FCB that is used
   unfoldable pub parameters_right_rule : Asked → Session → Bool
@@ -138,7 +138,7 @@ module _ (G : Geometry) (asked : Asked) (l : Lent) (s : Session) where
       -- 4, 0
       ∷ row (33 ∷ []) (not (is_found (target_entry G asked.number s.user l))) Code.NoExtent
       -- 1, 0
-      ∷ row (20 ∷ 33 ∷ []) (not (recordThere G asked.number s.user l)) Code.NoRecord
+      ∷ row (20 ∷ 33 ∷ []) (not (record_there G asked.number s.user l)) Code.NoRecord
       -- 1, 0 (21) or 5, 0 (34)
       ∷ row (21 ∷ []) (leb extents (target_extent asked.number l.fcb)) Code.NoRecord
       ∷ row (21 ∷ []) (not (is_found (target_entry G asked.number s.user l)) and not (is_found (find_empty_rule G (rows_of G l)))) Code.NoRecord

@@ -2,7 +2,7 @@
 -- have one rule each.
 use Rattle.std.specs.Prelude.{Bool, false, cond, not, ℕ, ◌+◌, ◌/◌, ◌%◌, max, eqb, ltb, set}
 use Rattle.lists.specs.Tests.{◌and◌, ◌or◌}
-use Rattle.format.specs.Diskette.{Bytes, Geometry, disk_record, recordAt, with_record, extent_records}
+use Rattle.format.specs.Diskette.{Bytes, Geometry, disk_record, record_at, with_record, extent_records}
 use Rattle.format.specs.Entries.{Rows, entry_at, with_entry, slot_of, with_slot, count_of, extent_of, covers, count_in, slot_for_rule, find_file_rule, find_empty_rule, read_only}
 use Rattle.format.specs.Notes.{pending_for, with_note, find_free}
 use Rattle.format.specs.Fcb.{cr_of, random_of_rule, fcb_count_in, current}
@@ -71,8 +71,8 @@ module _ (G : Geometry) (n user : ℕ) (l : Lent) where
   count_there = cond (within G n l.fcb) (max (fcb_count_in l.fcb (target_extent n l.fcb)) (count_at target_entry)) (count_at target_entry)
 
   -- the record is there exactly when the target is below that count and its slot isn't 0
-  unfoldable pub recordThere : Bool
-  recordThere = ltb (target_record n l.fcb) count_there and not (eqb block_there 0)
+  unfoldable pub record_there : Bool
+  record_there = ltb (target_record n l.fcb) count_there and not (eqb block_there 0)
 
   -- a slot of 0 takes the first free block
   unfoldable pub target_block : ℕ
@@ -112,7 +112,7 @@ unfoldable pub place_in : Geometry → ℕ → ℕ → ℕ
 place_in G b r = disk_record G b (r % G.per_block)
 
 unfoldable pub have_read : Geometry → ℕ → ℕ → ℕ → Lent → Lent
-have_read G b r cr l = lend l.drive.image l.drive.map (set l.fcb 32 cr) (recordAt G l.drive.image (place_in G b r))
+have_read G b r cr l = lend l.drive.image l.drive.map (set l.fcb 32 cr) (record_at G l.drive.image (place_in G b r))
 
 -- the FCB's rc becomes the largest of its own count, the entry's and target + 1; the entry's is handed in
 unfoldable pub written_count : Bytes → ℕ → ℕ → ℕ

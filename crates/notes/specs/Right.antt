@@ -10,7 +10,7 @@ use Rattle.lists.specs.Below.{all_at, all_intro}
 use Rattle.lists.specs.Tab.{length_tab, get_d_tab, tab_cong}
 use Rattle.format.specs.Diskette.{Bytes, Geometry, slot_count, slots_on}
 use Rattle.format.specs.Entries.{Rows, used}
-use Rattle.format.specs.Notes.{free_note, area_note, recordedNote, pending_for, is_pending, pending_entry, pending_slot, note_at_rule, is_listed, held_by_used_rule, note_right_rule, map_right, fresh_note_rule, fresh_map, settled_note_rule, freed_map}
+use Rattle.format.specs.Notes.{free_note, area_note, recorded_note, pending_for, is_pending, pending_entry, pending_slot, note_at_rule, is_listed, held_by_used_rule, note_right_rule, map_right, fresh_note_rule, fresh_map, settled_note_rule, freed_map}
 use Rattle.facts.specs.Slots.{slots_on_high}
 use Rattle.notes.specs.Numbers.{pending_is, pending_entry_law, pending_slot_law, pending_back, settled_not}
 
@@ -22,7 +22,7 @@ pub record Spare (G : Geometry) (d : Rows) (b : ℕ) : Type 0 where
 -- the note n is right for block b: one case for each kind of note
 pub data NoteOk (G : Geometry) (d : Rows) (b n : ℕ) : Type 0 where
   ok_area : n ≡ area_note → b < G.area → NoteOk G d b n
-  ok_recorded : n ≡ recordedNote → G.area ≤ b → is_listed G d b ≡ true → NoteOk G d b n
+  ok_recorded : n ≡ recorded_note → G.area ≤ b → is_listed G d b ≡ true → NoteOk G d b n
   ok_free : n ≡ free_note → Spare G d b → NoteOk G d b n
   ok_pending : (e j : ℕ) → n ≡ pending_for e j → e < G.entries → j < slots_on G → used (d e) ≡ true → Spare G d b → NoteOk G d b n
 
@@ -42,7 +42,7 @@ module _ (G : Geometry) (d : Rows) where
       split (lt_or_le b G.area)
       (λ h. let z : eqb n area_note ≡ true = rw (lt-ltb b G.area h) at t in ok_area (eqb-true _ _ z) h)
       (λ h. split (bool_cases (is_listed G d b))
-      (λ y. let z : eqb n recordedNote ≡ true = rw (le-ltb b G.area h, y) at t in ok_recorded (eqb-true _ _ z) h y)
+      (λ y. let z : eqb n recorded_note ≡ true = rw (le-ltb b G.area h, y) at t in ok_recorded (eqb-true _ _ z) h y)
       (λ y. let s : Spare G d b = record { past = h; unlisted = y } in
       let z : (eqb n free_note or (is_pending n and ltb (pending_entry n) G.entries and used (d (pending_entry n)) and ltb (pending_slot n) (slots_on G))) ≡ true = rw (le-ltb b G.area h, y) at t in
       split (or_cases _ _ z) (λ w. ok_free (eqb-true _ _ w) s)
@@ -52,7 +52,7 @@ module _ (G : Geometry) (d : Rows) where
   pub ok_right : (b n : ℕ) → NoteOk G d b n → note_right_rule G d b n ≡ true
   unfolding note_right_rule
   ok_right b n (ok_area q h) = rw (lt-ltb b G.area h) (eq-eqb n area_note q)
-  ok_right b n (ok_recorded q h y) = rw (le-ltb b G.area h, y) (eq-eqb n recordedNote q)
+  ok_right b n (ok_recorded q h y) = rw (le-ltb b G.area h, y) (eq-eqb n recorded_note q)
   ok_right b n (ok_free q s) = rw (le-ltb b G.area s.past, s.unlisted) (or_left _ _ (eq-eqb n free_note q))
   ok_right b n (ok_pending e j q h l t s) =
       rw (le-ltb b G.area s.past, s.unlisted) (or_right _ _ (rw q (held_by e j h l t)))

@@ -9,7 +9,7 @@ use Rattle.lists.specs.Cases.{split, bool_cases, not_both, cond_either}
 use Rattle.lists.specs.Tests.{◌and◌, and_left, and_right, and_both}
 use Rattle.lists.specs.Below.{any_at, any_some}
 use Rattle.lists.specs.Splice.{length_copies}
-use Rattle.format.specs.Diskette.{Bytes, Geometry, Sound, recordBytes}
+use Rattle.format.specs.Diskette.{Bytes, Geometry, Sound, record_bytes}
 use Rattle.format.specs.Entries.{entry_at, named, find_named_rule}
 use Rattle.format.specs.declared.Found.TheVariants.{Nothing}
 use Rattle.format.specs.Fcb.{random_of_rule}
@@ -40,7 +40,7 @@ use Rattle.once.specs.Calls.{Timed}
 use Rattle.once.specs.Logs.{is_logged, first_at_law}
 use Rattle.once.specs.Picks.{has_word, PickAccess, PickGrew, Left, same, more, pick_run}
 use Rattle.once.specs.Right.{parameters_of, disk_of_law}
-use Rattle.once.specs.Table.{parameters_are, disk_is, name_is, has_entry, extent_at, size_is, recordIs, bytes_are, some_empty, some_free, has_day, next_entry, log_locked, no_block, growing, beginning, log_answer, word_answer, book_answer, answer}
+use Rattle.once.specs.Table.{parameters_are, disk_is, name_is, has_entry, extent_at, size_is, record_is, bytes_are, some_empty, some_free, has_day, next_entry, log_locked, no_block, growing, beginning, log_answer, word_answer, book_answer, answer}
 use Rattle.once.specs.Unharmed.{trouble_unharmed, log_grown}
 use Rattle.once.specs.Word.{can_read, read_can, first_named, first_found}
 
@@ -107,7 +107,7 @@ module _ {G : Geometry} (w : Wanted) (d : Disk) (word : Bytes) (x : Done G w d w
       (stored_bytes G (seen_on G d) d.session.user (fcb_of_rule w.log) x.place x.bytes x.sane.good.inv.dir x.sane.range.user x.has) ∙ x.stamp))
 
   -- the table answers again, whatever the time and the bytes lent
-  done_answer : (t : Time) → Timed t → (buffer : Bytes) → length buffer ≡ recordBytes → answer G w d t buffer ≡ Again
+  done_answer : (t : Time) → Timed t → (buffer : Bytes) → length buffer ≡ record_bytes → answer G w d t buffer ≡ Again
   unfolding answer book_answer word_answer log_answer
   done_answer t timed buffer long =
       rw (
@@ -116,7 +116,7 @@ module _ {G : Geometry} (w : Wanted) (d : Disk) (word : Bytes) (x : Done G w d w
         disk_of_law G d t x.sane,
         first_named G d x.sane w.book x.book,
         first_found G d x.sane w.book x.book,
-        eq-eqb (length buffer) recordBytes long,
+        eq-eqb (length buffer) record_bytes long,
         stored_is G (seen_on G d) d.session.user (fcb_of_rule w.book) w.day word x.sane.good.inv.dir x.sane.range.user x.stored,
         x.apart,
         first_named G d x.sane w.log x.log,
@@ -127,7 +127,7 @@ module _ {G : Geometry} (w : Wanted) (d : Disk) (word : Bytes) (x : Done G w d w
 
 -- and so does a run, with the word
 module _ {G : Geometry} (S : Sound G) (countable : G.per_block * G.blocks < 16777216) (w : Wanted) (nm : Named w) (d : Disk) (word : Bytes) (x : Done G w d word)
-    (t : Time) (timed : Timed t) (buffer : Bytes) (long : length buffer ≡ recordBytes) where
+    (t : Time) (timed : Timed t) (buffer : Bytes) (long : length buffer ≡ record_bytes) where
   pub done_again : (picked G t w d buffer).pick ≡ Again
   done_again = (pick_run S countable t w nm d buffer).pick ∙ done_answer w d word x t timed buffer long
 
@@ -155,8 +155,8 @@ module _ {G : Geometry} (S : Sound G) (countable : G.per_block * G.blocks < 1677
       let a3 = past (not (disk_is G d)) (Other 255 1) _ refl a2.1 in
       let a4 = past (not (name_is w.book)) (Other 255 9) _ refl a3.1 in
       let a5 = past (not (is_found (extent_at G d w.book 0))) NoBook _ refl a4.1 in
-      let a6 = past (not (eqb (length buffer) recordBytes)) (Other 255 4) _ refl a5.1 in
-      let a7 = past (not (recordIs G d w.book w.day)) NoWord _ refl a6.1 in
+      let a6 = past (not (eqb (length buffer) record_bytes)) (Other 255 4) _ refl a5.1 in
+      let a7 = past (not (record_is G d w.book w.day)) NoWord _ refl a6.1 in
       let a8 = past (one_file_rule w) OneFile _ refl a7.1 in
       let a9 = past (not (name_is w.log)) (Other 255 9) _ refl a8.1 in
       let b1 = past (not (has_entry G d w.log)) (beginning G w d) _ (not_beginning G w d) a9.1 in
@@ -288,7 +288,7 @@ module _ {G : Geometry} (S : Sound G) (countable : G.per_block * G.blocks < 1677
     log_there : accepts G e (asks a 35 (fcb_of_rule w.log) blank_buffer) ≡ true
     log_there =
         let f = log_first S t w nm d e g in
-        size_accepted G e g.log.sane (fcb_of_rule w.log) begins a time blank_buffer (length_copies recordBytes 0) f.entry f.low
+        size_accepted G e g.log.sane (fcb_of_rule w.log) begins a time blank_buffer (length_copies record_bytes 0) f.entry f.low
         (file_named G e.session.user (fcb_of_rule w.log) 1 0 (entry_at G e.drive.image f.entry) f.file)
 
     log_reads : (r : ℕ) (v : Bytes) → Stored G (seen_on G e) e.session.user (fcb_of_rule w.log) r v → ReadsAs G a e (fcb_of_rule w.log) r v
@@ -346,7 +346,7 @@ module _ {G : Geometry} (S : Sound G) (countable : G.per_block * G.blocks < 1677
         stamp = r.has;
       }
 
-  pub repeats_again : (t : Time) → Timed t → (d : Disk) (buffer : Bytes) → length buffer ≡ recordBytes → (r : Repeats G w a d)
+  pub repeats_again : (t : Time) → Timed t → (d : Disk) (buffer : Bytes) → length buffer ≡ record_bytes → (r : Repeats G w a d)
       → ((picked G t w d buffer).pick ≡ Again) × ((picked G t w d buffer).word ≡ r.word)
   repeats_again t timed d buffer long r =
       let x = repeats_done d r in
@@ -413,7 +413,7 @@ module _ {G : Geometry} (S : Sound G) (countable : G.per_block * G.blocks < 1677
           }
 
   pub second_run : ((picked G t w d buffer).pick ≡ Logged) ⊎ ((picked G t w d buffer).pick ≡ Again) → (again : Time) → Timed again → (other : Bytes)
-      → length other ≡ recordBytes → SecondRun G w again (picked G t w d buffer) (picked G again w (picked G t w d buffer).disk other)
+      → length other ≡ record_bytes → SecondRun G w again (picked G t w d buffer) (picked G again w (picked G t w d buffer).disk other)
   second_run success again timed other long =
       let x : Done G w e word = split success (λ h. logged_left h) (λ h. again_left h) in
       let told : (picked G again w e other).pick ≡ Again = done_again S countable w nm e word x again timed other long in

@@ -11,7 +11,7 @@ use Rattle.lists.specs.Cases.{split}
 use Rattle.lists.specs.Below.{all_intro, all_at}
 use Rattle.lists.specs.Product.{same_digits}
 use Rattle.lists.specs.Splice.{copies, length_copies, get_d_copies, length_splice, get_d_splice_in, get_d_splice_out}
-use Rattle.format.specs.Diskette.{Bytes, recordBytes}
+use Rattle.format.specs.Diskette.{Bytes, record_bytes}
 use Rattle.format.specs.Names.{name_bytes}
 use Rattle.format.specs.Entries.{ex_of}
 use Rattle.format.specs.Fcb.{fcb_bytes, cr_of}
@@ -24,11 +24,11 @@ pub record Named (w : Wanted) : Type 0 where
   pub book : length w.book ≡ name_bytes
   pub log : length w.log ≡ name_bytes
 
-pub length_blank : length blank ≡ recordBytes
+pub length_blank : length blank ≡ record_bytes
 unfolding blank
-length_blank = length_copies recordBytes 0
+length_blank = length_copies record_bytes 0
 
-pub length_log_record : (year day : ℕ) → length (log_record_rule year day) ≡ recordBytes
+pub length_log_record : (year day : ℕ) → length (log_record_rule year day) ≡ record_bytes
 unfolding log_record_rule stamp_of_rule copies
 length_log_record year day = refl
 

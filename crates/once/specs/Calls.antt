@@ -4,7 +4,7 @@ use Rattle.std.proofs.Math.Path.{refl, ap}
 use Rattle.std.proofs.Common.{◌∙◌}
 use Rattle.std.proofs.Math.Bool.{true}
 use Rattle.lists.specs.Tests.{◌and◌}
-use Rattle.format.specs.Diskette.{Bytes, Geometry, recordBytes}
+use Rattle.format.specs.Diskette.{Bytes, Geometry, record_bytes}
 use Rattle.format.specs.Names.{name_bytes}
 use Rattle.format.specs.Entries.{entry_at, ex_of, find_file_rule}
 use Rattle.format.specs.Dates.{bcd}
@@ -40,7 +40,7 @@ Timed t = (bcd t.hour and bcd t.minute) ≡ true
 
 module _ {G : Geometry} (d : Disk) (sane : Sane G d) (t : Time) (timed : Timed t) where
   -- a call with an FCB of 36 bytes and drive 0 or 1, and a buffer of 128, has passed the first three rows
-  pub ready_call : (n : ℕ) (f buffer : Bytes) → length f ≡ 36 → get_or f 0 0 ≤ 1 → length buffer ≡ recordBytes
+  pub ready_call : (n : ℕ) (f buffer : Bytes) → length f ≡ 36 → get_or f 0 0 ≤ 1 → length buffer ≡ record_bytes
       → Ready G (asking t n f buffer).asked (lent_to d (asking t n f buffer)) d.session
   unfolding time_right_rule
   ready_call n f buffer hf drive hb = sane_ready G d sane f hf drive (asking t n f buffer).asked timed buffer hb

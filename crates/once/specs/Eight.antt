@@ -2,11 +2,11 @@
 -- are eleven bytes each, as its types have them.
 use Rattle.std.specs.Prelude.{◌≡◌, ◌⊎◌, true, false, cond, ℕ, ◌*◌, ◌≤◌, ◌<◌, length, get_or}
 use Rattle.std.proofs.Common.{arith}
-use Rattle.format.specs.Diskette.{Bytes, eight_inch, recordBytes, Long}
+use Rattle.format.specs.Diskette.{Bytes, eight_inch, record_bytes, Long}
 use Rattle.format.specs.Entries.{entry_at}
 use Rattle.format.specs.Dates.{is_dates}
 use Rattle.format.specs.Consistent.{consistent}
-use Rattle.format.specs.Notes.{map_right, note_at_rule, free_note, recordedNote, is_pending}
+use Rattle.format.specs.Notes.{map_right, note_at_rule, free_note, recorded_note, is_pending}
 use Rattle.disk.specs.Eight.{eight_sound}
 use Rattle.model.specs.declared.Asked.{Asked}
 use Rattle.model.specs.Lent.{ended, protected}
@@ -37,7 +37,7 @@ module _ (t : Time) (w : Wanted) (nm : Named w) (d : Disk) (buffer : Bytes) wher
   pub one_read : (picked eight_inch t w d buffer).given ≡ true → ReadsAs eight_inch (call_at t 0) d (fcb_of_rule w.book) w.day (picked eight_inch t w d buffer).word
   one_read = word_read eight_sound countable t w nm d buffer
 
-  pub one_handed_out : w.day ≤ last_day → length buffer ≡ recordBytes → (v : Bytes) → ReadsAs eight_inch (call_at t 0) d (fcb_of_rule w.book) w.day v
+  pub one_handed_out : w.day ≤ last_day → length buffer ≡ record_bytes → (v : Bytes) → ReadsAs eight_inch (call_at t 0) d (fcb_of_rule w.book) w.day v
       → ((picked eight_inch t w d buffer).given ≡ true) × ((picked eight_inch t w d buffer).word ≡ v)
   one_handed_out = word_handed_out eight_sound countable t w nm d buffer
 
@@ -49,7 +49,7 @@ module _ (t : Time) (w : Wanted) (nm : Named w) (d : Disk) (buffer : Bytes) wher
   pub two_again : (a : Asked) (time : time_right_rule a ≡ true) → (picked eight_inch t w d buffer).pick ≡ Again → Repeats eight_inch w a d
   two_again a time = again_says eight_sound countable w nm a time t d buffer
 
-  pub two_repeats : Timed t → length buffer ≡ recordBytes → (a : Asked) (time : time_right_rule a ≡ true) → Repeats eight_inch w a d
+  pub two_repeats : Timed t → length buffer ≡ record_bytes → (a : Asked) (time : time_right_rule a ≡ true) → Repeats eight_inch w a d
       → (picked eight_inch t w d buffer).pick ≡ Again
   two_repeats timed long a time r = (repeats_again eight_sound countable w nm a time t timed d buffer long r).0
 
@@ -59,7 +59,7 @@ module _ (t : Time) (w : Wanted) (nm : Named w) (d : Disk) (buffer : Bytes) wher
 
   -- ---- 3: a second run, at any time in BCD and with any 128 bytes
   pub three_second : ((picked eight_inch t w d buffer).pick ≡ Logged) ⊎ ((picked eight_inch t w d buffer).pick ≡ Again) → (again : Time) → Timed again → (other : Bytes)
-      → length other ≡ recordBytes → SecondRun eight_inch w again (picked eight_inch t w d buffer) (picked eight_inch again w (picked eight_inch t w d buffer).disk other)
+      → length other ≡ record_bytes → SecondRun eight_inch w again (picked eight_inch t w d buffer) (picked eight_inch again w (picked eight_inch t w d buffer).disk other)
   three_second = second_run eight_sound countable w nm t d buffer
 
   -- ---- 4: on trouble, and on "again", no byte of image or map changes but access stamps of book and log, of the time handed in; and none at all on a
@@ -96,7 +96,7 @@ module _ (t : Time) (w : Wanted) (nm : Named w) (d : Disk) (buffer : Bytes) wher
 
   -- each note stays, but that of at most one block, which was free and is recorded now
   pub five_notes : (b : ℕ) → b < eight_inch.blocks → (note_at_rule (picked eight_inch t w d buffer).disk.drive.map b ≡ note_at_rule d.drive.map b)
-      ⊎ ((note_at_rule d.drive.map b ≡ free_note) × (note_at_rule (picked eight_inch t w d buffer).disk.drive.map b ≡ recordedNote))
+      ⊎ ((note_at_rule d.drive.map b ≡ free_note) × (note_at_rule (picked eight_inch t w d buffer).disk.drive.map b ≡ recorded_note))
   five_notes = notes_unharmed eight_sound countable t w nm d buffer
 
   pub five_one_note : (b c : ℕ) → b < eight_inch.blocks → c < eight_inch.blocks

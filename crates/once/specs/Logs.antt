@@ -34,7 +34,7 @@ use Rattle.once.specs.Calls.{Timed, open_by, open_accepts}
 use Rattle.once.specs.Growth.{LogGrew, grew_restamped, write_grew}
 use Rattle.once.specs.Same.{log_same, extent_same, size_same, entry_same}
 use Rattle.once.specs.Search.{has_at, searched_is}
-use Rattle.once.specs.Table.{name_is, has_entry, extent_at, size_is, recordIs, bytes_are, has_day, next_entry, log_locked, no_block, growing, log_answer}
+use Rattle.once.specs.Table.{name_is, has_entry, extent_at, size_is, record_is, bytes_are, has_day, next_entry, log_locked, no_block, growing, log_answer}
 use Rattle.once.specs.Writing.{written_logged, written_trouble, written_by, lifted_refused, trouble_by}
 use Rattle.once.specs.Lifting.{opened_up}
 
@@ -121,11 +121,11 @@ module _ {G : Geometry} (S : Sound G) (t : Time) (timed : Timed t) (w : Wanted) 
         (subst (Restamped G (LogAccess G t w d) d) (sym (ap (λ (l : Logging). l.disk) is)) (lifted_refused G d (writing t w f n) (LogAccess G t w d) a)))
 
     -- what the search finds is the table's row
-    has_is : (r : ℕ) → has_at G d f w r ≡ (recordIs G d w.log r and has_stamp_rule w.year w.day (bytes_are G d w.log r))
+    has_is : (r : ℕ) → has_at G d f w r ≡ (record_is G d w.log r and has_stamp_rule w.year w.day (bytes_are G d w.log r))
     has_is r =
         ap (λ (b : Bool). b and has_stamp_rule w.year w.day (bytes_stored G (seen_on G d) d.session.user f r))
         (told_named G (seen_on G d) d.session.user log f same r)
-        ∙ ap (λ (v : Bytes). recordIs G d w.log r and has_stamp_rule w.year w.day v) (bytes_named G (seen_on G d) d.session.user log f same r)
+        ∙ ap (λ (v : Bytes). record_is G d w.log r and has_stamp_rule w.year w.day v) (bytes_named G (seen_on G d) d.session.user log f same r)
 
     found_is : any_below (has_at G d f w) n ≡ has_day G w d
     unfolding has_day

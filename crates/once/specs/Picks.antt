@@ -7,7 +7,7 @@ use Rattle.std.proofs.Math.Bool.{true, false, cond}
 use borrow.Author.Tests.{eqb-true, eqb-false, ltb-false}
 use Rattle.lists.specs.Cases.{split, bool_cases, refute}
 use Rattle.lists.specs.Tests.{◌and◌, ◌or◌, and_both, and_fails_left, and_fails_right}
-use Rattle.format.specs.Diskette.{Bytes, Geometry, Sound, recordBytes}
+use Rattle.format.specs.Diskette.{Bytes, Geometry, Sound, record_bytes}
 use Rattle.format.specs.Found.{is_found}
 use Rattle.model.specs.Kinds.{kind_of, is_call}
 use Rattle.model.specs.Lent.{Outcome}
@@ -35,14 +35,14 @@ use Rattle.once.specs.Records.{read_by}
 use Rattle.once.specs.Right.{timed_of, sane_of, open_any}
 use Rattle.once.specs.Same.{record_same, bytes_same, log_same}
 use Rattle.once.specs.Search.{read_accepted, read_gives}
-use Rattle.once.specs.Table.{parameters_are, disk_is, name_is, extent_at, recordIs, bytes_are, log_answer, word_answer, book_answer, answer}
+use Rattle.once.specs.Table.{parameters_are, disk_is, name_is, extent_at, record_is, bytes_are, log_answer, word_answer, book_answer, answer}
 
 -- ---- what is said of a run
 -- the day is one of a year, all is right, and the book has the day's record: the word can be read
 unfoldable pub has_word : Geometry → Time → Wanted → Disk → Bytes → Bool
 has_word G t w d buffer =
     not (ltb last_day w.day) and parameters_are G d t and disk_is G d and name_is w.book and is_found (extent_at G d w.book 0)
-    and eqb (length buffer) recordBytes and recordIs G d w.book w.day
+    and eqb (length buffer) record_bytes and record_is G d w.book w.day
 
 -- the stamps that may be put: access stamps of the book and of the log, of the time that is asked with
 abbrev pub BookAccess : Geometry → Time → Wanted → Disk → Stamp → Type 0
@@ -122,7 +122,7 @@ module _ {G : Geometry} (S : Sound G) (countable : G.per_block * G.blocks < 1677
         restamped_then G (BookAccess G t w d) d m (left u) opened
         (fresh_read_same G m q op.at.entry refl (fresh_record G m f op.at.entry k w.day) (BookAccess G t w d))
 
-    stored_is : is_stored G (seen_on G m) m.session.user f w.day ≡ recordIs G d w.book w.day
+    stored_is : is_stored G (seen_on G m) m.session.user f w.day ≡ record_is G d w.book w.day
     stored_is =
         told_named G (seen_on G m) m.session.user book f op.same w.day ∙ record_same S (BookAccess G t w d) d m sane opened w.book w.day
 
@@ -130,7 +130,7 @@ module _ {G : Geometry} (S : Sound G) (countable : G.per_block * G.blocks < 1677
     unfolding answer book_answer
     answer_is = rw (day, params, disk, name, found)
 
-    word_is : has_word G t w d buffer ≡ (eqb (length buffer) recordBytes and recordIs G d w.book w.day)
+    word_is : has_word G t w d buffer ≡ (eqb (length buffer) record_bytes and record_is G d w.book w.day)
     unfolding has_word ◌and◌
     word_is = rw (day, params, disk, name, found)
 
@@ -150,7 +150,7 @@ module _ {G : Geometry} (S : Sound G) (countable : G.per_block * G.blocks < 1677
         }
 
     -- the bytes lent are not 128
-    short_run : eqb (length buffer) recordBytes ≡ false → PickRun G t w d buffer (fetched G t w m f buffer)
+    short_run : eqb (length buffer) record_bytes ≡ false → PickRun G t w d buffer (fetched G t w m f buffer)
     unfolding word_answer is_call kind_of ◌and◌ ◌or◌
     short_run short =
         let wrong : parameters_right_rule G (lent_to m q) q.asked m.session ≡ false =
@@ -158,17 +158,17 @@ module _ {G : Geometry} (S : Sound G) (countable : G.per_block * G.blocks < 1677
         let a : accepts G m q ≡ false = as_test (accepts G m q) ∙ answered_rows true (λ x y. false) G m q refl ∙ rw wrong in
         let is : told u.answer.a u.answer.h ≡ Other 255 4 =
         ap (λ (b : Bool). cond b Logged (told u.answer.a u.answer.h)) (sym a) ∙ answered_rows Logged told G m q refl ∙ rw wrong in
-        refused_run a (word_is ∙ and_fails_left (eqb (length buffer) recordBytes) (recordIs G d w.book w.day) short) (Other 255 4) is refl (rw short)
+        refused_run a (word_is ∙ and_fails_left (eqb (length buffer) record_bytes) (record_is G d w.book w.day) short) (Other 255 4) is refl (rw short)
 
-    module _ (long : eqb (length buffer) recordBytes ≡ true) where
-      hb : length buffer ≡ recordBytes
+    module _ (long : eqb (length buffer) record_bytes ≡ true) where
+      hb : length buffer ≡ record_bytes
       hb = eqb-true _ _ long
 
-      accepts_is : accepts G m q ≡ recordIs G d w.book w.day
+      accepts_is : accepts G m q ≡ record_is G d w.book w.day
       accepts_is = read_accepted S m f op.at.entry k t timed w.day (let x = low in omega arith) buffer hb ∙ stored_is
 
       -- the book has no such record
-      missing_run : recordIs G d w.book w.day ≡ false → PickRun G t w d buffer (fetched G t w m f buffer)
+      missing_run : record_is G d w.book w.day ≡ false → PickRun G t w d buffer (fetched G t w m f buffer)
       unfolding word_answer ◌and◌ ◌or◌
       missing_run none =
           let a : accepts G m q ≡ false = accepts_is ∙ none in
@@ -176,14 +176,14 @@ module _ {G : Geometry} (S : Sound G) (countable : G.per_block * G.blocks < 1677
           ap (λ (b : Bool). cond b Logged (told u.answer.a u.answer.h)) (sym a)
           ∙ read_by Logged told S m f op.at.entry k t timed w.day (let x = low in omega arith) buffer hb
           ∙ either (is_found (extent_entry G (seen_on G m) m.session.user f w.day)) (is_stored G (seen_on G m) m.session.user f w.day) (stored_is ∙ none) in
-          refused_run a (word_is ∙ and_fails_right (eqb (length buffer) recordBytes) (recordIs G d w.book w.day) none) NoWord is refl (rw (long, none))
+          refused_run a (word_is ∙ and_fails_right (eqb (length buffer) record_bytes) (record_is G d w.book w.day) none) NoWord is refl (rw (long, none))
         where
           either : (x y : Bool) → y ≡ false → cond (not x) NoWord (cond (not y) NoWord Logged) ≡ NoWord
           either true y h = rw h
           either false y h = refl
 
       -- it has: the word is handed out
-      module _ (there : recordIs G d w.book w.day ≡ true) where
+      module _ (there : record_is G d w.book w.day ≡ true) where
         a : accepts G m q ≡ true
         a = accepts_is ∙ there
 
@@ -234,8 +234,8 @@ module _ {G : Geometry} (S : Sound G) (countable : G.per_block * G.blocks < 1677
 
     fetched_run : PickRun G t w d buffer (fetched G t w m f buffer)
     fetched_run =
-        split (bool_cases (eqb (length buffer) recordBytes))
-        (λ long. split (bool_cases (recordIs G d w.book w.day)) (λ there. given_run long there) (λ none. missing_run long none))
+        split (bool_cases (eqb (length buffer) record_bytes))
+        (λ long. split (bool_cases (record_is G d w.book w.day)) (λ there. given_run long there) (λ none. missing_run long none))
         (λ short. short_run short)
 
   -- ---- the book could not be opened

@@ -3,7 +3,7 @@ use Rattle.std.specs.Prelude.{◌≡◌, false, cond, not, ℕ, ◌≤◌, ◌<�
 use Rattle.std.proofs.Math.Path.{refl}
 use Rattle.std.proofs.Common.{◌∙◌, arith, le-ltb}
 use Rattle.lists.specs.Tests.{◌and◌, ◌or◌}
-use Rattle.format.specs.Diskette.{Bytes, Geometry, Sound, recordBytes, last_record}
+use Rattle.format.specs.Diskette.{Bytes, Geometry, Sound, record_bytes, last_record}
 use Rattle.format.specs.Entries.{entry_at}
 use Rattle.format.specs.Fcb.{random_of_rule}
 use Rattle.format.specs.Found.{is_found}
@@ -26,7 +26,7 @@ use Rattle.once.specs.Deciding.{answered, answered_own}
 use Rattle.once.specs.Table.{some_empty, some_free}
 
 module _ {A : Type 0} (went : A) (not_so : ℕ → ℕ → A) {G : Geometry} (S : Sound G) (d : Disk) (f : Bytes) (e : ℕ) (k : Fresh G d f e) (t : Time) (timed : Timed t)
-    (r : ℕ) (low : r ≤ last_record) (buffer : Bytes) (hb : length buffer ≡ recordBytes) where
+    (r : ℕ) (low : r ≤ last_record) (buffer : Bytes) (hb : length buffer ≡ record_bytes) where
   small : r < 16777216
   small = omega arith
 

@@ -22,7 +22,7 @@ use Rattle.stored.specs.Restamped.{sane_restamped, restamped_alike, find_empty_r
 use Rattle.stored.specs.Told.{block_in, stored_is, stored_bytes, is_stored_law}
 use Rattle.picking.specs.declared.Wanted.{Wanted}
 use Rattle.picking.specs.Picker.{fcb_of_rule, has_stamp_rule}
-use Rattle.once.specs.Table.{has_entry, extent_at, size_is, recordIs, bytes_are, some_empty, some_free, has_day, next_entry, log_locked, no_block, growing, beginning, log_answer}
+use Rattle.once.specs.Table.{has_entry, extent_at, size_is, record_is, bytes_are, some_empty, some_free, has_day, next_entry, log_locked, no_block, growing, beginning, log_answer}
 
 module _ {G : Geometry} (S : Sound G) (P : Stamp → Type 0) (d t : Disk) (sane : Sane G d) (w : Restamped G P d t) where
   abbrev user : ℕ
@@ -62,19 +62,19 @@ module _ {G : Geometry} (S : Sound G) (P : Stamp → Type 0) (d t : Disk) (sane 
     sane_t = sane_restamped S P d t sane w
 
     module _ (r : ℕ) where
-      is_d : recordIs G d name r ≡ true → Stored G (seen_on G d) user (fcb_of_rule name) r (bytes_are G d name r)
+      is_d : record_is G d name r ≡ true → Stored G (seen_on G d) user (fcb_of_rule name) r (bytes_are G d name r)
       is_d = is_stored_law G (seen_on G d) user (fcb_of_rule name) r
 
-      is_t : recordIs G t name r ≡ true → Stored G (seen_on G t) t.session.user (fcb_of_rule name) r (bytes_are G t name r)
+      is_t : record_is G t name r ≡ true → Stored G (seen_on G t) t.session.user (fcb_of_rule name) r (bytes_are G t name r)
       is_t = is_stored_law G (seen_on G t) t.session.user (fcb_of_rule name) r
 
-      pub record_same : recordIs G t name r ≡ recordIs G d name r
+      pub record_same : record_is G t name r ≡ record_is G d name r
       record_same =
           bool_ext _ _
           (λ h. stored_is G (seen_on G d) user (fcb_of_rule name) r _ sane.good.inv.dir hu (back r _ (is_t h)))
           (λ h. stored_is G (seen_on G t) t.session.user (fcb_of_rule name) r _ sane_t.good.inv.dir sane_t.range.user (on r _ (is_d h)))
 
-      pub bytes_same : recordIs G d name r ≡ true → bytes_are G t name r ≡ bytes_are G d name r
+      pub bytes_same : record_is G d name r ≡ true → bytes_are G t name r ≡ bytes_are G d name r
       bytes_same h = stored_bytes G (seen_on G t) t.session.user (fcb_of_rule name) r _ sane_t.good.inv.dir sane_t.range.user (on r _ (is_d h))
 
     -- the entry of an extent stays as it was
@@ -102,18 +102,18 @@ module _ {G : Geometry} (S : Sound G) (P : Stamp → Type 0) (d t : Disk) (sane 
     block_same r = ap (block_in G (entry_at G t.drive.image) r) (extent_same (r / extent_records)) ∙ block_by r (extent_at G d name (r / extent_records)) refl
 
   module _ (v : Wanted) where
-    pub has_same : (r : ℕ) → (recordIs G t v.log r and has_stamp_rule v.year v.day (bytes_are G t v.log r))
-        ≡ (recordIs G d v.log r and has_stamp_rule v.year v.day (bytes_are G d v.log r))
+    pub has_same : (r : ℕ) → (record_is G t v.log r and has_stamp_rule v.year v.day (bytes_are G t v.log r))
+        ≡ (record_is G d v.log r and has_stamp_rule v.year v.day (bytes_are G d v.log r))
     has_same r =
         bool_ext _ _
-        (λ h. let k : recordIs G d v.log r ≡ true = sym (record_same v.log r) ∙ and_left _ _ h in
+        (λ h. let k : record_is G d v.log r ≡ true = sym (record_same v.log r) ∙ and_left _ _ h in
         and_both _ _ k (ap (has_stamp_rule v.year v.day) (sym (bytes_same v.log r k)) ∙ and_right _ _ h))
         (λ h. and_both _ _ (record_same v.log r ∙ and_left _ _ h) (ap (has_stamp_rule v.year v.day) (bytes_same v.log r (and_left _ _ h)) ∙ and_right _ _ h))
 
     pub day_same : has_day G v t ≡ has_day G v d
     unfolding has_day
     day_same =
-        ap (any_below (λ (r : ℕ). recordIs G t v.log r and has_stamp_rule v.year v.day (bytes_are G t v.log r))) (size_same v.log)
+        ap (any_below (λ (r : ℕ). record_is G t v.log r and has_stamp_rule v.year v.day (bytes_are G t v.log r))) (size_same v.log)
         ∙ any_cong _ _ (size_is G d v.log) (λ r h. has_same r)
 
     next_same : next_entry G v t ≡ next_entry G v d

@@ -6,7 +6,7 @@ use Rattle.lists.specs.Cases.{split, bool_cases, bool_ext}
 use Rattle.lists.specs.Tests.{◌and◌, and_left, and_right, and_both, or_then, or_left}
 use Rattle.lists.specs.Below.{any_below, any_none, any_next}
 use Rattle.lists.specs.Fold.{fold_builds}
-use Rattle.format.specs.Diskette.{Bytes, Geometry, Sound, recordBytes}
+use Rattle.format.specs.Diskette.{Bytes, Geometry, Sound, record_bytes}
 use Rattle.model.specs.Lent.{Outcome, ended}
 use Rattle.model.specs.Table.{time_right_rule}
 use Rattle.demands.specs.Runs.{Disk, outcome_of, left, accepts}
@@ -30,7 +30,7 @@ module _ {G : Geometry} (S : Sound G) (d : Disk) (f : Bytes) (e : ℕ) (k : Fres
   user = d.session.user
 
   -- ---- 33 of a record is accepted exactly where it is stored, and gives its bytes
-  module _ (r : ℕ) (small : r < 16777216) (buffer : Bytes) (hb : length buffer ≡ recordBytes) where
+  module _ (r : ℕ) (small : r < 16777216) (buffer : Bytes) (hb : length buffer ≡ record_bytes) where
     pub read_accepted : accepts G d (reading t f r buffer) ≡ is_stored G (seen_on G d) user f r
     unfolding time_right_rule
     read_accepted = Reading.read_accepted S (call_at t 0) d f e k r buffer small timed hb

@@ -3,7 +3,7 @@
 use Rattle.std.specs.Prelude.{Bool, false, cond, not, ℕ, ◌/◌, eqb, leb, ltb, length}
 use Rattle.lists.specs.Tests.{◌and◌, ◌or◌}
 use Rattle.lists.specs.Below.{any_below}
-use Rattle.format.specs.Diskette.{Bytes, Geometry, is_long, recordBytes, extent_records}
+use Rattle.format.specs.Diskette.{Bytes, Geometry, is_long, record_bytes, extent_records}
 use Rattle.format.specs.Names.{name_right_rule}
 use Rattle.format.specs.Entries.{entry_at, named, find_file_rule, find_named_rule, find_empty_rule}
 use Rattle.format.specs.Dates.{bcd}
@@ -47,8 +47,8 @@ module _ (G : Geometry) (d : Disk) where
   unfoldable pub size_is : Bytes → ℕ
   size_is name = file_size_rule G (entry_at G d.drive.image) (named false d.session.user (fcb_of_rule name) 1)
 
-  abbrev pub recordIs : Bytes → ℕ → Bool
-  recordIs name r = is_stored G (seen_on G d) d.session.user (fcb_of_rule name) r
+  abbrev pub record_is : Bytes → ℕ → Bool
+  record_is name r = is_stored G (seen_on G d) d.session.user (fcb_of_rule name) r
 
   abbrev pub bytes_are : Bytes → ℕ → Bytes
   bytes_are name r = bytes_stored G (seen_on G d) d.session.user (fcb_of_rule name) r
@@ -64,7 +64,7 @@ module _ (G : Geometry) (w : Wanted) (d : Disk) where
   -- ---- the log
   -- one of its records has the year and day; a record that is not there has none
   unfoldable pub has_day : Bool
-  has_day = any_below (λ (r : ℕ). recordIs G d w.log r and has_stamp_rule w.year w.day (bytes_are G d w.log r)) (size_is G d w.log)
+  has_day = any_below (λ (r : ℕ). record_is G d w.log r and has_stamp_rule w.year w.day (bytes_are G d w.log r)) (size_is G d w.log)
 
   -- the entry of its next record, and t1' there or in its extent 0
   abbrev pub next_entry : Found
@@ -100,8 +100,8 @@ module _ (G : Geometry) (w : Wanted) (d : Disk) where
   -- the record of the day can be read into the bytes that are lent
   unfoldable pub word_answer : Bytes → Pick
   word_answer buffer =
-      cond (not (eqb (length buffer) recordBytes)) (Other 255 4)
-      (cond (not (recordIs G d w.book w.day)) NoWord
+      cond (not (eqb (length buffer) record_bytes)) (Other 255 4)
+      (cond (not (record_is G d w.book w.day)) NoWord
       (cond (one_file_rule w) OneFile log_answer))
 
   unfoldable pub book_answer : Bytes → Pick

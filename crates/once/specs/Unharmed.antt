@@ -9,7 +9,7 @@ use Rattle.format.specs.Diskette.{Bytes, Geometry, Sound, Long, extent_records}
 use Rattle.format.specs.Entries.{entry_at, ex_of, is_file_rule}
 use Rattle.format.specs.Dates.{is_dates}
 use Rattle.format.specs.Consistent.{consistent}
-use Rattle.format.specs.Notes.{note_at_rule, free_note, recordedNote, is_pending, map_right}
+use Rattle.format.specs.Notes.{note_at_rule, free_note, recorded_note, is_pending, map_right}
 use Rattle.facts.specs.Naming.{file_named}
 use Rattle.disk.specs.Places.{block_once}
 use Rattle.consistency.specs.Naming.{file_found}
@@ -248,11 +248,11 @@ module _ {G : Geometry} (S : Sound G) (countable : G.per_block * G.blocks < 1677
 
   -- each note stays, or that of a free block becomes recorded
   pub notes_unharmed : (b : ℕ) → b < G.blocks → (note_at_rule (picked G t w d buffer).disk.drive.map b ≡ note_at_rule d.drive.map b)
-      ⊎ ((note_at_rule d.drive.map b ≡ free_note) × (note_at_rule (picked G t w d buffer).disk.drive.map b ≡ recordedNote))
+      ⊎ ((note_at_rule d.drive.map b ≡ free_note) × (note_at_rule (picked G t w d buffer).disk.drive.map b ≡ recorded_note))
   notes_unharmed b low = go left
     where
       go : Left G t w d (picked G t w d buffer) → (note_at_rule (picked G t w d buffer).disk.drive.map b ≡ note_at_rule d.drive.map b)
-          ⊎ ((note_at_rule d.drive.map b ≡ free_note) × (note_at_rule (picked G t w d buffer).disk.drive.map b ≡ recordedNote))
+          ⊎ ((note_at_rule d.drive.map b ≡ free_note) × (note_at_rule (picked G t w d buffer).disk.drive.map b ≡ recorded_note))
       go (same f r) = inl (ap (λ (m : Bytes). note_at_rule m b) r.map)
       go (more p y g) =
           let here : note_at_rule g.mid.drive.map b ≡ note_at_rule d.drive.map b = ap (λ (m : Bytes). note_at_rule m b) g.before.map in

@@ -6,7 +6,7 @@ use Rattle.std.proofs.Common.{◌∙◌, arith}
 use Rattle.std.proofs.Math.Bool.{true, cond, not}
 use borrow.Author.Tests.{eqb-true, eq-eqb, ltb-false, le-ltb, not-true}
 use Rattle.lists.specs.Tests.{and_left, and_right, and_both}
-use Rattle.format.specs.Diskette.{Bytes, Geometry, Sound, recordBytes}
+use Rattle.format.specs.Diskette.{Bytes, Geometry, Sound, record_bytes}
 use Rattle.format.specs.Entries.{entry_at}
 use Rattle.format.specs.Found.{is_found}
 use Rattle.facts.specs.Found.{is_found_law}
@@ -45,7 +45,7 @@ pub record CanRead (G : Geometry) (t : Time) (w : Wanted) (d : Disk) (buffer : B
   pub timed : Timed t
   pub sane : Sane G d
   pub first : First G (seen_on G d) d.session.user (fcb_of_rule w.book)
-  pub long : length buffer ≡ recordBytes
+  pub long : length buffer ≡ record_bytes
   pub stored : Stored G (seen_on G d) d.session.user (fcb_of_rule w.book) w.day (bytes_are G d w.book w.day)
 
 module _ {G : Geometry} (t : Time) (w : Wanted) (d : Disk) (buffer : Bytes) where
@@ -67,7 +67,7 @@ module _ {G : Geometry} (t : Time) (w : Wanted) (d : Disk) (buffer : Bytes) wher
         stored = is_stored_law G (seen_on G d) d.session.user (fcb_of_rule w.book) w.day (and_right _ _ f);
       }
 
-  pub read_can : (v : Bytes) → w.day ≤ last_day → Timed t → Sane G d → First G (seen_on G d) d.session.user (fcb_of_rule w.book) → length buffer ≡ recordBytes
+  pub read_can : (v : Bytes) → w.day ≤ last_day → Timed t → Sane G d → First G (seen_on G d) d.session.user (fcb_of_rule w.book) → length buffer ≡ record_bytes
       → Stored G (seen_on G d) d.session.user (fcb_of_rule w.book) w.day v → (has_word G t w d buffer ≡ true) × (bytes_are G d w.book w.day ≡ v)
   unfolding has_word
   read_can v day timed sane first long k = (
@@ -99,7 +99,7 @@ module _ {G : Geometry} (S : Sound G) (countable : G.per_block * G.blocks < 1677
       let h : has_word G t w d buffer ≡ false = sym x.given ∙ g in x.word ∙ rw h
 
   -- whenever it can be read it is handed out, whatever the answer
-  pub word_handed_out : w.day ≤ last_day → length buffer ≡ recordBytes → (v : Bytes) → ReadsAs G (call_at t 0) d (fcb_of_rule w.book) w.day v
+  pub word_handed_out : w.day ≤ last_day → length buffer ≡ record_bytes → (v : Bytes) → ReadsAs G (call_at t 0) d (fcb_of_rule w.book) w.day v
       → ((picked G t w d buffer).given ≡ true) × ((picked G t w d buffer).word ≡ v)
   unfolding time_right_rule
   word_handed_out day long v k =

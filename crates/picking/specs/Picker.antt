@@ -4,7 +4,7 @@ use Rattle.lists.specs.Tests.{◌and◌, ◌or◌}
 use Rattle.lists.specs.Below.{all_below}
 use Rattle.lists.specs.Fold.{fold_below}
 use Rattle.lists.specs.Splice.{splice, copies}
-use Rattle.format.specs.Diskette.{Bytes, Geometry, recordBytes}
+use Rattle.format.specs.Diskette.{Bytes, Geometry, record_bytes}
 use Rattle.format.specs.Names.{name_like_rule}
 use Rattle.format.specs.Fcb.{fcb_bytes, random_of_rule}
 use Rattle.model.specs.declared.Asked.{Asked}
@@ -47,7 +47,7 @@ fcb_of_rule name = splice (copies fcb_bytes 0) 1 name
 
 -- a buffer whose bytes do not matter
 unfoldable pub blank : Bytes
-blank = copies recordBytes 0
+blank = copies record_bytes 0
 
 -- the digit of n at a power of ten
 abbrev pub digit : ℕ → ℕ → ℕ

@@ -1,7 +1,7 @@
 // The calls that look for no entry. Each is handed only what it reads or changes; what it promises holds whatever the other buffers
 // are. A quiet call that no row of the table names promises what its rule tells, the others their own step.
 ghost use Rattle.std.specs.Prelude.{◌≡◌, length};
-ghost use Rattle.format.specs.Diskette.{Bytes, eight_inch, recordBytes};
+ghost use Rattle.format.specs.Diskette.{Bytes, eight_inch, record_bytes};
 ghost use Rattle.format.specs.Entries.{entry_at};
 ghost use Rattle.facts.specs.Marks.{Marked, mark_count};
 ghost use Rattle.format.specs.Fcb.{fcb_bytes};
@@ -67,7 +67,7 @@ pub fn random_record(fcb: &mut [u8], session: Session) -> Answer
 
 // 46: the records of the free blocks into the buffer's first three bytes.
 pub fn free_space(map: &[u16], buffer: &mut [u8], session: Session) -> Answer
-    requires { (length map.now ≡ eight_inch.blocks) × (length buffer.old ≡ recordBytes) }
+    requires { (length map.now ≡ eight_inch.blocks) × (length buffer.old ≡ record_bytes) }
     ensures { (image fcb : Bytes) → let l = lend image map.now fcb buffer.old in
         outcome result image map.now fcb buffer.new ≡ quietly (space eight_inch session l) session l }
 {

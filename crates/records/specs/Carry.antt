@@ -107,17 +107,17 @@ module _ (G : Geometry) (s : Session) (l : Lent) (n : ℕ) where
 -- ---- a record call: refused with nothing changed, by its ruling or by the protection, or the plan carried out
 module _ (G : Geometry) (asked : Asked) (l : Lent) (s : Session) (r : Answer)
     (which : of_record (kind_of asked.number) ≡ true) (only : protected s ≡ true → kind_of asked.number ≡ Read) where
-  pub record-refused : (code : Code) → ruling G asked.number s.user l ≡ Refuse code → r ≡ answer_of code (refused_session code s)
+  pub record_refused : (code : Code) → ruling G asked.number s.user l ≡ Refuse code → r ≡ answer_of code (refused_session code s)
       → record { answer = r; lent = l } ≡ ready_step G asked l s
-  record-refused code q h = rw (ready_own G asked l s (refuse_spared G asked l s only code q), own_record G asked l s which, q, h)
+  record_refused code q h = rw (ready_own G asked l s (refuse_spared G asked l s only code q), own_record G asked l s which, q, h)
 
-  pub record-stopped : (p : Plan) → ruling G asked.number s.user l ≡ Follow p → (protected s and plan_changes G l p) ≡ true
+  pub record_stopped : (p : Plan) → ruling G asked.number s.user l ≡ Follow p → (protected s and plan_changes G l p) ≡ true
       → r ≡ answer_of Protected (refused_session Protected s) → record { answer = r; lent = l } ≡ ready_step G asked l s
-  record-stopped p q held h = rw (ready_stopped G asked l s (follow_stopped G asked l s only p q held), h)
+  record_stopped p q held h = rw (ready_stopped G asked l s (follow_stopped G asked l s only p q held), h)
 
-  pub record-carried : (p : Plan) (t : Target) (left : Lent) → ruling G asked.number s.user l ≡ Follow p → (protected s and plan_changes G l p) ≡ false
+  pub record_carried : (p : Plan) (t : Target) (left : Lent) → ruling G asked.number s.user l ≡ Follow p → (protected s and plan_changes G l p) ≡ false
       → TargetOf asked.number l.fcb t
       → r ≡ answer_of (Accepted 0) (ended s) → left ≡ transferred G (same (kind_of asked.number) Write) p t (arrived G t.extent l p)
       → record { answer = r; lent = left } ≡ ready_step G asked l s
-  record-carried p t left q free is h k =
+  record_carried p t left q free is h k =
       rw (ready_own G asked l s (follow_spared G asked l s only p q free), own_record G asked l s which, q, following_by G s l asked.number p t is (same (kind_of asked.number) Write), h, k)

@@ -1,6 +1,6 @@
 // The record calls carried out: the FCB comes to the target's extent, and a record is read or written there.
 ghost use Rattle.std.specs.Prelude.{◌≡◌, true, ◌≤◌, ◌<◌, length};
-ghost use Rattle.format.specs.Diskette.{Bytes, eight_inch, Long, recordBytes, extents, extent_records};
+ghost use Rattle.format.specs.Diskette.{Bytes, eight_inch, Long, record_bytes, extents, extent_records};
 ghost use Rattle.format.specs.Entries.{entry_at, extent_of};
 ghost use Rattle.format.specs.Consistent.{consistent};
 ghost use Rattle.format.specs.Fcb.{fcb_bytes};
@@ -145,7 +145,7 @@ pub fn record_call(
     session: Session,
     chain: &[u8],
 ) -> Answer
-    requires { (length map.old ≡ eight_inch.blocks) × (length buffer.old ≡ recordBytes) × (consistent eight_inch image.old ≡ true)
+    requires { (length map.old ≡ eight_inch.blocks) × (length buffer.old ≡ record_bytes) × (consistent eight_inch image.old ≡ true)
         × (of_record (kind_of asked.number) ≡ true) × Unchanging session asked.number
         × Findable eight_inch image.old chain.now session.user fcb.old }
     ensures { outcome result image.new map.new fcb.new buffer.new

@@ -6,7 +6,7 @@ use Rattle.std.proofs.Math.Logic.{inl, inr}
 use Rattle.std.proofs.Math.ListN.{get_or-replicate, length-replicate}
 use Rattle.lists.specs.Cases.{split, lt_or_le, eq_or_ne}
 use Rattle.lists.specs.Splice.{part, splice, length_part, length_splice, get_d_part, part_part, part_splice_same, part_splice_other, get_d_splice_out, splice_own}
-use Rattle.format.specs.Diskette.{Bytes, Geometry, Sound, recordBytes, image_bytes, disk_record, offset_of, recordAt, with_record, entry_bytes, entries_per_record, Long}
+use Rattle.format.specs.Diskette.{Bytes, Geometry, Sound, record_bytes, image_bytes, disk_record, offset_of, record_at, with_record, entry_bytes, entries_per_record, Long}
 use Rattle.format.specs.Entries.{entry_place_rule, entry_at, with_entry, user_of, empty}
 use Rattle.disk.specs.Places.{block_records, offset_fits, offset_past, offset_apart}
 
@@ -49,7 +49,7 @@ module _ {G : Geometry} (S : Sound G) where
       ∙ get_or-replicate size (entry_place_rule G e + 0) x 0 (omega (arith, entry_fits_law e h))
 
   -- no entry lies in the system tracks
-  pub entry_past : (e : ℕ) → G.reserved * G.sectors * recordBytes ≤ entry_place_rule G e
+  pub entry_past : (e : ℕ) → G.reserved * G.sectors * record_bytes ≤ entry_place_rule G e
   unfolding entry_place_rule
   entry_past e = omega (arith, offset_past S (e / entries_per_record))
 
@@ -62,7 +62,7 @@ module _ {G : Geometry} (S : Sound G) where
       (λ q. split (offset_apart S (e / entries_per_record) (f / entries_per_record) q) (λ w. inl (omega arith)) (λ w. inr (omega arith)))
 
   -- an entry and a record past the directory
-  pub entry_record_apart : (e d : ℕ) → e < G.entries → area_records G ≤ d → (entry_place_rule G e + entry_bytes ≤ offset_of G d) ⊎ (offset_of G d + recordBytes ≤ entry_place_rule G e)
+  pub entry_record_apart : (e d : ℕ) → e < G.entries → area_records G ≤ d → (entry_place_rule G e + entry_bytes ≤ offset_of G d) ⊎ (offset_of G d + record_bytes ≤ entry_place_rule G e)
   unfolding entry_place_rule
   entry_record_apart e d h past =
       split (offset_apart S (e / entries_per_record) d (λ q. omega (arith, entry_record e h))) (λ w. inl (omega arith)) (λ w. inr (omega arith))
@@ -73,22 +73,22 @@ module _ {G : Geometry} (S : Sound G) where
     length_entry_at e h = length_part img (entry_place_rule G e) entry_bytes (omega (arith, entry_fits_law e h))
 
     -- an entry is a quarter of its record
-    pub entry_in_record : (e : ℕ) → e < G.entries → part (recordAt G img (e / entries_per_record)) (e % entries_per_record * entry_bytes) entry_bytes ≡ entry_at G img e
-    unfolding entry_at entry_place_rule recordAt
+    pub entry_in_record : (e : ℕ) → e < G.entries → part (record_at G img (e / entries_per_record)) (e % entries_per_record * entry_bytes) entry_bytes ≡ entry_at G img e
+    unfolding entry_at entry_place_rule record_at
     entry_in_record e h =
-        part_part img (offset_of G (e / entries_per_record)) recordBytes (e % entries_per_record * entry_bytes) entry_bytes
+        part_part img (offset_of G (e / entries_per_record)) record_bytes (e % entries_per_record * entry_bytes) entry_bytes
         (omega (arith, offset_fits S (e / entries_per_record) (omega (arith, entry_record e h, area_within)))) (omega arith)
 
     -- the i-th row of record d
-    pub row_in_record : (d i : ℕ) → i < entries_per_record → entries_per_record * d + i < G.entries → row_of (recordAt G img d) i ≡ entry_at G img (entries_per_record * d + i)
+    pub row_in_record : (d i : ℕ) → i < entries_per_record → entries_per_record * d + i < G.entries → row_of (record_at G img d) i ≡ entry_at G img (entries_per_record * d + i)
     row_in_record d i h l =
         let e : ℕ = entries_per_record * d + i in
         let q : e / entries_per_record ≡ d = omega arith in
         let r : e % entries_per_record ≡ i = omega arith in
-        ap (λ (k : ℕ). row_of (recordAt G img d) k) (sym r) ∙ ap (λ (k : ℕ). row_of (recordAt G img k) (e % entries_per_record)) (sym q) ∙ entry_in_record e l
+        ap (λ (k : ℕ). row_of (record_at G img d) k) (sym r) ∙ ap (λ (k : ℕ). row_of (record_at G img k) (e % entries_per_record)) (sym q) ∙ entry_in_record e l
 
     -- a record past the directory leaves every entry
-    pub entry_kept : (d : ℕ) → area_records G ≤ d → d < block_records G → (bytes : Bytes) → length bytes ≡ recordBytes → (e : ℕ) → e < G.entries → entry_at G (with_record G img d bytes) e ≡ entry_at G img e
+    pub entry_kept : (d : ℕ) → area_records G ≤ d → d < block_records G → (bytes : Bytes) → length bytes ≡ record_bytes → (e : ℕ) → e < G.entries → entry_at G (with_record G img d bytes) e ≡ entry_at G img e
     unfolding entry_at with_record
     entry_kept d past below bytes whole e h =
         part_splice_other img (offset_of G d) bytes (omega (arith, offset_fits S d below)) (entry_place_rule G e) entry_bytes (omega (arith, entry_fits_law e h))
@@ -123,8 +123,8 @@ module _ {G : Geometry} (S : Sound G) where
       entry_byte_left i out = get_d_splice_out img (entry_place_rule G e) row room i (split out (λ w. inl w) (λ w. inr (omega arith)))
 
       -- no record past the directory changes
-      pub record-kept : (d : ℕ) → area_records G ≤ d → d < block_records G → recordAt G (with_entry G img e row) d ≡ recordAt G img d
-      unfolding recordAt with_entry
-      record-kept d past h =
-          part_splice_other img (entry_place_rule G e) row room (offset_of G d) recordBytes (omega (arith, offset_fits S d h))
+      pub record_kept : (d : ℕ) → area_records G ≤ d → d < block_records G → record_at G (with_entry G img e row) d ≡ record_at G img d
+      unfolding record_at with_entry
+      record_kept d past h =
+          part_splice_other img (entry_place_rule G e) row room (offset_of G d) record_bytes (omega (arith, offset_fits S d h))
           (split (entry_record_apart e d below past) (λ w. inr (omega arith)) (λ w. inl w))

@@ -2,7 +2,7 @@
 ghost use Rattle.std.specs.Prelude.{◌≡◌, ℕ, ◌+◌, ◌*◌, ◌≤◌, ◌<◌, length};
 ghost use Rattle.lists.specs.Below.{all_below};
 ghost use Rattle.lists.specs.Splice.{part};
-ghost use Rattle.format.specs.Diskette.{eight_inch, Long, image_bytes, recordBytes, recordAt, entry_bytes, entries_per_record};
+ghost use Rattle.format.specs.Diskette.{eight_inch, Long, image_bytes, record_bytes, record_at, entry_bytes, entries_per_record};
 ghost use Rattle.format.specs.Entries.{entry_place_rule, entry_at, with_entry, empty};
 ghost use Rattle.rows.specs.Entries.{row_of};
 
@@ -32,7 +32,7 @@ pub fn row(image: &[u8], e: usize) -> &[u8]
 // The rows of four entries: record d of the directory, as a part of the image. A loop over all entries takes the place of each record once.
 pub fn four_rows(image: &[u8], d: usize) -> &[u8]
     requires { Long eight_inch image.now × (entries_per_record * d < eight_inch.entries) }
-    ensures { (result.now ≡ recordAt eight_inch image.now d) × (length result.now ≡ recordBytes) }
+    ensures { (result.now ≡ record_at eight_inch image.now d) × (length result.now ≡ record_bytes) }
 {
     let at = disk::offset(d);
     let end = at + format::RECORD_BYTES;
@@ -41,7 +41,7 @@ pub fn four_rows(image: &[u8], d: usize) -> &[u8]
 
 // The row that begins at a place among four. A loop over them goes from place to place.
 pub fn row_at(four: &[u8], at: usize) -> &[u8]
-    requires { (length four.now ≡ recordBytes) × (at + entry_bytes ≤ recordBytes) }
+    requires { (length four.now ≡ record_bytes) × (at + entry_bytes ≤ record_bytes) }
     ensures { (result.now ≡ part four.now at entry_bytes) × (length result.now ≡ entry_bytes) }
 {
     let end = at + ENTRY_BYTES;
@@ -50,7 +50,7 @@ pub fn row_at(four: &[u8], at: usize) -> &[u8]
 
 // Whether the first three of four rows are empty, as in most records of a directory with date entries that is not full.
 pub fn three_empty(four: &[u8]) -> bool
-    requires { length four.now ≡ recordBytes }
+    requires { length four.now ≡ record_bytes }
     ensures { result ≡ all_below (λ (i : ℕ). empty (row_of four.now i)) 3 }
 {
     let mut at = 0;
@@ -65,7 +65,7 @@ pub fn three_empty(four: &[u8]) -> bool
 
 // Whether all four are, as in most records of a directory without date entries.
 pub fn all_empty(four: &[u8]) -> bool
-    requires { length four.now ≡ recordBytes }
+    requires { length four.now ≡ record_bytes }
     ensures { result ≡ all_below (λ (i : ℕ). empty (row_of four.now i)) entries_per_record }
 {
     if !three_empty(four) {

@@ -33,7 +33,7 @@ use Rattle.current.specs.Current.{fcb_says, current_slot, current_low}
 use Rattle.consistency.specs.Naming.{file_used}
 use Rattle.model.specs.Closing.{closed_image}
 use Rattle.fields.specs.Images.{row_closed_image_other}
-use Rattle.fields.specs.Target.{record-below, cr_after_high, target_slot_below}
+use Rattle.fields.specs.Target.{record_below, cr_after_high, target_slot_below}
 use Rattle.table.specs.First.{NoneHolds, passed_none}
 use Rattle.table.specs.Present.{file_extent_below}
 use Rattle.table.specs.Facts.{Reads, Writes}
@@ -90,8 +90,8 @@ module _ {G : Geometry} (S : Sound G) (single : (x : ℕ) → run_of G x ≡ x) 
     e_below : e < G.entries
     e_below = current_low G (rows_of G l) l.drive.map s.user l.fcb e present
 
-    record-low : target_record n l.fcb < 128
-    record-low = record-below n l.fcb (fcb_says l.fcb present.right).cr
+    record_low : target_record n l.fcb < 128
+    record_low = record_below n l.fcb (fcb_says l.fcb present.right).cr
 
     after_low : cr_after n l.fcb ≤ 128
     after_low = cr_after_high n l.fcb (fcb_says l.fcb present.right).cr
@@ -158,7 +158,7 @@ module _ {G : Geometry} (S : Sound G) (single : (x : ℕ) → run_of G x ≡ x) 
     on_disk = rw (← q) (plan_on_disk B k (plan G n s.user l) planned);
     own = rw (← q) (plan_own B (plan G n s.user l) planned);
     extent = below;
-    at = record-low entry.place entry.is;
+    at = record_low entry.place entry.is;
     after = after_low entry.place entry.is;
   }
 

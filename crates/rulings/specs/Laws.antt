@@ -23,14 +23,14 @@ use Rattle.model.specs.declared.Code.TheVariants.{BadRecord, NotCurrent, ReadOnl
 use Rattle.model.specs.declared.Plan.{Plan}
 use Rattle.model.specs.declared.Plan.TheVariants.{Make}
 use Rattle.model.specs.Lent.{Lent, rows_of}
-use Rattle.model.specs.Target.{target_extent, target_record, target_slot, present_entry, stays, within, target_entry, block_there, count_there, recordThere, target_block, read_only_in, read_only_there, plan_from, plan}
+use Rattle.model.specs.Target.{target_extent, target_record, target_slot, present_entry, stays, within, target_entry, block_there, count_there, record_there, target_block, read_only_in, read_only_there, plan_from, plan}
 use Rattle.model.specs.declared.Verdict.{Verdict}
 use Rattle.model.specs.declared.Kind.TheVariants.{Write}
 use Rattle.model.specs.Kinds.{kind_of, same}
 use Rattle.model.specs.Table.{Row, when, first_row}
 use Rattle.facts.specs.Current.{current_says}
 use Rattle.current.specs.Current.{fcb_says}
-use Rattle.fields.specs.Target.{record-below}
+use Rattle.fields.specs.Target.{record_below}
 use Rattle.fields.specs.OneExtent.{within_extent, within_stays}
 use Rattle.table.specs.First.{◌&◌, NoneHolds, Decides, here, later, first_passes, none_passed, decides_refused}
 use Rattle.table.specs.Present.{stays_within, same_entry, other_entry, make_beyond, make_block}
@@ -124,11 +124,11 @@ module _ (G : Geometry) (n user : ℕ) (l : Lent) (e : ℕ) (at : present_entry 
   read_missing q = refuses (missing_code n NoExtent) _ _ (here (missed_row _ q) refl)
 
   read_found : (t : ℕ) → target_entry G n user l ≡ At t → read_told ≡ read_to_rule G (rows_of G l) l.fcb e t (target_slot G n l.fcb) (target_record n l.fcb)
-  unfolding read_rows read_to_rule recordThere
+  unfolding read_rows read_to_rule record_there
   read_found t q =
       let chosen : Bool → Ruling = λ (x : Bool). cond x (Follow (go_to_rule e t (block_there G n user l))) (Refuse NoRecord) in
       rw (← block_by G n user l e at t q, ← count_by G n user l e at t q single)
-      (split (bool_cases (recordThere G n user l))
+      (split (bool_cases (record_there G n user l))
       (λ y. follows _ _ _ (found_row _ q & ap not y & tt)
       (plan_by G n user l e at t q single (block_there G n user l) (block_there_law G n user l (not-true _ (and_right _ _ y)))) ∙ sym (ap chosen y))
       (λ f. refuses NoRecord _ _ (later (found_row _ q) (here (ap not f) refl)) ∙ sym (ap chosen f)))
@@ -201,7 +201,7 @@ module _ (G : Geometry) (n user : ℕ) (l : Lent) (e : ℕ) (at : present_entry 
 -- the target's record is one of an extent's
 pub target_low : (G : Geometry) (d : Rows) (map : Bytes) (user : ℕ) (fcb : Bytes) (e n : ℕ) (t : Target)
     → current G d map user fcb ≡ At e → TargetOf n fcb t → t.at < 128
-target_low G d map user fcb e n t q is = rw is.at (record-below n fcb (fcb_says fcb (current_says G d map user fcb e q).right).cr)
+target_low G d map user fcb e n t q is = rw is.at (record_below n fcb (fcb_says fcb (current_says G d map user fcb e q).right).cr)
 
 -- ---- the parts, from what the callees have answered
 module _ (G : Geometry) (d : Rows) (fcb : Bytes) (e t j r : ℕ) where

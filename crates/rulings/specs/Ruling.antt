@@ -18,7 +18,7 @@ use Rattle.model.specs.declared.Plan.TheVariants.{Make}
 use Rattle.model.specs.declared.Kind.TheVariants.{Write}
 use Rattle.model.specs.Kinds.{kind_of, same}
 use Rattle.model.specs.Lent.{Lent, rows_of}
-use Rattle.model.specs.Target.{target_extent, present_entry, target_entry, block_there, recordThere, read_only_there, plan, read_only_in}
+use Rattle.model.specs.Target.{target_extent, present_entry, target_entry, block_there, record_there, read_only_there, plan, read_only_in}
 use Rattle.model.specs.Table.{Row, when, first_row}
 use Rattle.targets.specs.Target.{over_last_rule, missing_code, arrived_slot_rule, arrived_count_rule, go_to_rule}
 use Rattle.rulings.specs.declared.Ruling.{Ruling}
@@ -32,7 +32,7 @@ ruling_of (Refused code) p = Refuse code
 module _ (G : Geometry) (n user : ℕ) (l : Lent) where
   -- the rows of 20 and 33 where the FCB is current
   unfoldable pub read_rows : List Row
-  read_rows = when (not (is_found (target_entry G n user l))) (missing_code n NoExtent) ∷ when (not (recordThere G n user l)) NoRecord ∷ []
+  read_rows = when (not (is_found (target_entry G n user l))) (missing_code n NoExtent) ∷ when (not (record_there G n user l)) NoRecord ∷ []
 
   -- those of 21 and 34
   unfoldable pub write_rows : List Row

@@ -6,7 +6,7 @@ use Rattle.std.proofs.Math.Bool.{true, not}
 use Rattle.std.proofs.lemmas.Bool.{lt-leb}
 use Rattle.lists.specs.Cases.{split, bool_cases, lt_or_le}
 use Rattle.lists.specs.Tests.{◌and◌, ◌or◌, and_then, and_left, and_right}
-use Rattle.format.specs.Diskette.{Bytes, Geometry, recordAt, entries_per_record}
+use Rattle.format.specs.Diskette.{Bytes, Geometry, record_at, entries_per_record}
 use Rattle.format.specs.Names.{name_right_rule}
 use Rattle.format.specs.Entries.{ex_of}
 use Rattle.format.specs.Found.{number_of, is_found}
@@ -63,7 +63,7 @@ module _ (G : Geometry) (s : Session) (l : Lent) where
   -- the match at e, answered
   pub answers_found : (pattern : Bytes) (place e : ℕ) (r : Answer) (after : Session) (buffer : Bytes)
       → find_hit_rule G (rows_of G l) s.user pattern place ≡ At e
-      → r ≡ answer_of (Accepted (entry_number e)) after → after ≡ searching s pattern (e + 1) → buffer ≡ recordAt G l.drive.image (e / entries_per_record)
+      → r ≡ answer_of (Accepted (entry_number e)) after → after ≡ searching s pattern (e + 1) → buffer ≡ record_at G l.drive.image (e / entries_per_record)
       → outcome r l.drive.image l.drive.map l.fcb buffer ≡ searched_from pattern place
   unfolding searched found_at
   answers_found pattern place e r after buffer q a n b =

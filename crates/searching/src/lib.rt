@@ -1,6 +1,6 @@
 // The searches, calls 17 and 18. Each is handed only what it reads or changes; what it promises holds whatever the other buffers are.
 ghost use Rattle.std.specs.Prelude.{◌≡◌, length};
-ghost use Rattle.format.specs.Diskette.{Bytes, eight_inch, recordBytes, Long};
+ghost use Rattle.format.specs.Diskette.{Bytes, eight_inch, record_bytes, Long};
 ghost use Rattle.format.specs.Fcb.{fcb_bytes};
 ghost use Rattle.model.specs.Lent.{lend, outcome};
 ghost use Rattle.table.specs.Own.{calling};
@@ -20,7 +20,7 @@ fn first_match(
     buffer: &mut [u8],
     session: Session,
 ) -> Answer
-    requires { Long eight_inch image.now × (length buffer.old ≡ recordBytes) }
+    requires { Long eight_inch image.now × (length buffer.old ≡ record_bytes) }
     ensures { (map fcb : Bytes) → outcome result image.now map fcb buffer.new
         ≡ searched_from eight_inch session (lend image.now map fcb buffer.old) pattern from }
 {
@@ -49,7 +49,7 @@ fn pattern_right(fcb: &[u8]) -> bool
 
 // 17: the first entry that the FCB's name and byte 12 match.
 pub fn search_first(image: &[u8], fcb: &[u8], buffer: &mut [u8], session: Session) -> Answer
-    requires { Long eight_inch image.now × (length fcb.now ≡ fcb_bytes) × (length buffer.old ≡ recordBytes) }
+    requires { Long eight_inch image.now × (length fcb.now ≡ fcb_bytes) × (length buffer.old ≡ record_bytes) }
     ensures { (asked : Asked) (map : Bytes) → outcome result image.now map fcb.now buffer.new
         ≡ own_step eight_inch (calling 17 asked) (lend image.now map fcb.now buffer.old) session }
 {
@@ -63,7 +63,7 @@ pub fn search_first(image: &[u8], fcb: &[u8], buffer: &mut [u8], session: Sessio
 
 // 18: the next entry that the session's pattern matches.
 pub fn search_next(image: &[u8], buffer: &mut [u8], session: Session) -> Answer
-    requires { Long eight_inch image.now × (length buffer.old ≡ recordBytes) }
+    requires { Long eight_inch image.now × (length buffer.old ≡ record_bytes) }
     ensures { (asked : Asked) (map fcb : Bytes) → outcome result image.now map fcb buffer.new
         ≡ own_step eight_inch (calling 18 asked) (lend image.now map fcb buffer.old) session }
 {

@@ -28,7 +28,7 @@ use Rattle.model.specs.Table.{asked_entry, own_rows}
 use Rattle.model.specs.Stamps.{Stamp, time_stamp_rule, access_stamps, close_stamps, new_stamps, create_stamps, stamps_by}
 use Rattle.table.specs.First.{NoneHolds}
 use Rattle.table.specs.Own.{calling, same_is}
-use Rattle.table.specs.Stamping.{record-stamps}
+use Rattle.table.specs.Stamping.{record_stamps}
 use Rattle.table.specs.Accept.{opens_of, closes_of, makes_of, reads_of, writes_by}
 use Rattle.stamps.specs.declared.Due.{Due}
 use Rattle.facts.specs.Beside.{Beside}
@@ -91,7 +91,7 @@ module _ (G : Geometry) (asked : Asked) (l : Lent) (s : Session) where
   -- ---- the record calls: the plan is that of their definition
   pub stay_stamps : of_record (kind_of asked.number) ≡ true → stays asked.number l.fcb ≡ true → stamps_by G asked l s (kind_of asked.number) ≡ []
   unfolding plan plan_from
-  stay_stamps h t = record-stamps G asked l s (kind_of asked.number) h ∙ rw t
+  stay_stamps h t = record_stamps G asked l s (kind_of asked.number) h ∙ rw t
 
   -- one whose rows pass has an entry, and one for its target unless a write finds room for it
   module _ (right : consistent G l.drive.image ≡ true) (low : s.user ≤ 15) (which : of_record (kind_of asked.number) ≡ true) where
@@ -114,7 +114,7 @@ module _ (G : Geometry) (asked : Asked) (l : Lent) (s : Session) where
     module _ (u : Found) (e : ℕ) (is : u ≡ updated_if G l.drive.image l.fcb e) (at : present_entry G s.user l ≡ At e) (goes : stays asked.number l.fcb ≡ false) where
       pub moves_due : (t : ℕ) → target_entry G asked.number s.user l ≡ At t → Dues G asked l s record { update = u; new = Nothing; first = Nothing }
       unfolding plan plan_from
-      moves_due t there none = move_due u e is ∙ sym (record-stamps G asked l s (kind_of asked.number) which ∙ rw (at, goes, there))
+      moves_due t there none = move_due u e is ∙ sym (record_stamps G asked l s (kind_of asked.number) which ∙ rw (at, goes, there))
 
       pub makes_due : (new : Found) → new ≡ find_empty_rule G (rows_of G l) → target_entry G asked.number s.user l ≡ Nothing
           → Dues G asked l s record { update = u; new = new; first = Nothing }
@@ -122,7 +122,7 @@ module _ (G : Geometry) (asked : Asked) (l : Lent) (s : Session) where
       makes_due new free missing none =
           let f = room none missing in
           let w : new ≡ At f.place = free ∙ f.is in
-          rw w (make_due u e f.place is ∙ sym (record-stamps G asked l s (kind_of asked.number) which ∙ rw (at, goes, missing, f.is)))
+          rw w (make_due u e f.place is ∙ sym (record_stamps G asked l s (kind_of asked.number) which ∙ rw (at, goes, missing, f.is)))
 
 -- ---- 15, 16 and 22
 module _ (G : Geometry) (asked : Asked) (l : Lent) (s : Session) where

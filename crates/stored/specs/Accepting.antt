@@ -11,7 +11,7 @@ use Rattle.lists.specs.Cases.{split, bool_cases, eq_or_ne, not_both}
 use Rattle.lists.specs.Tests.{◌or◌, and_left, and_right}
 use Rattle.lists.specs.Count.{count_high, count_empty, count_zero}
 use Rattle.lists.specs.Splice.{splice}
-use Rattle.format.specs.Diskette.{Bytes, Geometry, Sound, recordBytes, slot_count, extent_records, extents}
+use Rattle.format.specs.Diskette.{Bytes, Geometry, Sound, record_bytes, slot_count, extent_records, extents}
 use Rattle.format.specs.Entries.{entry_at, with_entry, slot_of, extent_of, run_of, count_of, count_in, end_of, read_only, empty, used, is_file_rule, find_file_rule}
 use Rattle.format.specs.Dates.{is_dates}
 use Rattle.format.specs.Notes.{note_at_rule, free_note, find_free, free_count_rule, is_free}
@@ -26,7 +26,7 @@ use Rattle.facts.specs.Found.{FoundAt, FirstAt, found_cases, found_row, at_not_n
 use Rattle.facts.specs.Find.{empty_test, empty_says}
 use Rattle.consistency.specs.Reflect.{low_used, used_no_dates, empty_no_dates}
 use Rattle.consistency.specs.Naming.{file_found}
-use Rattle.rows.specs.Entries.{entry_stored, entry_left, record-kept}
+use Rattle.rows.specs.Entries.{entry_stored, entry_left, record_kept}
 use Rattle.notes.specs.Free.{free_is, none_free}
 use Rattle.model.specs.declared.Asked.{Asked}
 use Rattle.model.specs.declared.Kind.{Kind}
@@ -79,7 +79,7 @@ protection_left G d q = ap (λ (b : ℕ). eqb b 0) (lifted_left G d q)
 
 -- ---- 16 after an accepted write
 module _ {G : Geometry} (S : Sound G) (d : Disk) (w : Request) (writes : kind_of w.asked.number ≡ Write) (accepted : accepts G d w ≡ true)
-    (a : Asked) (time : time_right_rule a ≡ true) (buffer : Bytes) (whole : length buffer ≡ recordBytes) where
+    (a : Asked) (time : time_right_rule a ≡ true) (buffer : Bytes) (whole : length buffer ≡ record_bytes) where
   abbrev mid : Disk
   mid = left (outcome_of G d w)
 
@@ -106,7 +106,7 @@ module _ {G : Geometry} (S : Sound G) (d : Disk) (w : Request) (writes : kind_of
 
 -- ---- 34 through a fresh FCB, in its own extent
 module _ {G : Geometry} (S : Sound G) (d : Disk) (f : Bytes) (e : ℕ) (k : Fresh G d f e) (unprotected : protected d.session ≡ false)
-    (a : Asked) (time : time_right_rule a ≡ true) (buffer : Bytes) (whole : length buffer ≡ recordBytes)
+    (a : Asked) (time : time_right_rule a ≡ true) (buffer : Bytes) (whole : length buffer ≡ record_bytes)
     (writable : read_only (entry_at G d.drive.image e) ≡ false) (r : ℕ) (here : r / extent_records ≡ extent_of f) (free : FoundAt (find_free G d.drive.map)) where
   abbrev q : Request
   q = asks a 34 (at_record_rule f r) buffer
@@ -315,7 +315,7 @@ module _ {G : Geometry} (S : Sound G) (d : Disk) (q : Request) (number : q.asked
     slots = λ j. ap (λ (r : Bytes). slot_of G r j) new_row ∙ slot_made d.session.user q.fcb G j;
     others = λ e l n z. alike.row e l (ap is_dates (own_others e l z) ∙ n) ∙ own_others e l z;
     dates = dates_stay;
-    recs = λ x a b. alike.recs x a b ∙ record-kept S d.drive.image sane.good.image_long new room.below row row_long x a b;
+    recs = λ x a b. alike.recs x a b ∙ record_kept S d.drive.image sane.good.image_long new room.below row row_long x a b;
     map = map_is;
     user = user_is;
   }

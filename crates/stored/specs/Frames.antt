@@ -9,11 +9,11 @@ use Rattle.lists.specs.Splice.{get_d_part}
 use Rattle.disk.specs.Places.{block_records, block_record, offset_fits}
 use Rattle.rows.specs.Entries.{area_records, block_past}
 use Rattle.model.specs.Target.{place_in}
-use Rattle.format.specs.Diskette.{Bytes, Geometry, Sound, recordBytes, slot_count, Long, offset_of, recordAt}
+use Rattle.format.specs.Diskette.{Bytes, Geometry, Sound, record_bytes, slot_count, Long, offset_of, record_at}
 use Rattle.format.specs.Entries.{ex_of, Rows, entry_at, slot_of, named, used, empty}
 use Rattle.format.specs.Names.{seven_bits}
 use Rattle.format.specs.Dates.{is_dates, fourth_of}
-use Rattle.format.specs.Notes.{note_at_rule, free_note, area_note, recordedNote, pending_for}
+use Rattle.format.specs.Notes.{note_at_rule, free_note, area_note, recorded_note, pending_for}
 use Rattle.facts.specs.Beside.{fourth_below}
 use Rattle.facts.specs.Naming.{file_named}
 use Rattle.facts.specs.Slots.{slot_place}
@@ -141,7 +141,7 @@ module _ {G : Geometry} (S : Sound G) (d : Disk) (q : Request) (f : Bytes) (alik
 
 -- ---- record x written through a fresh FCB, and the close
 module _ {G : Geometry} (S : Sound G) (d : Disk) (f : Bytes) (e : ℕ) (k : Fresh G d f e) (x : ℕ) (small : x < 262144) (a : Asked) (buffer : Bytes)
-    (accepted : accepts G d (write_record a f x buffer) ≡ true) (b : Asked) (time : time_right_rule b ≡ true) (cb : Bytes) (whole : length cb ≡ recordBytes) where
+    (accepted : accepts G d (write_record a f x buffer) ≡ true) (b : Asked) (time : time_right_rule b ≡ true) (cb : Bytes) (whole : length cb ≡ record_bytes) where
   abbrev w : Request
   w = write_record a f x buffer
 
@@ -181,7 +181,7 @@ module _ {G : Geometry} (S : Sound G) (d : Disk) (f : Bytes) (e : ℕ) (k : Fres
 -- a block that is pending is so for a used entry
 note_used : (G : Geometry) (d : Rows) (y n : ℕ) → NoteOk G d y n → (e j : ℕ) → j < slot_count → n ≡ pending_for e j → (e < G.entries) × (used (d e) ≡ true)
 note_used G d y n (ok_area q h) e j l p = absurd (pending_not area_note (omega arith) e j (sym p ∙ q))
-note_used G d y n (ok_recorded q h i) e j l p = absurd (pending_not recordedNote (omega arith) e j (sym p ∙ q))
+note_used G d y n (ok_recorded q h i) e j l p = absurd (pending_not recorded_note (omega arith) e j (sym p ∙ q))
 note_used G d y n (ok_free q s) e j l p = absurd (pending_not free_note (omega arith) e j (sym p ∙ q))
 note_used G d y n (ok_pending i k q h m t s) e j l p =
     let z = (pending_once i k e j (slot_place G m) l (sym q ∙ p)).0 in
@@ -252,7 +252,7 @@ module _ {G : Geometry} (S : Sound G) (d : Disk) (m : Request) (number : m.asked
 
   -- ---- record 0 is written, and the file closed
   module _ (a : Asked) (buffer : Bytes) (accepted : accepts G new (write_record a (outcome_of G d m).lent.fcb 0 buffer) ≡ true)
-      (b : Asked) (time : time_right_rule b ≡ true) (cb : Bytes) (whole : length cb ≡ recordBytes) where
+      (b : Asked) (time : time_right_rule b ≡ true) (cb : Bytes) (whole : length cb ≡ record_bytes) where
     abbrev f : Bytes
     f = (outcome_of G d m).lent.fcb
 
@@ -344,22 +344,22 @@ theirs_past G img map g N b low (was_free z) = (spare_free G (view_of G img map)
 theirs_past G img map g N b low (was_theirs e m n) = mine_low G (view_of G img map) g.inv b e m
 
 -- one byte of a record
-pub record-byte : {G : Geometry} (S : Sound G) (img img' : Bytes) → Long G img → Long G img' → (x : ℕ) → x < block_records G → recordAt G img' x ≡ recordAt G img x
+pub record_byte : {G : Geometry} (S : Sound G) (img img' : Bytes) → Long G img → Long G img' → (x : ℕ) → x < block_records G → record_at G img' x ≡ record_at G img x
     → (i : ℕ) → InRecord G x i → get_or img' i 0 ≡ get_or img i 0
-unfolding recordAt
-record-byte {G} S img img' long long' x low same i p =
+unfolding record_at
+record_byte {G} S img img' long long' x low same i p =
     let fits = offset_fits S x low in
     let from = p.from in
     let upto = p.upto in
     let k : ℕ = i - offset_of G x in
     let q : offset_of G x + (i - offset_of G x) ≡ i = omega arith in
     subst (λ (j : ℕ). get_or img' j 0 ≡ get_or img j 0) q
-    (sym (get_d_part img' (offset_of G x) recordBytes (omega arith) (i - offset_of G x) (omega arith)) ∙ ap (λ (b : Bytes). get_or b (i - offset_of G x) 0) same
-    ∙ get_d_part img (offset_of G x) recordBytes (omega arith) (i - offset_of G x) (omega arith))
+    (sym (get_d_part img' (offset_of G x) record_bytes (omega arith) (i - offset_of G x) (omega arith)) ∙ ap (λ (b : Bytes). get_or b (i - offset_of G x) 0) same
+    ∙ get_d_part img (offset_of G x) record_bytes (omega arith) (i - offset_of G x) (omega arith))
 
 -- where one record alone may have changed, a byte of such a block stays or lies in it
 pub block_byte : {G : Geometry} (S : Sound G) (img map mid img' : Bytes) → Good G img map → Long G mid → Long G img' → (user : ℕ) (f : Bytes) (place : ℕ)
-    → ((x : ℕ) → area_records G ≤ x → x < block_records G → (x ≡ place → ⊥) → recordAt G img' x ≡ recordAt G mid x)
+    → ((x : ℕ) → area_records G ≤ x → x < block_records G → (x ≡ place → ⊥) → record_at G img' x ≡ record_at G mid x)
     → (i x : ℕ) → InRecord G x i → FileBlock G img map user f x → (get_or img' i 0 ≡ get_or mid i 0) ⊎ (x ≡ place)
 unfolding place_in
 block_byte {G} S img map mid img' good long long' user f place recs i x p h =
@@ -368,7 +368,7 @@ block_byte {G} S img map mid img' good long long' user f place recs i x p h =
     let r : ℕ = h.place % G.per_block in
     split (eq_or_ne x place) (λ q. inr q)
     (λ q. let low : x < block_records G = rw h.one.is (block_record G h.block (h.place % G.per_block) h.one.below (mod-lt h.place S.some_record)) in
-    inl (record-byte S mid img' long long' x low
+    inl (record_byte S mid img' long long' x low
     (recs x (rw h.one.is (block_past G h.block (h.place % G.per_block) past)) low q) i p))
 
 -- access stamps of a file are a frame of it

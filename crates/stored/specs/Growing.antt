@@ -3,7 +3,7 @@ use Rattle.std.specs.Prelude.{◌≡◌, true, false, ℕ, ◌+◌, ◌/◌, ◌
 use Rattle.std.proofs.Math.Path.{refl, ap, subst}
 use Rattle.std.proofs.Common.{sym, ◌∙◌, inl, arith}
 use Rattle.lists.specs.Cases.{split, eq_or_ne}
-use Rattle.format.specs.Diskette.{Bytes, Geometry, Sound, Long, recordBytes, extent_records}
+use Rattle.format.specs.Diskette.{Bytes, Geometry, Sound, Long, record_bytes, extent_records}
 use Rattle.format.specs.Entries.{entry_at, extent_of, is_file_rule, used, find_file_rule}
 use Rattle.format.specs.Dates.{is_dates}
 use Rattle.format.specs.Names.{seven_bits}
@@ -178,7 +178,7 @@ module _ {G : Geometry} (S : Sound G) (d : Disk) (f : Bytes) (e : ℕ) (k : Fres
   write_only = wrote_one.only
 
   -- ---- the close
-  module _ (b : Asked) (time : time_right_rule b ≡ true) (cb : Bytes) (whole : length cb ≡ recordBytes) where
+  module _ (b : Asked) (time : time_right_rule b ≡ true) (cb : Bytes) (whole : length cb ≡ record_bytes) where
     abbrev c : Request
     c = close_back G d q b cb
 

@@ -7,7 +7,7 @@ use Rattle.lists.specs.Cases.{split, eq_or_ne, not_both}
 use Rattle.format.specs.Diskette.{Bytes, Geometry, Sound, slot_count, extent_records}
 use Rattle.format.specs.Entries.{entry_at, slot_of, slot_for_rule, extent_of, run_of, end_of, count_in, is_file_rule, named, empty, used}
 use Rattle.format.specs.Dates.{is_dates}
-use Rattle.format.specs.Notes.{free_note, recordedNote}
+use Rattle.format.specs.Notes.{free_note, recorded_note}
 use Rattle.facts.specs.Counts.{count_by_end}
 use Rattle.facts.specs.Naming.{file_named, file_run, file_intro}
 use Rattle.facts.specs.Slots.{slot_for_low}
@@ -53,7 +53,7 @@ pub record Grown (G : Geometry) (s t : View) (user : ℕ) (f : Bytes) (r : ℕ) 
   pub slot : slot_of G (t.rows entry) (slot_at_record G r) ≡ block
   pub origin : (s.notes block ≡ free_note) ⊎ (slot_of G base (slot_at_record G r) ≡ block)
   -- each note stays, but that of the record's own block, which was free and is recorded now
-  pub notes : (y : ℕ) → y < G.blocks → (t.notes y ≡ s.notes y) ⊎ ((y ≡ block) × (s.notes y ≡ free_note) × (t.notes y ≡ recordedNote))
+  pub notes : (y : ℕ) → y < G.blocks → (t.notes y ≡ s.notes y) ⊎ ((y ≡ block) × (s.notes y ≡ free_note) × (t.notes y ≡ recorded_note))
   -- the records
   pub recs : (x : ℕ) → area_records G ≤ x → x < block_records G → (x ≡ place_in G block (r % extent_records) → ⊥) → t.recs x ≡ s.recs x
   pub new : t.recs (place_in G block (r % extent_records)) ≡ v

@@ -5,7 +5,7 @@ use Rattle.std.proofs.Common.{sym, ◌∙◌, subst, arith}
 use Rattle.std.proofs.Math.Bool.{false}
 use Rattle.lists.specs.Cases.{not_both}
 use Rattle.lists.specs.Splice.{copies, length_copies}
-use Rattle.format.specs.Diskette.{Bytes, Geometry, Sound, recordBytes, extent_records}
+use Rattle.format.specs.Diskette.{Bytes, Geometry, Sound, record_bytes, extent_records}
 use Rattle.format.specs.Names.{name_right_rule}
 use Rattle.format.specs.Entries.{entry_at, ex_of, is_file_rule, named, find_file_rule, find_named_rule}
 use Rattle.format.specs.Fcb.{random_of_rule}
@@ -48,7 +48,7 @@ module _ (G : Geometry) (d : Disk) (sane : Sane G d) (f : Bytes) where
       right_cong false f 1 row 1 (like_at f 1 row 1 (named_like false d.session.user f 1 row h))
       ∙ (sane.good.inv.dir.fine e low (named_used false d.session.user f 1 row h sane.range.user)).name
 
-  module _ (begins : Begins f) (a : Asked) (time : time_right_rule a ≡ true) (buffer : Bytes) (hb : length buffer ≡ recordBytes) where
+  module _ (begins : Begins f) (a : Asked) (time : time_right_rule a ≡ true) (buffer : Bytes) (hb : length buffer ≡ record_bytes) where
     pub open_accepted : First G (seen_on G d) d.session.user f → accepts G d (asks a 15 f buffer) ≡ true
     unfolding asked_entry is_call kind_of time_right_rule
     open_accepted e =
@@ -186,7 +186,7 @@ module _ {G : Geometry} (S : Sound G) (a : Asked) (d : Disk) (f : Bytes) (begins
 
   module _ (r : ℕ) (buffer : Bytes) where
     -- a closed record is read, and is what was stored
-    module _ (v : Bytes) (k : Stored G (seen_on G d) user f r v) (hb : length buffer ≡ recordBytes) where
+    module _ (v : Bytes) (k : Stored G (seen_on G d) user f r v) (hb : length buffer ≡ record_bytes) where
       pub look_accepted : accepts G t (asks a 33 (at_record_rule g r) buffer) ≡ true
       look_accepted = stored_accepted S a t g o.at.entry o.at.fresh r buffer v (to_opened r v k) o.time hb
 
@@ -202,7 +202,7 @@ module _ {G : Geometry} (S : Sound G) (a : Asked) (d : Disk) (f : Bytes) (begins
 
 -- ---- both ways, as one: record r of the file that f names, through a fresh open of extent 0, is v
 abbrev pub blank_buffer : Bytes
-blank_buffer = copies recordBytes 0
+blank_buffer = copies record_bytes 0
 
 pub record ReadsAs (G : Geometry) (a : Asked) (d : Disk) (f : Bytes) (r : ℕ) (v : Bytes) : Type 0 where
   pub opens : accepts G d (asks a 15 f blank_buffer) ≡ true
@@ -212,7 +212,7 @@ pub record ReadsAs (G : Geometry) (a : Asked) (d : Disk) (f : Bytes) (r : ℕ) (
 module _ {G : Geometry} (S : Sound G) (a : Asked) (d : Disk) (f : Bytes) (begins : Begins f) (r : ℕ) (v : Bytes) where
   pub reads_as : Sane G d → time_right_rule a ≡ true → First G (seen_on G d) d.session.user f → Stored G (seen_on G d) d.session.user f r v → ReadsAs G a d f r v
   reads_as sane time first k =
-      let hb = length_copies recordBytes 0 in
+      let hb = length_copies record_bytes 0 in
       let x = open_accepted G d sane f begins a time blank_buffer hb first in
       record {
         opens = x;

@@ -14,10 +14,10 @@ use Rattle.rows.specs.Entries.{length_entry_at}
 use Rattle.model.specs.Kinds.{is_random_rule}
 use Rattle.model.specs.Lent.{Lent, lend}
 use Rattle.model.specs.Closing.{closed_row_rule}
-use Rattle.model.specs.Target.{target_extent, target_record, target_slot, present_entry, within, read_only_in, target_entry, row_slot, block_there, count_at, count_there, recordThere, read_only_there}
+use Rattle.model.specs.Target.{target_extent, target_record, target_slot, present_entry, within, read_only_in, target_entry, row_slot, block_there, count_at, count_there, record_there, read_only_there}
 use Rattle.fields.specs.Agree.{SameName, name_cong}
 use Rattle.fields.specs.Closing.{count_closed, row_kept}
-use Rattle.fields.specs.Target.{extent_random, record-random}
+use Rattle.fields.specs.Target.{extent_random, record_random}
 use Rattle.table.specs.Present.{target_present}
 use Rattle.demands.specs.Runs.{Disk}
 use Rattle.demands.specs.Reading.{at_record_rule, rest_at_record, random_at_record}
@@ -46,7 +46,7 @@ module _ {G : Geometry} (S : Sound G) (n : ℕ) (random : is_random_rule n ≡ t
   met_extent = extent_random n g random ∙ ap (λ (x : ℕ). x / 128) (random_at_record f r k.long small)
 
   pub met_record : target_record n g ≡ r % extent_records
-  met_record = record-random n g random ∙ ap (λ (x : ℕ). x % 128) (random_at_record f r k.long small)
+  met_record = record_random n g random ∙ ap (λ (x : ℕ). x % 128) (random_at_record f r k.long small)
 
   met_slot : target_slot G n g ≡ slot_for_rule G (r / extent_records) (r % extent_records)
   unfolding target_slot
@@ -102,8 +102,8 @@ module _ {G : Geometry} (S : Sound G) (n : ℕ) (random : is_random_rule n ≡ t
       (λ t. rw t (ap (count_at G n user l) met_entry ∙ count_at_law there))
 
   -- the record is there exactly where it is stored
-  pub met_there : recordThere G n user l ≡ is_stored G (seen_on G d) user f r
-  unfolding recordThere is_stored
+  pub met_there : record_there G n user l ≡ is_stored G (seen_on G d) user f r
+  unfolding record_there is_stored
   met_there = rw (met_record, met_count, met_block)
 
   pub met_locked : read_only_there G n user l ≡ (read_only_in (entry_at G d.drive.image) (At e) or read_only_in (entry_at G d.drive.image) there)

@@ -6,7 +6,7 @@ use Rattle.std.proofs.Common.{◌∙◌, inl, inr, arith}
 use borrow.Author.Tests.{eq-eqb, ne_eqb, not-true}
 use Rattle.lists.specs.Cases.{split, bool_cases, not_both, cond_either}
 use Rattle.lists.specs.Tests.{◌and◌, and_left, and_right, and_fails_right}
-use Rattle.format.specs.Diskette.{Bytes, Geometry, Sound, recordBytes, slot_count}
+use Rattle.format.specs.Diskette.{Bytes, Geometry, Sound, record_bytes, slot_count}
 use Rattle.format.specs.Entries.{entry_at, ex_of, slot_of, end_of}
 use Rattle.format.specs.Dates.{dated, asks, asks_access}
 use Rattle.format.specs.Fcb.{fcb_bytes, fcb_end}
@@ -97,7 +97,7 @@ passed_accepts G d q t r p o =
 
 -- a disk that is right passes the first three rows, where the FCB, the buffer and the time do
 module _ (G : Geometry) (d : Disk) (sane : Sane G d) (f : Bytes) (hf : length f ≡ fcb_bytes) where
-  pub sane_fits : (buffer : Bytes) → length buffer ≡ recordBytes → Fits G (record { drive = d.drive; fcb = f; buffer = buffer }) d.session
+  pub sane_fits : (buffer : Bytes) → length buffer ≡ record_bytes → Fits G (record { drive = d.drive; fcb = f; buffer = buffer }) d.session
   sane_fits buffer hb = record {
     image_long = sane.good.image_long;
     map_long = sane.good.map_long;
@@ -107,7 +107,7 @@ module _ (G : Geometry) (d : Disk) (sane : Sane G d) (f : Bytes) (hf : length f 
     place_low = sane.range.place;
   }
 
-  pub sane_ready : get_or f 0 0 ≤ 1 → (a : Asked) → time_right_rule a ≡ true → (buffer : Bytes) → length buffer ≡ recordBytes
+  pub sane_ready : get_or f 0 0 ≤ 1 → (a : Asked) → time_right_rule a ≡ true → (buffer : Bytes) → length buffer ≡ record_bytes
       → Ready G a (record { drive = d.drive; fcb = f; buffer = buffer }) d.session
   sane_ready drive a time buffer hb = record {
     fits = sane_fits buffer hb;
@@ -178,7 +178,7 @@ module _ (G : Geometry) (d : Disk) (f : Bytes) (e : ℕ) (k : Fresh G d f e) whe
       }
 
   -- what a call through it meets
-  pub fresh_ready : (a : Asked) → time_right_rule a ≡ true → (buffer : Bytes) → length buffer ≡ recordBytes
+  pub fresh_ready : (a : Asked) → time_right_rule a ≡ true → (buffer : Bytes) → length buffer ≡ record_bytes
       → Ready G a (record { drive = d.drive; fcb = f; buffer = buffer }) d.session
   fresh_ready a time buffer hb = sane_ready G d k.sane f k.long k.drive a time buffer hb
 

@@ -3,7 +3,7 @@ use Rattle.std.specs.Prelude.{◌≡◌, true, ℕ, ◌<◌, length}
 use Rattle.std.proofs.Math.Path.{refl, ap, sym}
 use Rattle.std.proofs.Common.{◌∙◌, subst, arith}
 use Rattle.lists.specs.Cases.{bool_ext}
-use Rattle.format.specs.Diskette.{Bytes, Geometry, Sound, recordBytes, recordAt}
+use Rattle.format.specs.Diskette.{Bytes, Geometry, Sound, record_bytes, record_at}
 use Rattle.format.specs.Entries.{entry_at}
 use Rattle.format.specs.Found.{is_found}
 use Rattle.facts.specs.Found.{at_once, is_found_law}
@@ -47,11 +47,11 @@ module _ {G : Geometry} (S : Sound G) (a : Asked) (d : Disk) (f : Bytes) (e : �
   -- ---- an accepted read
   module _ (small : r < 16777216) where
     -- the block that is met is the stored record's
-    met_place : (b : ℕ) → block_there G 33 user l ≡ b → recordAt G d.drive.image (place_in G b (target_record 33 l.fcb)) ≡ bytes_stored G (seen_on G d) user f r
+    met_place : (b : ℕ) → block_there G 33 user l ≡ b → record_at G d.drive.image (place_in G b (target_record 33 l.fcb)) ≡ bytes_stored G (seen_on G d) user f r
     unfolding bytes_stored is_random_rule
     met_place b h =
-        ap (λ (x : ℕ). recordAt G d.drive.image (place_in G x (target_record 33 l.fcb))) (sym h ∙ met_block S 33 refl d f e k r small buffer)
-        ∙ ap (λ (x : ℕ). recordAt G d.drive.image (place_in G (block_in G (entry_at G d.drive.image) r (extent_entry G (seen_on G d) user f r)) x))
+        ap (λ (x : ℕ). record_at G d.drive.image (place_in G x (target_record 33 l.fcb))) (sym h ∙ met_block S 33 refl d f e k r small buffer)
+        ∙ ap (λ (x : ℕ). record_at G d.drive.image (place_in G (block_in G (entry_at G d.drive.image) r (extent_entry G (seen_on G d) user f r)) x))
         (met_record S 33 refl d f e k r small buffer)
 
     got_plan : (p : Plan) → Planned G 33 user l (There G 33 user l) p → (reading G d.session l 33 p).lent.buffer ≡ bytes_stored G (seen_on G d) user f r
@@ -75,7 +75,7 @@ module _ {G : Geometry} (S : Sound G) (a : Asked) (d : Disk) (f : Bytes) (e : �
           ap (λ (o : Outcome). o.lent.buffer) (carried_is G d q accepted Read is_read) ∙ got_plan (plan G 33 user l) (planned_read G 33 l d.session reads)
 
   -- ---- a record that is stored
-  module _ (there : is_stored G (seen_on G d) user f r ≡ true) (time : time_right_rule a ≡ true) (hb : length buffer ≡ recordBytes) where
+  module _ (there : is_stored G (seen_on G d) user f r ≡ true) (time : time_right_rule a ≡ true) (hb : length buffer ≡ record_bytes) where
     below : r < 262144
     below = stored_small G (seen_on G d) k.sane.good.inv user k.sane.range.user f r _ (is_stored_law G (seen_on G d) user f r there)
 
@@ -99,7 +99,7 @@ module _ {G : Geometry} (S : Sound G) (a : Asked) (d : Disk) (f : Bytes) (e : �
         (reads_right G a l d.session can_read)
 
   -- ---- both, as tests
-  module _ (small : r < 16777216) (time : time_right_rule a ≡ true) (hb : length buffer ≡ recordBytes) where
+  module _ (small : r < 16777216) (time : time_right_rule a ≡ true) (hb : length buffer ≡ record_bytes) where
     pub read_accepted : accepts G d (asks a 33 (at_record_rule f r) buffer) ≡ is_stored G (seen_on G d) d.session.user f r
     read_accepted = bool_ext _ _ (λ x. accepted_is small x) (λ t. stored_passes t time hb)
 
@@ -108,7 +108,7 @@ module _ {G : Geometry} (S : Sound G) (a : Asked) (d : Disk) (f : Bytes) (e : �
     read_gives t = accepted_bytes small (stored_passes t time hb)
 
   -- ---- and as facts: a closed record is read
-  module _ (v : Bytes) (h : Stored G (seen_on G d) user f r v) (time : time_right_rule a ≡ true) (hb : length buffer ≡ recordBytes) where
+  module _ (v : Bytes) (h : Stored G (seen_on G d) user f r v) (time : time_right_rule a ≡ true) (hb : length buffer ≡ record_bytes) where
     there_is : is_stored G (seen_on G d) user f r ≡ true
     there_is = stored_is G (seen_on G d) user f r v k.sane.good.inv.dir k.sane.range.user h
 

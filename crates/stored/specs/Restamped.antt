@@ -3,7 +3,7 @@ use Rattle.std.specs.Prelude.{◌≡◌, refl, Bool, true, false, List, [], ◌�
 use Rattle.std.proofs.Common.{ap, sym, ◌∙◌, inl, inr}
 use Rattle.std.proofs.Math.Path.{subst}
 use Rattle.lists.specs.Cases.{split}
-use Rattle.format.specs.Diskette.{Bytes, Geometry, Sound, recordAt}
+use Rattle.format.specs.Diskette.{Bytes, Geometry, Sound, record_at}
 use Rattle.format.specs.Entries.{entry_at, ex_of, slot_of, empty, named, is_file_rule, find_file_rule, find_named_rule, find_empty_rule}
 use Rattle.format.specs.Dates.{is_dates, fourth_of, asks_access, dated, with_stamp}
 use Rattle.facts.specs.Beside.{fourth_below}
@@ -102,7 +102,7 @@ module _ {G : Geometry} (S : Sound G) (P : Stamp → Type 0) (d t : Disk) (sane 
   pub row_restamped : (e : ℕ) → e < G.entries → is_dates (entry_at G d.drive.image e) ≡ false → entry_at G t.drive.image e ≡ entry_at G d.drive.image e
   row_restamped = restamped_alike.row
 
-  pub recs_restamped : (r : ℕ) → area_records G ≤ r → r < block_records G → recordAt G t.drive.image r ≡ recordAt G d.drive.image r
+  pub recs_restamped : (r : ℕ) → area_records G ≤ r → r < block_records G → record_at G t.drive.image r ≡ record_at G d.drive.image r
   recs_restamped = restamped_alike.recs
 
   pub dates_restamped : (e : ℕ) → e < G.entries → is_dates (entry_at G t.drive.image e) ≡ is_dates (entry_at G d.drive.image e)

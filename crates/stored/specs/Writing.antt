@@ -7,10 +7,10 @@ use Rattle.std.proofs.Math.Logic.{inl, inr}
 use Prim.Native.Nat.{ℕ, ◌+◌, ◌-◌, ◌*◌, ◌/◌, ◌%◌, ◌≤◌, ◌<◌, min, max}
 use native.Mathlib.Omega.{arith}
 use Rattle.lists.specs.Cases.{split, bool_cases, eq_or_ne}
-use Rattle.format.specs.Diskette.{Bytes, Geometry, Sound, Long, recordBytes, entry_bytes, slot_count, slots_on, extent_records, extents, recordAt, with_record}
+use Rattle.format.specs.Diskette.{Bytes, Geometry, Sound, Long, record_bytes, entry_bytes, slot_count, slots_on, extent_records, extents, record_at, with_record}
 use Rattle.format.specs.Entries.{entry_at, with_entry, slot_of, slot_for_rule, extent_of, run_of, count_of, count_in, end_of, is_file_rule, used, empty, find_empty_rule}
 use Rattle.format.specs.Dates.{is_dates}
-use Rattle.format.specs.Notes.{note_at_rule, free_note, recordedNote, with_note, pending_for}
+use Rattle.format.specs.Notes.{note_at_rule, free_note, recorded_note, with_note, pending_for}
 use Rattle.format.specs.Fcb.{fcb_end, fcb_right_rule, cr_of}
 use Rattle.format.specs.declared.Found.TheVariants.{At, Nothing}
 use Rattle.facts.specs.Counts.{count_is, count_high, count_by_end, end_some}
@@ -23,8 +23,8 @@ use Rattle.consistency.specs.Naming.{file_used}
 use Rattle.consistency.specs.Reflect.{used_no_dates, empty_no_dates}
 use Rattle.notes.specs.Free.{free_is}
 use Rattle.disk.specs.Places.{block_records}
-use Rattle.disk.specs.Records.{record-written, record-left}
-use Rattle.rows.specs.Entries.{area_records, block_past, entry_left, entry_stored, length_entry_at, record-kept}
+use Rattle.disk.specs.Records.{record_written, record_left}
+use Rattle.rows.specs.Entries.{area_records, block_past, entry_left, entry_stored, length_entry_at, record_kept}
 use Rattle.model.specs.declared.Session.{Session}
 use Rattle.model.specs.declared.Plan.{Plan}
 use Rattle.model.specs.Lent.{Lent, rows_of}
@@ -34,11 +34,11 @@ use Rattle.model.specs.Target.{target_extent, target_record, target_slot, cr_aft
 use Rattle.model.specs.Calls.{written_at, writing, written}
 use Rattle.fields.specs.Agree.{is_file_asked, is_file_cong}
 use Rattle.fields.specs.Closing.{end_closed, slot_closed_old, slot_closed_new, file_closed, unchanged_end, map_kept, Takes, note_closed_cases}
-use Rattle.fields.specs.Images.{row_closed_image, row_closed_image_other, record-closedImage}
+use Rattle.fields.specs.Images.{row_closed_image, row_closed_image_other, record_closed_image}
 use Rattle.fields.specs.Entering.{slot_entered}
 use Rattle.fields.specs.OpenClose.{opened_keeps}
 use Rattle.fields.specs.Making.{length_next_row, zero_next, slot_next, extent_next}
-use Rattle.fields.specs.Target.{record-below, cr_after_high, target_slot_below, place_below, extent_written, slot_written, slot_written_other, rc_written, count_written_high, map_written_kept, note_written_other}
+use Rattle.fields.specs.Target.{record_below, cr_after_high, target_slot_below, place_below, extent_written, slot_written, slot_written_other, rc_written, count_written_high, map_written_kept, note_written_other}
 use Rattle.table.specs.Facts.{Fits, Writes}
 use Rattle.table.specs.Plans.{Block, Planned, stay, move, make, planned_write}
 use Rattle.table.specs.Plans as Plans
@@ -94,7 +94,7 @@ module _ {G : Geometry} (S : Sound G) (n : ℕ) (l : Lent) (s : Session) (g : Go
   map = written_map G there.drive.map there.fcb t j b
 
   r_below : r < extent_records
-  r_below = record-below n l.fcb cr
+  r_below = record_below n l.fcb cr
 
   j_real : j < slots_on G
   j_real = target_slot_below S n l.fcb cr
@@ -129,7 +129,7 @@ module _ {G : Geometry} (S : Sound G) (n : ℕ) (l : Lent) (s : Session) (g : Go
       go (Plans.there q real) = inr (sym (says.slots j j_below) ∙ came.slot ∙ q)
       go (Plans.free z q) = inl (free_is G l.drive.map b q).free
 
-  full : length there.buffer ≡ recordBytes
+  full : length there.buffer ≡ record_bytes
   full = ap length came.buffer ∙ f.buffer_long
 
   past : G.area ≤ b
@@ -215,7 +215,7 @@ module _ {G : Geometry} (S : Sound G) (n : ℕ) (l : Lent) (s : Session) (g : Go
   was_free z = split origin (λ q. q) (λ q. absurd (let e : b ≡ 0 = sym q ∙ z in omega (arith, past, S.area_some)))
 
   new_notes : (y : ℕ) → y < G.blocks → (note_at_rule (closed_map G row fcb map) y ≡ note_at_rule there.drive.map y)
-      ⊎ ((y ≡ b) × (note_at_rule l.drive.map y ≡ free_note) × (note_at_rule (closed_map G row fcb map) y ≡ recordedNote))
+      ⊎ ((y ≡ b) × (note_at_rule l.drive.map y ≡ free_note) × (note_at_rule (closed_map G row fcb map) y ≡ recorded_note))
   new_notes y h =
       split (note_closed_cases G row fcb map y (rw map_long h))
       (λ k. let own = takes_own y k.0 in inr (own.0, ap (note_at_rule l.drive.map) own.0 ∙ was_free own.1, k.1))
@@ -234,7 +234,7 @@ module _ {G : Geometry} (S : Sound G) (n : ℕ) (l : Lent) (s : Session) (g : Go
   -- ---- seen from before the call
   module _ (x : ℕ) (ext-is : target_extent n l.fcb ≡ x / extent_records) (rec-is : target_record n l.fcb ≡ x % extent_records)
       (rows : (e : ℕ) → e < G.entries → (e ≡ t → ⊥) → entry_at G there.drive.image e ≡ entry_at G l.drive.image e)
-      (recs : (y : ℕ) → area_records G ≤ y → y < block_records G → recordAt G there.drive.image y ≡ recordAt G l.drive.image y)
+      (recs : (y : ℕ) → area_records G ≤ y → y < block_records G → record_at G there.drive.image y ≡ record_at G l.drive.image y)
       (maps : there.drive.map ≡ l.drive.map)
       (was : (entry_at G l.drive.image t ≡ row)
       ⊎ ((empty (entry_at G l.drive.image t) ≡ true) × ((i : ℕ) → slot_of G row i ≡ 0) × (end_of row ≤ x))) where
@@ -297,15 +297,15 @@ module _ {G : Geometry} (S : Sound G) (n : ℕ) (l : Lent) (s : Session) (g : Go
           ∙ here_dates ∙ ap (λ (y : ℕ). is_dates (entry_at G l.drive.image y)) (sym q))
           (λ q. ap is_dates (other_rows e h q) ∙ dates_alike G put img alike e h ∙ put_dates e h)
 
-      shut_recs : (y : ℕ) → area_records G ≤ y → y < block_records G → recordAt G shut y ≡ recordAt G put y
+      shut_recs : (y : ℕ) → area_records G ≤ y → y < block_records G → record_at G shut y ≡ record_at G put y
       unfolding shut
-      shut_recs y a h = record-closedImage S img long t low fcb y a h ∙ alike.recs y a h
+      shut_recs y a h = record_closed_image S img long t low fcb y a h ∙ alike.recs y a h
 
-      new_record : recordAt G shut (place_in G b r) ≡ l.buffer
+      new_record : record_at G shut (place_in G b r) ≡ l.buffer
       unfolding place_in
       new_record =
           shut_recs (place_in G b r) (block_past G b (r % G.per_block) past) in_blocks
-          ∙ record-written S there.drive.image here_good.image_long (place_in G b r) in_blocks there.buffer full ∙ came.buffer
+          ∙ record_written S there.drive.image here_good.image_long (place_in G b r) in_blocks there.buffer full ∙ came.buffer
 
       came_grown : Grown G (view_of G l.drive.image l.drive.map) (view_of G (closed_image G img t fcb) (closed_map G (entry_at G img t) fcb map))
           s.user l.fcb x l.buffer
@@ -328,9 +328,9 @@ module _ {G : Geometry} (S : Sound G) (n : ℕ) (l : Lent) (s : Session) (g : Go
         notes = λ y h. let here = ap (λ (z : Bytes). note_at_rule (closed_map G z fcb map) y) stamped_row in
             split (new_notes y h) (λ q. inl (here ∙ q ∙ ap (λ (z : Bytes). note_at_rule z y) maps)) (λ q. inr (q.0, q.1, here ∙ q.2));
         recs = λ y a h q. shut_recs y a h
-            ∙ record-left S there.drive.image here_good.image_long (place_in G b r) in_blocks there.buffer full y h
+            ∙ record_left S there.drive.image here_good.image_long (place_in G b r) in_blocks there.buffer full y h
             (λ z. q (sym z ∙ sym place_at)) ∙ recs y a h;
-        new = ap (recordAt G shut) place_at ∙ new_record;
+        new = ap (record_at G shut) place_at ∙ new_record;
       }
 
 -- ---- what a write leaves: no entry of another file changed, and an FCB that is current, whose close, after whatever stamps, gives the file the record
@@ -387,9 +387,9 @@ module _ {G : Geometry} (S : Sound G) (n : ℕ) (l : Lent) (s : Session) (g : Go
         entry = t;
         cur = wrote_cur S n l s g f cr to t b _ _ came k z;
         only = came_only S n l s g f cr to t b _ _ came k z x ext-is rec-is (λ i h q. rows i)
-            (λ i a h. ap (λ (y : Bytes). recordAt G y i) image_same) map_same (inl (sym (rows t)));
+            (λ i a h. ap (λ (y : Bytes). record_at G y i) image_same) map_same (inl (sym (rows t)));
         grown = came_grown S n l s g f cr to t b _ _ came k z x ext-is rec-is (λ i h q. rows i)
-            (λ i a h. ap (λ (y : Bytes). recordAt G y i) image_same) map_same (inl (sym (rows t)));
+            (λ i a h. ap (λ (y : Bytes). record_at G y i) image_same) map_same (inl (sym (rows t)));
       }
 
   -- the entry that a move makes
@@ -420,8 +420,8 @@ module _ {G : Geometry} (S : Sound G) (n : ℕ) (l : Lent) (s : Session) (g : Go
     rows_left : (i : ℕ) → i < G.entries → (i ≡ t → ⊥) → entry_at G (with_entry G img t next) i ≡ entry_at G l.drive.image i
     rows_left i h q = entry_left S img long t below next whole i h (λ y. q (sym y)) ∙ ap (λ (y : Bytes). entry_at G y i) image_same
 
-    recs_left : (i : ℕ) → area_records G ≤ i → i < block_records G → recordAt G (with_entry G img t next) i ≡ recordAt G l.drive.image i
-    recs_left i a h = record-kept S img long t below next whole i a h ∙ ap (λ (y : Bytes). recordAt G y i) image_same
+    recs_left : (i : ℕ) → area_records G ≤ i → i < block_records G → record_at G (with_entry G img t next) i ≡ record_at G l.drive.image i
+    recs_left i a h = record_kept S img long t below next whole i a h ∙ ap (λ (y : Bytes). record_at G y i) image_same
 
     next_end : end_of next ≤ x
     unfolding next end_of count_of

@@ -17,7 +17,7 @@ use Rattle.model.specs.declared.Session.{Session}
 use Rattle.model.specs.declared.Code.TheVariants.{NotListed}
 use Rattle.model.specs.declared.Verdict.TheVariants.{Passed}
 use Rattle.model.specs.Lent.{Lent, rows_of}
-use Rattle.model.specs.Target.{target_extent, present_entry, target_entry, recordThere, block_there, read_only_there}
+use Rattle.model.specs.Target.{target_extent, present_entry, target_entry, record_there, block_there, read_only_there}
 use Rattle.model.specs.declared.Asked.{Asked}
 use Rattle.model.specs.declared.Kind.{Kind}
 use Rattle.model.specs.declared.Kind.TheVariants.{Unlisted, Quiet, Search, User, Settle, Close, Delete, Create, Rename, Read, Write}
@@ -46,7 +46,7 @@ random_low n fcb r h = le-ltb last_record (random_of_rule fcb) (random_most n fc
 module _ (G : Geometry) (l : Lent) (s : Session) where
   -- ---- from the rows to the facts
   read_of : (n : ℕ) → consistent G l.drive.image ≡ true → s.user ≤ 15
-      → not (is_found (present_entry G s.user l)) ≡ false → not (recordThere G n s.user l) ≡ false → Reads G l s n
+      → not (is_found (present_entry G s.user l)) ≡ false → not (record_there G n s.user l) ≡ false → Reads G l s n
   unfolding target_entry
   read_of n right low p t =
       let entry = found _ p in

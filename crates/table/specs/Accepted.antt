@@ -64,9 +64,9 @@ plain_accepted : (n : ℕ) (k : Kind) → kind_of n ≡ k → (a : Answer) → o
 unfolding accepted_answer
 plain_accepted n k q a o h z = and_both _ _ (eq-eqb _ _ h) (rw (q, o) (ap not (ne_eqb a.a 255 z)))
 
-record-accepted : (n : ℕ) (k : Kind) → kind_of n ≡ k → (a : Answer) → of_record k ≡ true → a.h ≡ 0 → a.a ≡ 0 → accepted_answer n a ≡ true
+record_accepted : (n : ℕ) (k : Kind) → kind_of n ≡ k → (a : Answer) → of_record k ≡ true → a.h ≡ 0 → a.a ≡ 0 → accepted_answer n a ≡ true
 unfolding accepted_answer
-record-accepted n k q a o h z = and_both _ _ (eq-eqb _ _ h) (rw (q, o) (eq-eqb a.a 0 z))
+record_accepted n k q a o h z = and_both _ _ (eq-eqb _ _ h) (rw (q, o) (eq-eqb a.a 0 z))
 
 module _ (G : Geometry) (asked : Asked) (l : Lent) (s : Session) (low : s.user ≤ 15) where
   entry_low : (r : Found) (a : ℕ) → AnswersEntry r a → a ≡ 255 → ⊥
@@ -88,8 +88,8 @@ module _ (G : Geometry) (asked : Asked) (l : Lent) (s : Session) (low : s.user �
   done_accepted Delete q o d = plain_accepted asked.number Delete q o.answer refl d.no_error (zero_low _ d.answers)
   done_accepted Create q o d = plain_accepted asked.number Create q o.answer refl d.no_error (entry_low _ _ d.answers)
   done_accepted Rename q o d = plain_accepted asked.number Rename q o.answer refl d.no_error (zero_low _ d.answers)
-  done_accepted Read q o d = record-accepted asked.number Read q o.answer refl d.no_error d.answers
-  done_accepted Write q o d = record-accepted asked.number Write q o.answer refl d.no_error d.answers
+  done_accepted Read q o d = record_accepted asked.number Read q o.answer refl d.no_error d.answers
+  done_accepted Write q o d = record_accepted asked.number Write q o.answer refl d.no_error d.answers
 
 -- ---- the answer and what was done
 module _ (G : Geometry) (asked : Asked) (l : Lent) (s : Session) where

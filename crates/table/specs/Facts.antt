@@ -1,6 +1,6 @@
 -- What a table that passed says of each call, as facts that later laws use.
 use Rattle.std.specs.Prelude.{◌≡◌, ◌⊎◌, Bool, true, false, ℕ, ◌≤◌, ◌<◌, length, get_or}
-use Rattle.format.specs.Diskette.{Geometry, recordBytes, extents, Long}
+use Rattle.format.specs.Diskette.{Geometry, record_bytes, extents, Long}
 use Rattle.format.specs.Names.{name_right_rule}
 use Rattle.format.specs.Entries.{ex_of, s2_of, named, read_only, find_named_rule, find_empty_rule}
 use Rattle.format.specs.Consistent.{consistent}
@@ -10,7 +10,7 @@ use Rattle.facts.specs.Found.{FoundAt}
 use Rattle.format.specs.declared.Found.TheVariants.{Nothing}
 use Rattle.model.specs.declared.Session.{Session}
 use Rattle.model.specs.Lent.{Lent, rows_of, search_on, with_lifted}
-use Rattle.model.specs.Target.{target_extent, present_entry, target_entry, block_there, recordThere, read_only_there}
+use Rattle.model.specs.Target.{target_extent, present_entry, target_entry, block_there, record_there, read_only_there}
 use Rattle.model.specs.Search.{pattern_of, find_hit_rule}
 use Rattle.model.specs.declared.Asked.{Asked}
 use Rattle.model.specs.declared.Kind.{Kind}
@@ -24,7 +24,7 @@ pub record Fits (G : Geometry) (l : Lent) (s : Session) : Type 0 where
   pub image_long : Long G l.drive.image
   pub map_long : length l.drive.map ≡ G.blocks
   pub fcb_long : length l.fcb ≡ fcb_bytes
-  pub buffer_long : length l.buffer ≡ recordBytes
+  pub buffer_long : length l.buffer ≡ record_bytes
   pub user_low : s.user ≤ 15
   pub place_low : s.place ≤ G.entries
 
@@ -92,7 +92,7 @@ module _ (G : Geometry) (l : Lent) (s : Session) where
     pub entry : FoundAt (present_entry G s.user l)
     pub target : FoundAt (target_entry G n s.user l)
     pub extent : target_extent n l.fcb < extents
-    pub there : recordThere G n s.user l ≡ true
+    pub there : record_there G n s.user l ≡ true
 
   -- 21 and 34: an entry for the target or an empty one, and a block or a free one
   pub record Writes (n : ℕ) : Type 0 where

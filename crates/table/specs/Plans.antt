@@ -17,7 +17,7 @@ use Rattle.model.specs.declared.Session.{Session}
 use Rattle.model.specs.declared.Plan.{Plan}
 use Rattle.model.specs.declared.Plan.TheVariants.{Stay, Move, Make}
 use Rattle.model.specs.Lent.{Lent, rows_of}
-use Rattle.model.specs.Target.{target_record, present_entry, stays, target_entry, block_there, count_there, recordThere, target_block, plan_to, plan_from, plan}
+use Rattle.model.specs.Target.{target_record, present_entry, stays, target_entry, block_there, count_there, record_there, target_block, plan_to, plan_from, plan}
 use Rattle.table.specs.Present.{stays_within, target_present}
 use Rattle.table.specs.Facts.{Reads, Writes}
 
@@ -68,9 +68,9 @@ module _ (G : Geometry) (n user : ℕ) (l : Lent) where
     pub real : b ≡ 0 → ⊥
     pub counted : target_record n l.fcb < count_there G n user l
 
-  pub record-block : recordThere G n user l ≡ true → There (target_block G n user l)
-  unfolding recordThere target_block
-  record-block t =
+  pub record_block : record_there G n user l ≡ true → There (target_block G n user l)
+  unfolding record_there target_block
+  record_block t =
       let z : eqb (block_there G n user l) 0 ≡ false = not-true _ (and_right _ _ t) in
       rw z record { is = refl; real = eqb-false _ _ z; counted = ltb-true _ _ (and_left _ _ t) }
 
@@ -80,5 +80,5 @@ planned_write G n l s w =
 
 pub planned_read : (G : Geometry) (n : ℕ) (l : Lent) (s : Session) → Reads G l s n → Planned G n s.user l (There G n s.user l) (plan G n s.user l)
 planned_read G n l s r =
-    planned G n s.user l (There G n s.user l) (record-block G n s.user l r.there) r.entry.place r.entry.is
+    planned G n s.user l (There G n s.user l) (record_block G n s.user l r.there) r.entry.place r.entry.is
     (λ q. absurd (at_not_nothing r.target.place (sym r.target.is ∙ q)))

@@ -20,7 +20,7 @@ use Rattle.facts.specs.Current.{current_says}
 use Rattle.format.specs.declared.Found.{Found}
 use Rattle.format.specs.declared.Found.TheVariants.{At, Nothing}
 use Rattle.model.specs.Lent.{Lent, rows_of}
-use Rattle.model.specs.Target.{target_extent, target_record, target_slot, present_entry, stays, within, target_entry, block_there, count_at, count_there, recordThere}
+use Rattle.model.specs.Target.{target_extent, target_record, target_slot, present_entry, stays, within, target_entry, block_there, count_at, count_there, record_there}
 
 -- a row that is right and whose byte 0 is a user has ex and s2 in range
 pub user_numbers : (G : Geometry) (r : Bytes) → entry_right G r ≡ true → user_of r ≤ 15 → extent_right_rule r ≡ true
@@ -99,8 +99,8 @@ module _ (G : Geometry) (n user : ℕ) (l : Lent) where
   some_count Nothing h = absurd (omega arith)
 
   -- a record that is there has an entry for its extent
-  pub there_target : FoundAt (present_entry G user l) → recordThere G n user l ≡ true → FoundAt (target_entry G n user l)
-  unfolding recordThere count_there
+  pub there_target : FoundAt (present_entry G user l) → record_there G n user l ≡ true → FoundAt (target_entry G n user l)
+  unfolding record_there count_there
   there_target p t =
       split (bool_cases (within G n l.fcb))
       (λ y. record { place = p.place; is = target_present p.place p.is y })

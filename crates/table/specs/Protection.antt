@@ -82,8 +82,8 @@ not_reader n k q f =
     sym (refute _ (λ t. kinds_apart k Read f (sym q ∙ at_one (λ (m : ℕ). kind_of m ≡ Read) n readers t (refl & refl & tt))))
 
 -- and a record call that does not write is one
-pub record-reads : (n : ℕ) → of_record (kind_of n) ≡ true → one_of n changers ≡ false → kind_of n ≡ Read
-record-reads n h f =
+pub record_reads : (n : ℕ) → of_record (kind_of n) ≡ true → one_of n changers ≡ false → kind_of n ≡ Read
+record_reads n h f =
     split (bool_cases (same (kind_of n) Read)) (λ t. same_is (kind_of n) Read t)
     (λ g. not_both (one_of n changers) (sym (by_kind n Write (same_is (kind_of n) Write (rw g at h)))) f)
 

@@ -22,19 +22,19 @@ pub where_undated : (b : Bool) (xs : List Stamp) → b ≡ false → where_dated
 where_undated b [] t = refl
 where_undated b (x ∷ xs) t = rw t
 
-pub record-stamps : (G : Geometry) (asked : Asked) (l : Lent) (s : Session) (k : Kind) → of_record k ≡ true
+pub record_stamps : (G : Geometry) (asked : Asked) (l : Lent) (s : Session) (k : Kind) → of_record k ≡ true
     → stamps_by G asked l s k ≡ move_stamps G asked l s (plan G asked.number s.user l)
-record-stamps G asked l s Unlisted h = clash (sym h)
-record-stamps G asked l s Quiet h = clash (sym h)
-record-stamps G asked l s Search h = clash (sym h)
-record-stamps G asked l s User h = clash (sym h)
-record-stamps G asked l s Settle h = clash (sym h)
-record-stamps G asked l s Close h = clash (sym h)
-record-stamps G asked l s Delete h = clash (sym h)
-record-stamps G asked l s Create h = clash (sym h)
-record-stamps G asked l s Rename h = clash (sym h)
-record-stamps G asked l s Read h = refl
-record-stamps G asked l s Write h = refl
+record_stamps G asked l s Unlisted h = clash (sym h)
+record_stamps G asked l s Quiet h = clash (sym h)
+record_stamps G asked l s Search h = clash (sym h)
+record_stamps G asked l s User h = clash (sym h)
+record_stamps G asked l s Settle h = clash (sym h)
+record_stamps G asked l s Close h = clash (sym h)
+record_stamps G asked l s Delete h = clash (sym h)
+record_stamps G asked l s Create h = clash (sym h)
+record_stamps G asked l s Rename h = clash (sym h)
+record_stamps G asked l s Read h = refl
+record_stamps G asked l s Write h = refl
 
 -- ---- the calls that may stamp, and that no other does
 abbrev pub stamp_calls : List ℕ

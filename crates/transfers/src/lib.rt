@@ -1,6 +1,6 @@
 // One record read or written, in the extent that the FCB has come to.
 ghost use Rattle.std.specs.Prelude.{◌≡◌, ◌≤◌, ◌<◌, length};
-ghost use Rattle.format.specs.Diskette.{Bytes, eight_inch, Long, recordBytes, slot_count, extent_records};
+ghost use Rattle.format.specs.Diskette.{Bytes, eight_inch, Long, record_bytes, slot_count, extent_records};
 ghost use Rattle.format.specs.Entries.{entry_at, extent_of};
 ghost use Rattle.format.specs.Fcb.{fcb_bytes};
 ghost use Rattle.model.specs.Lent.{lend, AllLong};
@@ -8,7 +8,7 @@ ghost use Rattle.model.specs.Target.{have_read, have_written};
 
 // Reading record r of the extent that the FCB has come to, in block b.
 pub fn read_at(image: &[u8], fcb: &mut [u8], buffer: &mut [u8], b: usize, r: usize, cr: usize)
-    requires { Long eight_inch image.now × (length fcb.old ≡ fcb_bytes) × (length buffer.old ≡ recordBytes) × (b < eight_inch.blocks)
+    requires { Long eight_inch image.now × (length fcb.old ≡ fcb_bytes) × (length buffer.old ≡ record_bytes) × (b < eight_inch.blocks)
         × (cr ≤ extent_records) }
     ensures { (map : Bytes) → lend image.now map fcb.new buffer.new
         ≡ have_read eight_inch b r cr (lend image.now map fcb.old buffer.old) }

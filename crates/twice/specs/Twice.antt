@@ -2,7 +2,7 @@
 use Rattle.std.specs.Prelude.{◌≡◌, ◌⊎◌, Bool, cond, ℕ, ◌<◌, length}
 use Rattle.std.proofs.Common.{ap, sym, subst, ◌∙◌, arith}
 use Rattle.lists.specs.Cases.{split}
-use Rattle.format.specs.Diskette.{Bytes, eight_inch, recordBytes}
+use Rattle.format.specs.Diskette.{Bytes, eight_inch, record_bytes}
 use Rattle.demands.specs.Runs.{Disk, disk_of}
 use Rattle.stored.specs.Closed.{Restamped}
 use Rattle.picking.specs.declared.Wanted.{Wanted}
@@ -35,7 +35,7 @@ between wanted time d lent = (picked eight_inch time wanted d lent).disk
 pub record PickedTwice (wanted : Wanted) (time again : Time) (d : Disk) (lent empty : Bytes) (r : Twice) (word other image map : Bytes) : Type 0 where
   pub first : Handed r.first word (between wanted time d lent).drive.image (between wanted time d lent).drive.map (picked eight_inch time wanted d lent)
   pub second : Handed r.second other image map (picked eight_inch again wanted (between wanted time d lent) empty)
-  pub same_word : (r.first.number ≡ 0) ⊎ (r.first.number ≡ 1) → Timed again → length empty ≡ recordBytes
+  pub same_word : (r.first.number ≡ 0) ⊎ (r.first.number ≡ 1) → Timed again → length empty ≡ record_bytes
       → SameWord wanted again (between wanted time d lent) (disk_of image map r.second.session) r.second word other
 
 -- 0 and 1 are the numbers of a run that picked the word, logged or again
@@ -55,7 +55,7 @@ module _ (wanted : Wanted) (named : Named wanted) (time again : Time) (d : Disk)
   handed_second : Handed r.second other image map (picked eight_inch again wanted m empty)
   handed_second = subst (λ (x : Disk). Handed r.second other image map (picked eight_inch again wanted x empty)) one.disk two
 
-  word_again : (r.first.number ≡ 0) ⊎ (r.first.number ≡ 1) → Timed again → length empty ≡ recordBytes
+  word_again : (r.first.number ≡ 0) ⊎ (r.first.number ≡ 1) → Timed again → length empty ≡ record_bytes
       → SameWord wanted again m (disk_of image map r.second.session) r.second word other
   word_again well timed long =
       let low = low_number r.first.number well in

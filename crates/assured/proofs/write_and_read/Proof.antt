@@ -7,7 +7,7 @@ use borrow.Author.Tests.{not-true, not-false}
 use Rattle.model.specs.Lent.{Outcome}
 use Rattle.demands.specs.Runs.{Request, Disk, disk_of}
 use Rattle.script.specs.Script.{request}
-use Rattle.assured.specs.Demands.{writes_answer, writes_to, met, met_says, met_run, not_written, write_read, fcb_long, extent_low, record-low, read_last, reads_again}
+use Rattle.assured.specs.Demands.{writes_answer, writes_to, met, met_says, met_run, not_written, write_read, fcb_long, extent_low, record_low, read_last, reads_again}
 use Rattle.assured.proofs.write_and_read.Statement.{statement}
 use Rattle.assured.proofs.write_and_read.Tie as tie
 
@@ -51,7 +51,7 @@ read-again-requires c κs =
     let t = took c.before.before.before.before.before.before.before.before.before.before.before.before.before.before.before.before.before in
     let long = fcb_long (given s) (asks s) t in
     let o = c.before.before.before.before.before.before.before.before.before.before.before.before.before.before.before.before.before.before.before.before.before.before.before.before.before.before.before.before.before.before.before.before.target-of.ensures long in
-    (c.before.before.before.before.before.before.before.before.before.before.before.before.before.before.before.before.before.before.before.before.before.before.before.before.before.before.before.call.auto.1.1.1.0 ∙ long, rw o.extent (extent_low (given s) (asks s) t), rw o.at (record-low (given s) (asks s) t))
+    (c.before.before.before.before.before.before.before.before.before.before.before.before.before.before.before.before.before.before.before.before.before.before.before.before.before.before.before.call.auto.1.1.1.0 ∙ long, rw o.extent (extent_low (given s) (asks s) t), rw o.at (record_low (given s) (asks s) t))
 
 same-length-5 : tie.Need-same-length-5
 same-length-5 c = c.before.before.before.before.before.before.before.before.before.before.before.before.before.before.before.before.before.before.before.before.before.run-script.auto.1.0

@@ -4,7 +4,7 @@ use Rattle.rows.specs.Entries.{row_of, row_in_record}
 use Rattle.disk.specs.Eight.{eight_sound}
 use Rattle.format.specs.Entries.{entry_at}
 use Rattle.lists.specs.Splice.{part}
-use Rattle.format.specs.Diskette.{Bytes, eight_inch, recordBytes, entry_bytes, entries_per_record}
+use Rattle.format.specs.Diskette.{Bytes, eight_inch, record_bytes, entry_bytes, entries_per_record}
 use Rattle.lists.specs.Cases.{clash}
 use borrow.Author.Tests.{not-true, not-false}
 use lib.ListN.{length}
@@ -19,11 +19,11 @@ use Rattle.consistent.proofs.take_record.Tie as tie
 
 abbrev invariant-loop : tie.invariant-loop
 invariant-loop image d marks₀ chain₀ aside₀ four at₀ marks chain aside at =
-    Passed eight_inch (entry_at eight_inch image) (entries_per_record * d + at / entry_bytes) marks chain aside × (at % entry_bytes ≡ 0) × (at ≤ recordBytes)
+    Passed eight_inch (entry_at eight_inch image) (entries_per_record * d + at / entry_bytes) marks chain aside × (at % entry_bytes ≡ 0) × (at ≤ record_bytes)
     × (length marks ≡ length marks₀) × (length chain ≡ length chain₀) × (length aside ≡ length aside₀)
 
 abbrev decreases-loop : tie.decreases-loop
-decreases-loop image d marks₀ chain₀ aside₀ four at₀ marks chain aside at = recordBytes - at
+decreases-loop image d marks₀ chain₀ aside₀ four at₀ marks chain aside at = record_bytes - at
 
 returns : tie.Need-returns invariant-loop decreases-loop
 returns c =

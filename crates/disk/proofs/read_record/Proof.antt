@@ -1,11 +1,11 @@
 -- The copy at the place that `offset` gives is the definition.
-use Rattle.format.specs.Diskette.{recordAt}
+use Rattle.format.specs.Diskette.{record_at}
 use borrow.Author.Rules.{rules}
 use Rattle.disk.proofs.read_record.Statement.{statement}
 use Rattle.disk.proofs.read_record.Tie as tie
 
 returns : tie.Need-returns
-unfolding recordAt
+unfolding record_at
 returns c =
     let a = c.before.before.before.before.before.before.before in
     rw (← c.before.before.before.before.offset.ensures.0, ← a.requires.2) c.before.before.get.ensures

@@ -22,7 +22,7 @@ returns c =
     c.before.before.before.before.close-log.ensures
     ∙ written_closes eight_inch a.time a.wanted d a.fcb a.n _
     (asked_alike (lifted_call_rule eight_inch) d a.time 34 c.before.before.before.before.before.before.before.before.before.before.before.before.before.before.before.before.lifted-call.ensures c.before.before.before.before.before.before.before.before.before.before.before.before.before.before.before.before.before.before.before.before.before.before.at-record.ensures c.before.before.before.before.before.before.before.before.before.before.before.before.before.before.before.before.before.before.before.before.before.log-record.ensures)
-    (sym (c.before.before.before.before.before.before.before.before.record-accepted.ensures 34 of_records.write) ∙ c.before.before.before.before.before.before.before.if1.true)
+    (sym (c.before.before.before.before.before.before.before.before.record_accepted.ensures 34 of_records.write) ∙ c.before.before.before.before.before.before.before.if1.true)
 
 same-length-3 : tie.Need-same-length-3
 same-length-3 c = c.before.before.before.before.before.before.before.before.before.before.lifted-call.auto.1.1.0
@@ -36,7 +36,7 @@ returns-2 c =
     let d = disk_of a.image.now a.map.now a.session in
     written_fails eight_inch a.time a.wanted d a.fcb a.n _
     (asked_alike (lifted_call_rule eight_inch) d a.time 34 c.before.before.before.before.before.before.before.before.before.before.lifted-call.ensures c.before.before.before.before.before.before.before.before.before.before.before.before.before.before.before.before.at-record.ensures c.before.before.before.before.before.before.before.before.before.before.before.before.before.before.before.log-record.ensures)
-    (sym (c.before.before.record-accepted.ensures 34 of_records.write) ∙ c.before.if1.false) _ (c.write-trouble.ensures _)
+    (sym (c.before.before.record_accepted.ensures 34 of_records.write) ∙ c.before.if1.false) _ (c.write-trouble.ensures _)
 
 pub write-log-spec : {M : Type 1} → statement M
 write-log-spec =

@@ -6,7 +6,7 @@ use native.Mathlib.Omega.{arith}
 use lib.ListN.{get_or}
 use borrow.Author.Tests.{not-true, not-false}
 use borrow.Author.Rules.{rules}
-use Rattle.format.specs.Notes.{recordedNote, with_note}
+use Rattle.format.specs.Notes.{recorded_note, with_note}
 use Rattle.model.specs.Closing.{closed_note}
 use Rattle.notes.specs.Changes.{note_out}
 use Rattle.merging.proofs.record_block.Statement.{statement}
@@ -21,7 +21,7 @@ unfolding closed_note slot_in
 returns-2 c =
     let a = c.before.before.before.before.before.before.before.before.before.args in
     let t = sym c.before.before.before.before.before.before.before.takes-slot.ensures ∙ not-false _ c.before.before.before.before.before.before.if1.false in
-    rw t (c.before.before.set-note.ensures ∙ ap (λ (b : ℕ). with_note a.map.now b recordedNote) c.before.before.before.before.before.wide.ensures.0)
+    rw t (c.before.before.set-note.ensures ∙ ap (λ (b : ℕ). with_note a.map.now b recorded_note) c.before.before.before.before.before.wide.ensures.0)
 
 returns-3 : tie.Need-returns-3
 unfolding closed_note slot_in
@@ -29,7 +29,7 @@ returns-3 c =
     let a = c.before.before.before.before.before.args in
     let t = sym c.before.before.before.takes-slot.ensures ∙ not-false _ c.before.before.if1.false in
     let w = c.before.wide.ensures.0 in
-    rw t (sym (note_out a.map.now (get_or a.t3 a.j 0) recordedNote (omega arith)))
+    rw t (sym (note_out a.map.now (get_or a.t3 a.j 0) recorded_note (omega arith)))
 
 pub record-block-spec : {M : Type 1} → statement M
 record-block-spec =

@@ -8,7 +8,7 @@ use Rattle.lists.specs.Fold.{fold_below, fold_none, fold_next, fold_done}
 use Rattle.format.specs.Diskette.{Bytes, slot_count, eight_inch}
 use Rattle.model.specs.Closing.{closed_note}
 use Rattle.merging.specs.Merging.{same_none}
-use Rattle.fields.specs.Closing.{recorded-none}
+use Rattle.fields.specs.Closing.{recorded_none}
 use Rattle.merging.proofs.record_blocks.Statement.{statement}
 use Rattle.merging.proofs.record_blocks.Tie as tie
 
@@ -19,7 +19,7 @@ abbrev decreases-loop : tie.decreases-loop
 decreases-loop map₀ es fs j₀ map j = slot_count - j
 
 returns : tie.Need-returns invariant-loop decreases-loop
-returns c = let a = c.before.before.before.args in sym (recorded-none eight_inch a.es a.fs
+returns c = let a = c.before.before.before.args in sym (recorded_none eight_inch a.es a.fs
     (same_none eight_inch a.es a.fs (omega arith) (omega arith) (sym c.before.slots_same.ensures ∙ c.if1.true)) a.map.now)
 
 loop-holds : tie.Need-loop-init invariant-loop decreases-loop
@@ -30,7 +30,7 @@ loop-again c =
     let l = c.before.before.before.before.before.loop in
     let a = c.before.before.before.before.before.before.before.before.before.args in
     let f = closed_note eight_inch a.es a.fs in
-    (c.before.before.record-block.ensures ∙ ap (λ (m : Bytes). f m l.j) l.invariant.0 ∙ sym (fold_next f a.map.now l.j), omega arith, c.before.before.record-block.auto.0 ∙ l.invariant.2)
+    (c.before.before.record_block.ensures ∙ ap (λ (m : Bytes). f m l.j) l.invariant.0 ∙ sym (fold_next f a.map.now l.j), omega arith, c.before.before.record_block.auto.0 ∙ l.invariant.2)
 
 returns-2 : tie.Need-returns-2 invariant-loop decreases-loop
 returns-2 c =

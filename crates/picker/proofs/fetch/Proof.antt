@@ -28,7 +28,7 @@ returns c =
     c.before.before.before.before.hand-out.ensures o refl
     ∙ fetched_worded eight_inch a.time a.wanted d a.fcb a.word.now o
     (asked_alike (outcome_of eight_inch) d a.time 33 m.ensures c.before.before.before.before.before.before.before.before.before.before.before.before.before.before.before.before.before.before.before.before.before.before.at-record.ensures refl)
-    (sym (c.before.before.before.before.before.before.before.before.record-accepted.ensures 33 of_records.read) ∙ c.before.before.before.before.before.before.before.if1.true)
+    (sym (c.before.before.before.before.before.before.before.before.record_accepted.ensures 33 of_records.read) ∙ c.before.before.before.before.before.before.before.if1.true)
 
 same-length-4 : tie.Need-same-length-4
 same-length-4 c = c.before.before.before.before.before.before.before.before.before.before.before.before.call.auto.1.1.0
@@ -45,7 +45,7 @@ returns-2 c =
     let d = disk_of a.image.now a.map.now a.session in
     fetched_fails eight_inch a.time a.wanted d a.fcb a.word.now _
     (asked_alike (outcome_of eight_inch) d a.time 33 c.before.before.before.before.before.before.before.before.before.before.before.before.call.ensures c.before.before.before.before.before.before.before.before.before.before.before.before.before.before.before.before.before.at-record.ensures refl)
-    (sym (c.before.before.before.record-accepted.ensures 33 of_records.read) ∙ c.before.before.if1.false) _ (c.before.read-trouble.ensures _) _ c.wordless.ensures
+    (sym (c.before.before.before.record_accepted.ensures 33 of_records.read) ∙ c.before.before.if1.false) _ (c.before.read-trouble.ensures _) _ c.wordless.ensures
 
 pub fetch_spec : {M : Type 1} → statement M
 fetch_spec =
