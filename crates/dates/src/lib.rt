@@ -1,4 +1,6 @@
 // Rows that are no file's: labels and date entries. Whether they are right, what a label asks, and whether the disk has date entries.
+#![tactic(auto)]
+
 ghost use Rattle.std.specs.Prelude.{◌≡◌, ◌+◌, ◌≤◌, ◌<◌, eqb, length};
 ghost use Rattle.lists.specs.Tests.{◌and◌};
 ghost use Rattle.format.specs.Diskette.{eight_inch, Long, entry_bytes};

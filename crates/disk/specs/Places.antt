@@ -42,7 +42,7 @@ module _ {G : Geometry} (S : Sound G) where
 
   pub offset_fits : (d : ℕ) → d < block_records G → offset_of G d + record_bytes ≤ image_bytes G
   unfolding offset_of
-  offset_fits d h = omega (arith, S.image-Holds d h)
+  offset_fits d h = omega (arith, S.image_holds d h)
 
   -- no record lies in the system tracks
   pub offset_past : (d : ℕ) → G.reserved * G.sectors * record_bytes ≤ offset_of G d

@@ -1,4 +1,6 @@
 // The diskette: where disk records lie in the image, and copies of them.
+#![tactic(auto)]
+
 ghost use Rattle.std.specs.Prelude.{◌≡◌, ◌+◌, ◌*◌, ◌≤◌, ◌<◌, length};
 ghost use Rattle.format.specs.Diskette.{eight_inch, skewed, offset_of, record_bytes, Long, image_bytes, record_at, with_record};
 

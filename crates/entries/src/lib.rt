@@ -1,4 +1,6 @@
 // What an entry says, and an FCB in the same bytes: its slots, its extent, its count, its end and its t1'.
+#![tactic(auto)]
+
 ghost use Rattle.std.specs.Prelude.{◌≡◌, ◌+◌, ◌≤◌, ◌<◌, length};
 ghost use Rattle.format.specs.Diskette.{eight_inch, entry_bytes, extent_records, slot_count};
 ghost use Rattle.format.specs.Consistent.{extent_right_rule};

@@ -57,6 +57,7 @@ lanes_and (suc n) f g p q =
 -- ---- what the number says of its lanes
 pub lanes_same : (n : ℕ) (f g : ℕ → ℕ) → ((i : ℕ) → i < n → f i < 256) → ((i : ℕ) → i < n → g i < 256) → lanes n f ≡ lanes n g → (i : ℕ) → i < n → f i ≡ g i
 unfolding lanes
+lanes_same zero f g p q e i h = elim h [ ]
 lanes_same (suc n) f g p q e zero h = let a = p 0 h in let b = q 0 h in omega arith
 lanes_same (suc n) f g p q e (suc i) h =
     let a = p 0 (omega arith) in
@@ -65,6 +66,7 @@ lanes_same (suc n) f g p q e (suc i) h =
 
 pub lanes_zero : (n : ℕ) (f : ℕ → ℕ) → lanes n f ≡ 0 → (i : ℕ) → i < n → f i ≡ 0
 unfolding lanes
+lanes_zero zero f e i h = elim h [ ]
 lanes_zero (suc n) f e zero h = omega arith
 lanes_zero (suc n) f e (suc i) h = lanes_zero n (λ (k : ℕ). f (suc k)) (omega arith) i (omega arith)
 

@@ -1,5 +1,7 @@
 // Four and eight bytes as one number. The sums are written so that a compiler makes one load of each: four bytes first, then two
 // fours. Both promise that the bytes are bytes too, which a caller needs to tell the lanes apart.
+#![tactic(auto)]
+
 ghost use Rattle.std.specs.Prelude.{◌≡◌, ℕ, ◌+◌, ◌≤◌, ◌<◌, length, get_or};
 ghost use Rattle.lanes.specs.Lanes.{half_at, word_at};
 

@@ -1,4 +1,6 @@
 // Copies of byte slices, a byte as a number, and in specs/ the general laws of lists and tests that every other crate cites.
+#![tactic(auto)]
+
 ghost use Rattle.std.specs.Prelude.{◌≡◌, ◌+◌, ◌≤◌, ◌<◌, length};
 ghost use Rattle.lists.specs.Splice.{splice, part, copies};
 

@@ -1,4 +1,6 @@
 // Entries looked up: whether one is asked for by a name or pattern, with its extent or not, and the first that is, or that is empty.
+#![tactic(auto)]
+
 ghost use Rattle.std.specs.Prelude.{◌≡◌, ◌+◌, ◌≤◌, ◌<◌, length};
 ghost use Rattle.format.specs.Diskette.{eight_inch, Long, entry_bytes};
 ghost use Rattle.format.specs.Names.{name_bytes};

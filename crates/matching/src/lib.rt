@@ -1,4 +1,6 @@
 // The comparison of names in their low seven bits, of a name with a name or with a search pattern.
+#![tactic(auto)]
+
 ghost use Rattle.std.specs.Prelude.{◌≡◌, false, ◌+◌, ◌≤◌, length};
 ghost use Rattle.format.specs.Names.{name_bytes, byte_like_rule, name_like_rule};
 

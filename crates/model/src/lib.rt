@@ -1,5 +1,6 @@
 // What the calls do, as definitions in specs/: the table of refusals, and the accepted effect of each call. Here stand the types in
 // which a call is asked for and answered.
+#![tactic(auto)]
 
 // What is asked: the call's number and its argument; and the time: the day, 1 January 1978 being 1, hour and minute in BCD.
 #[repr(C)]

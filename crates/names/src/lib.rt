@@ -1,4 +1,6 @@
 // The name rule.
+#![tactic(auto)]
+
 ghost use Rattle.std.specs.Prelude.{◌≡◌, not, cond, ◌+◌, ◌≤◌, length};
 ghost use Rattle.format.specs.Names.{name_bytes, name_byte_rule, name_right_rule};
 

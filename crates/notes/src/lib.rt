@@ -1,4 +1,6 @@
 // The map: one note a block, the free ones among them, and the one change of a note.
+#![tactic(auto)]
+
 ghost use Rattle.std.specs.Prelude.{◌≡◌, cond, ◌<◌, ◌≤◌, eqb, length};
 ghost use Rattle.format.specs.Diskette.{eight_inch, slot_count};
 ghost use Rattle.format.specs.Notes.{free_note, note_at_rule, pending_for, with_note, find_free, free_count_rule};

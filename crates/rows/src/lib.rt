@@ -1,4 +1,6 @@
 // Directory entries as rows of the image: where they lie, and how they are taken out and stored.
+#![tactic(auto)]
+
 ghost use Rattle.std.specs.Prelude.{◌≡◌, ℕ, ◌+◌, ◌*◌, ◌≤◌, ◌<◌, length};
 ghost use Rattle.lists.specs.Below.{all_below};
 ghost use Rattle.lists.specs.Splice.{part};

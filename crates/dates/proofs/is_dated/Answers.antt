@@ -1,0 +1,8 @@
+-- Byte 0 of the row is the entry's.
+use Rattle.format.specs.Dates.{is_dates}
+use borrow.Author.Rules.{rules}
+use Rattle.dates.proofs.is_dated.Goals as goal
+
+pub returns : goal.returns
+unfolding is_dates
+returns c = rw c.row.ensures.0

@@ -1,0 +1,8 @@
+-- The sum is the definition.
+use borrow.Author.Rules.{rules}
+use Rattle.format.specs.Entries.{end_of}
+use Rattle.entries.proofs.end_of.Goals as goal
+
+pub returns : goal.returns
+unfolding end_of
+returns c = rw (c.wide.ensures.0, c.count_of.ensures, c.extent.ensures.0)
