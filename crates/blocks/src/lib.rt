@@ -1,4 +1,6 @@
 // The blocks that the slots of a row list: their numbers are taken among the marks, and whether each was free is seen.
+#![tactic(auto)]
+
 ghost use Rattle.std.specs.Prelude.{◌≡◌, ◌+◌, ◌*◌, ◌≤◌, ◌<◌, get_or, length};
 ghost use Rattle.format.specs.Diskette.{entry_bytes, slot_count};
 ghost use Rattle.facts.specs.Marks.{mark_count};

@@ -1,5 +1,7 @@
 // Entries by their keys: the chains that the check of the directory makes, and the look-up of a file along them. Every function that
 // looks a file up is lent the chains; `Indexed` says that they are as the check has left them.
+#![tactic(auto)]
+
 ghost use Rattle.std.specs.Prelude.{◌≡◌, true, ◌+◌, ◌≤◌, ◌<◌, length};
 ghost use Rattle.format.specs.Diskette.{eight_inch, Long, entry_bytes};
 ghost use Rattle.format.specs.Names.{name_bytes};

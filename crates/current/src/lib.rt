@@ -1,4 +1,6 @@
 // When an FCB is current: its fields are in range, it has an entry, and each of its slots is the entry's or pending for it.
+#![tactic(auto)]
+
 ghost use Rattle.std.specs.Prelude.{◌≡◌, ◌≤◌, length};
 ghost use Rattle.format.specs.Diskette.{eight_inch, entry_bytes};
 ghost use Rattle.format.specs.Entries.{entry_at, slots_of};

@@ -1,4 +1,6 @@
 // The map against the directory: whether it is right.
+#![tactic(auto)]
+
 ghost use Rattle.std.specs.Prelude.{◌≡◌, not, cond, ◌<◌, eqb, length};
 ghost use Rattle.format.specs.Diskette.{eight_inch, Long};
 ghost use Rattle.format.specs.Entries.{entry_at};

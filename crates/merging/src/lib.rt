@@ -1,4 +1,6 @@
 // What a close makes of an entry's row and of the map: the FCB's blocks are taken and recorded, and its end where that is later.
+#![tactic(auto)]
+
 ghost use Rattle.std.specs.Prelude.{◌≡◌, ◌≤◌, ◌<◌, length};
 ghost use Rattle.lists.specs.Below.{any_below};
 ghost use Rattle.lists.specs.Fold.{fold_below};

@@ -1,4 +1,6 @@
 // The write protection of document 02, [12], as a session has it: lifted and set, asked for, and the calls that it refuses by their kinds.
+#![tactic(auto)]
+
 ghost use Rattle.std.specs.Prelude.{◌≡◌, ℕ};
 ghost use Rattle.lists.specs.Tests.{◌and◌};
 ghost use Rattle.model.specs.Kinds.{kind_of, one_of};

@@ -1,4 +1,6 @@
 // Where the record calls 20, 21, 33 and 34 go: the target, its entry, and its slot and count as the FCB will have them there.
+#![tactic(auto)]
+
 ghost use Rattle.std.specs.Prelude.{◌≡◌, ◌<◌, max, length};
 ghost use Rattle.format.specs.Diskette.{eight_inch, Long, slot_count};
 ghost use Rattle.format.specs.Entries.{entry_at, extent_of, find_file_rule};

@@ -10,4 +10,4 @@ pub returns : goal.returns
 unfolding part
 returns c =
     let a = c.args in
-    next_all a.t1 _ a.ext (search rules) refl (get_d_zeros 32) c.put.new.dst c.put.ensures
+    next_all a.row _ a.ext (search rules) refl (get_d_zeros 32) c.put.new.dst c.put.ensures

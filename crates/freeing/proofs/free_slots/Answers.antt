@@ -22,5 +22,5 @@ pub returns : goal.returns
 returns c =
     let l = c in
     let q : l.loop-j.j ≡ slot_count = omega arith in
-    slots_done eight_inch l.args.t2 l.args.map.now l.loop-j.map
+    slots_done eight_inch l.args.slots l.args.map.now l.loop-j.map
     l.requires (rw q at l.loop-j.invariant.0)

@@ -21,7 +21,7 @@ loop-b-preserved c = let l = c in (
       c.fresh_note.result c.set_note.ensures (omega arith)
       (c.fresh_note.ensures d m) (l.loop-b.invariant.0 d m),
   omega
-      (arith, c.set_note.auto.0),
+      (arith, c.set_note.auto.map),
   omega arith,
 )
 
