@@ -46,7 +46,7 @@ pub slots_fit-requires : goal.slots_fit-requires
 slots_fit-requires c = let l = (let low' : c.in-At.e < eight_inch.entries = let a = c.args in (file_says eight_inch (entry_at eight_inch a.image.now) a.user a.fcb.now 1 (extent_of a.fcb.now) c.in-At.e ((let known' : let a = c.args in (fcb_right_rule a.fcb.now ≡ true) × (find_file_rule eight_inch (entry_at eight_inch a.image.now) a.user a.fcb.now 1 (extent_of a.fcb.now) ≡ At c.in-At.e) = (sym c.fcb_right.ensures ∙ c.if-not-fcb_right.false, sym (rw c.extent.ensures.0 at c.find_file.ensures) ∙ c.in-At.is) in known')).1).below in low') in search rules
 
 pub returns-then-not-slots_fit : goal.returns-then-not-slots_fit
-returns-then-not-slots_fit c = let t : c.slots_fit.result ≡ false = c.if-not-slots_fit.true in rw t at ((let fitted' : let a = c.args in cond c.slots_fit.result (At c.in-At.e) Nothing ≡ current eight_inch (entry_at eight_inch a.image.now) a.map.now a.user a.fcb.now = let a = c.args in let k = c in current_by eight_inch (entry_at eight_inch a.image.now) a.map.now a.user a.fcb.now k.in-At.e c.slots.result c.slots2.result c.slots_fit.result ((let known' : let a = k.args in (fcb_right_rule a.fcb.now ≡ true) × (find_file_rule eight_inch (entry_at eight_inch a.image.now) a.user a.fcb.now 1 (extent_of a.fcb.now) ≡ At k.in-At.e) = (sym k.fcb_right.ensures ∙ k.if-not-fcb_right.false, sym (rw k.extent.ensures.0 at k.find_file.ensures) ∙ k.in-At.is) in known')).0 ((let known' : let a = k.args in (fcb_right_rule a.fcb.now ≡ true) × (find_file_rule eight_inch (entry_at eight_inch a.image.now) a.user a.fcb.now 1 (extent_of a.fcb.now) ≡ At k.in-At.e) = (sym k.fcb_right.ensures ∙ k.if-not-fcb_right.false, sym (rw k.extent.ensures.0 at k.find_file.ensures) ∙ k.in-At.is) in known')).1 (c.slots.ensures ∙ ap slots_of c.row-row.ensures.0) c.slots2.ensures c.slots_fit.ensures in fitted'))
+returns-then-not-slots_fit c = let t : c.slots_fit.result ≡ false = c.if-not-slots_fit.true in rw t at ((let fitted' : let a = c.args in cond c.slots_fit.result (At c.in-At.e) Nothing ≡ current eight_inch (entry_at eight_inch a.image.now) a.map.now a.user a.fcb.now = let a = c.args in let k = c in current_by eight_inch (entry_at eight_inch a.image.now) a.map.now a.user a.fcb.now k.in-At.e c.slots.result c.slots-2.result c.slots_fit.result ((let known' : let a = k.args in (fcb_right_rule a.fcb.now ≡ true) × (find_file_rule eight_inch (entry_at eight_inch a.image.now) a.user a.fcb.now 1 (extent_of a.fcb.now) ≡ At k.in-At.e) = (sym k.fcb_right.ensures ∙ k.if-not-fcb_right.false, sym (rw k.extent.ensures.0 at k.find_file.ensures) ∙ k.in-At.is) in known')).0 ((let known' : let a = k.args in (fcb_right_rule a.fcb.now ≡ true) × (find_file_rule eight_inch (entry_at eight_inch a.image.now) a.user a.fcb.now 1 (extent_of a.fcb.now) ≡ At k.in-At.e) = (sym k.fcb_right.ensures ∙ k.if-not-fcb_right.false, sym (rw k.extent.ensures.0 at k.find_file.ensures) ∙ k.in-At.is) in known')).1 (c.slots.ensures ∙ ap slots_of c.row-row.ensures.0) c.slots-2.ensures c.slots_fit.ensures in fitted'))
 
 pub returns : goal.returns
-returns c = let t : c.slots_fit.result ≡ true = c.if-not-slots_fit.false in rw t at ((let fitted' : let a = c.args in cond c.slots_fit.result (At c.in-At.e) Nothing ≡ current eight_inch (entry_at eight_inch a.image.now) a.map.now a.user a.fcb.now = let a = c.args in let k = c in current_by eight_inch (entry_at eight_inch a.image.now) a.map.now a.user a.fcb.now k.in-At.e c.slots.result c.slots2.result c.slots_fit.result ((let known' : let a = k.args in (fcb_right_rule a.fcb.now ≡ true) × (find_file_rule eight_inch (entry_at eight_inch a.image.now) a.user a.fcb.now 1 (extent_of a.fcb.now) ≡ At k.in-At.e) = (sym k.fcb_right.ensures ∙ k.if-not-fcb_right.false, sym (rw k.extent.ensures.0 at k.find_file.ensures) ∙ k.in-At.is) in known')).0 ((let known' : let a = k.args in (fcb_right_rule a.fcb.now ≡ true) × (find_file_rule eight_inch (entry_at eight_inch a.image.now) a.user a.fcb.now 1 (extent_of a.fcb.now) ≡ At k.in-At.e) = (sym k.fcb_right.ensures ∙ k.if-not-fcb_right.false, sym (rw k.extent.ensures.0 at k.find_file.ensures) ∙ k.in-At.is) in known')).1 (c.slots.ensures ∙ ap slots_of c.row-row.ensures.0) c.slots2.ensures c.slots_fit.ensures in fitted'))
+returns c = let t : c.slots_fit.result ≡ true = c.if-not-slots_fit.false in rw t at ((let fitted' : let a = c.args in cond c.slots_fit.result (At c.in-At.e) Nothing ≡ current eight_inch (entry_at eight_inch a.image.now) a.map.now a.user a.fcb.now = let a = c.args in let k = c in current_by eight_inch (entry_at eight_inch a.image.now) a.map.now a.user a.fcb.now k.in-At.e c.slots.result c.slots-2.result c.slots_fit.result ((let known' : let a = k.args in (fcb_right_rule a.fcb.now ≡ true) × (find_file_rule eight_inch (entry_at eight_inch a.image.now) a.user a.fcb.now 1 (extent_of a.fcb.now) ≡ At k.in-At.e) = (sym k.fcb_right.ensures ∙ k.if-not-fcb_right.false, sym (rw k.extent.ensures.0 at k.find_file.ensures) ∙ k.in-At.is) in known')).0 ((let known' : let a = k.args in (fcb_right_rule a.fcb.now ≡ true) × (find_file_rule eight_inch (entry_at eight_inch a.image.now) a.user a.fcb.now 1 (extent_of a.fcb.now) ≡ At k.in-At.e) = (sym k.fcb_right.ensures ∙ k.if-not-fcb_right.false, sym (rw k.extent.ensures.0 at k.find_file.ensures) ∙ k.in-At.is) in known')).1 (c.slots.ensures ∙ ap slots_of c.row-row.ensures.0) c.slots-2.ensures c.slots_fit.ensures in fitted'))

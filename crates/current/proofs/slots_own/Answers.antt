@@ -9,4 +9,4 @@ both : (es fs gs hs : Bytes) → es ≡ gs → fs ≡ hs → slots_same_rule es 
 both es fs gs hs p q = rw (p, q)
 
 pub returns : goal.returns
-returns c = c.same.ensures ∙ both _ _ _ _ c.copy_slots.ensures c.copy-slots2.ensures
+returns c = c.same.ensures ∙ both _ _ _ _ c.copy_slots.ensures c.copy_slots-2.ensures
