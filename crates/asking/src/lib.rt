@@ -1,4 +1,6 @@
 // What 15 and 22 ask for by an FCB: whether they can ask, and the entry that is meant.
+#![tactic(auto)]
+
 ghost use Rattle.std.specs.Prelude.{◌≡◌, false, ◌<◌, length};
 ghost use Rattle.format.specs.Diskette.{Bytes, eight_inch};
 ghost use Rattle.format.specs.Fcb.{fcb_bytes};

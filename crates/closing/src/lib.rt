@@ -1,4 +1,6 @@
 // Closing an entry: what call 16 and a move share, and call 16 itself.
+#![tactic(auto)]
+
 ghost use Rattle.std.specs.Prelude.{◌≡◌, ◌<◌, length};
 ghost use Rattle.format.specs.Diskette.{Bytes, eight_inch, Long};
 ghost use Rattle.format.specs.Entries.{entry_at};

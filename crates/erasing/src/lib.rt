@@ -1,4 +1,6 @@
 // Entries erased: those that an FCB names become empty, and the blocks that they list, or that are pending for them, free.
+#![tactic(auto)]
+
 ghost use Rattle.std.specs.Prelude.{◌≡◌, true, ℕ, ◌≤◌, ◌<◌, length};
 ghost use Rattle.format.specs.Diskette.{eight_inch, Long};
 ghost use Rattle.format.specs.Entries.{entry_at, named};

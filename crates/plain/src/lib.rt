@@ -1,5 +1,7 @@
 // The calls that look for no entry. Each is handed only what it reads or changes; what it promises holds whatever the other buffers
 // are. A quiet call that no row of the table names promises what its rule tells, the others their own step.
+#![tactic(auto)]
+
 ghost use Rattle.std.specs.Prelude.{◌≡◌, length};
 ghost use Rattle.format.specs.Diskette.{Bytes, eight_inch, record_bytes};
 ghost use Rattle.format.specs.Entries.{entry_at};

@@ -1,4 +1,6 @@
 // The searches, calls 17 and 18. Each is handed only what it reads or changes; what it promises holds whatever the other buffers are.
+#![tactic(auto)]
+
 ghost use Rattle.std.specs.Prelude.{◌≡◌, length};
 ghost use Rattle.format.specs.Diskette.{Bytes, eight_inch, record_bytes, Long};
 ghost use Rattle.format.specs.Fcb.{fcb_bytes};

@@ -6,13 +6,9 @@ use Rattle.model.specs.Step.{effect, settled}
 use Rattle.table.specs.Own.{calling}
 use Rattle.table.specs.OwnStep.{carries_own}
 use borrow.Author.Rules.{rules}
-use Rattle.plain.proofs.free_blocks.Statement.{statement}
-use Rattle.plain.proofs.free_blocks.Tie as tie
+use Rattle.plain.proofs.free_blocks.Goals as goal
 
-returns : tie.Need-returns
+pub returns : goal.returns
 unfolding freed effect kind_of settled
 returns c = λ asked image fcb buffer.
-    carries_own eight_inch (calling 98 asked) _ _ _ tt (rw (c.done.ensures, c.before.before.before.free-pending.ensures))
-
-pub free-blocks-spec : {M : Type 1} → statement M
-free-blocks-spec = tie.close (tie.spec (λ c κs. search rules) (λ c κs. search rules) (λ c. search rules) returns)
+    carries_own eight_inch (calling 98 asked) _ _ _ tt (rw (c.done.ensures, c.free_pending.ensures))

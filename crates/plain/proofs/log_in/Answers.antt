@@ -6,13 +6,9 @@ use Rattle.model.specs.Step.{effect, settled}
 use Rattle.table.specs.Own.{calling}
 use Rattle.table.specs.OwnStep.{carries_own}
 use borrow.Author.Rules.{rules}
-use Rattle.plain.proofs.log_in.Statement.{statement}
-use Rattle.plain.proofs.log_in.Tie as tie
+use Rattle.plain.proofs.log_in.Goals as goal
 
-returns : tie.Need-returns
+pub returns : goal.returns
 unfolding logged_in effect kind_of settled
 returns c = λ asked image fcb buffer marked.
-    carries_own eight_inch (calling 13 asked) _ _ _ tt (rw (c.done.ensures, c.before.before.before.make-fresh.ensures _ marked))
-
-pub log-in-spec : {M : Type 1} → statement M
-log-in-spec = tie.close (tie.spec (λ c κs. search rules) (λ c κs. search rules) (λ c. search rules) returns)
+    carries_own eight_inch (calling 13 asked) _ _ _ tt (rw (c.done.ensures, c.make_fresh.ensures _ marked))

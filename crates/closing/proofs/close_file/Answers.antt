@@ -1,0 +1,32 @@
+-- `closing::close_file` meets its contract: the entry of the FCB decides, and a refusal comes before anything is written.
+use Prim.Native.Nat.{◌<◌}
+use borrow.Author.Rules.{rules}
+use Rattle.format.specs.Diskette.{eight_inch}
+use Rattle.closing.specs.Laws.{close_refused, close_low, close_carried}
+use Rattle.closing.proofs.close_file.Goals as goal
+
+pub returns-in_default : goal.returns-in_default
+returns-in_default c asked buffer =
+    let a = c.args in
+    let found = c.current_entry in
+    close_refused eight_inch a.image.now a.map.now a.fcb.now a.session found.result found.ensures asked buffer c.refuse.result
+    c.in_default.is c.refuse.ensures
+
+pub close_entry-requires : goal.close_entry-requires
+close_entry-requires c =
+    let a = c.args in
+    let found = c.current_entry in
+    let e = c.e.given in
+    let low : e.0.0 < eight_inch.entries =
+    close_low eight_inch a.image.now a.map.now a.fcb.now a.session found.result found.ensures e.0.0 e.1 in
+    search rules
+
+pub returns : goal.returns
+returns c asked buffer =
+    let a = c.args in
+    let found = c.current_entry in
+    let e = c.e.given in
+    let closed = c.close_entry in
+    close_carried eight_inch a.image.now a.map.now a.fcb.now a.session found.result found.ensures asked buffer e.0.0 c.done.result
+    closed.new.image closed.new.map c.clear_attributes.new.fcb e.1 c.done.ensures closed.ensures.0 closed.ensures.1
+    c.clear_attributes.ensures

@@ -1,0 +1,21 @@
+-- The loop's invariant: the entries below e are done, and marked where they were erased.
+use mathlib.Core.Path.{◌≡◌, refl, ◌∙◌}
+use mathlib.Core.Bool.{true}
+use Prim.Native.Nat.{◌-◌, ◌≤◌}
+use native.Mathlib.Omega.{arith}
+use lib.ListN.{length, length-set}
+use borrow.Author.Rules.{rules}
+use Rattle.format.specs.Diskette.{eight_inch}
+use Rattle.format.specs.Entries.{named}
+use Rattle.disk.specs.Eight.{eight_sound}
+use Rattle.consistency.specs.Naming.{named_used}
+use Rattle.erasing.specs.Erasing.{Erasing, erasing_none, erasing_more, erasing_image, erasing_map}
+use Rattle.erasing.proofs.erase_entries.Given as goal
+
+abbrev pub invariant-loop-e : goal.invariant-loop-e
+invariant-loop-e l =
+    Erasing eight_inch (named true l.user l.fcb 1) l.initial.image l.initial.map l.initial.picked l.e l.image l.map l.picked
+    × (length l.map ≡ length l.initial.map) × (length l.picked ≡ eight_inch.entries) × (l.e ≤ eight_inch.entries)
+
+abbrev pub decreases-loop-e : goal.decreases-loop-e
+decreases-loop-e l = eight_inch.entries - l.e

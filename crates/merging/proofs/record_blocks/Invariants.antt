@@ -1,0 +1,18 @@
+-- `merging::record_blocks` meets its contract. The invariant: the map is what the slots below j have made of it.
+use mathlib.Core.Path.{◌≡◌, refl, sym, ap, ◌∙◌}
+use Prim.Native.Nat.{◌-◌, ◌≤◌}
+use native.Mathlib.Omega.{arith}
+use lib.ListN.{length}
+use borrow.Author.Rules.{rules}
+use Rattle.lists.specs.Fold.{fold_below, fold_none, fold_next, fold_done}
+use Rattle.format.specs.Diskette.{Bytes, slot_count, eight_inch}
+use Rattle.model.specs.Closing.{closed_note}
+use Rattle.merging.specs.Merging.{same_none}
+use Rattle.fields.specs.Closing.{recorded_none}
+use Rattle.merging.proofs.record_blocks.Given as goal
+
+abbrev pub invariant-loop-j : goal.invariant-loop-j
+invariant-loop-j l = (l.map ≡ fold_below (closed_note eight_inch l.es l.fs) l.initial.map l.j) × (l.j ≤ slot_count) × (length l.map ≡ length l.initial.map)
+
+abbrev pub decreases-loop-j : goal.decreases-loop-j
+decreases-loop-j l = slot_count - l.j

@@ -1,0 +1,16 @@
+-- `merging::takes_slot` meets its contract.
+use Rattle.format.specs.Entries.{slot_in}
+use mathlib.Core.Path.{sym}
+use borrow.Author.Tests.{eq-eqb, ne_eqb}
+use borrow.Author.Rules.{rules}
+use Rattle.lists.specs.Tests.{and_fails_left, and_then}
+use Rattle.model.specs.Closing.{takes_slot_rule}
+use Rattle.merging.proofs.takes_slot.Goals as goal
+
+pub returns-then-es-j-ne0 : goal.returns-then-es-j-ne0
+unfolding takes_slot_rule slot_in
+returns-then-es-j-ne0 c = sym (and_fails_left _ _ (ne_eqb _ _ c.if-es-j-ne0.true))
+
+pub returns : goal.returns
+unfolding takes_slot_rule slot_in
+returns c = sym (and_then _ _ (eq-eqb _ _ c.if-es-j-ne0.false))

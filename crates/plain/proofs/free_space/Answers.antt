@@ -1,0 +1,9 @@
+-- Eight times the free notes are put into the buffer, and the answer is that of a call done.
+use Rattle.model.specs.Calls.{space}
+use borrow.Author.Rules.{rules}
+use Rattle.plain.proofs.free_space.Goals as goal
+
+pub returns : goal.returns
+unfolding space
+returns c = let p = c in
+    λ image fcb. rw (c.done.ensures, p.put_three.ensures, p.free_count-n.ensures.0)
