@@ -12,10 +12,6 @@ use Rattle.facts.specs.Found.{look_hit, look_end}
 use Rattle.facts.specs.Find.{empty_test}
 use Rattle.lookups.proofs.find_empty.Goals as goal
 
--- the test at each entry
-abbrev test : goal.Args → ℕ → Bool
-test a = empty_test (entry_at eight_inch a.image.now)
-
 pub loop-e-init : goal.loop-e-init
 loop-e-init c = refl
 
@@ -23,21 +19,21 @@ pub returns-then-row : goal.returns-then-row
 unfolding find_empty_rule empty
 returns-then-row c =
     let l = c in
-    let m = l.args in
-    let t : test m l.loop-e.e ≡ true = rw (← c.row.ensures.0) (eq-eqb _ _ c.if-row.true) in
-    look_hit (test m) 0 eight_inch.entries l.loop-e.e l.loop-e.invariant (omega arith) t
+    let m = l in
+    let t : (let a = m.args in empty_test (entry_at eight_inch a.image.now)) l.loop-e.e ≡ true = rw (← c.row.ensures.0) (eq-eqb _ _ c.if-row.true) in
+    look_hit ((let a = m.args in empty_test (entry_at eight_inch a.image.now))) 0 eight_inch.entries l.loop-e.e l.loop-e.invariant (omega arith) t
 
 pub loop-e-preserved : goal.loop-e-preserved
 unfolding empty
 loop-e-preserved c =
     let l = c in
-    let m = l.args in
-    let t : test m l.loop-e.e ≡ false = rw (← c.row.ensures.0) (ne_eqb _ _ c.if-row.false) in
-    first_turn (test m) l.loop-e.e eight_inch.entries (omega arith) t ∙ l.loop-e.invariant
+    let m = l in
+    let t : (let a = m.args in empty_test (entry_at eight_inch a.image.now)) l.loop-e.e ≡ false = rw (← c.row.ensures.0) (ne_eqb _ _ c.if-row.false) in
+    first_turn ((let a = m.args in empty_test (entry_at eight_inch a.image.now))) l.loop-e.e eight_inch.entries (omega arith) t ∙ l.loop-e.invariant
 
 pub returns : goal.returns
 unfolding find_empty_rule
 returns c =
     let l = c in
-    let m = l.args in
-    look_end (test m) 0 eight_inch.entries l.loop-e.e l.loop-e.invariant (omega arith)
+    let m = l in
+    look_end ((let a = m.args in empty_test (entry_at eight_inch a.image.now))) 0 eight_inch.entries l.loop-e.e l.loop-e.invariant (omega arith)

@@ -11,10 +11,6 @@ use Rattle.facts.specs.Found.{look_hit, look_end}
 use Rattle.facts.specs.Find.{named_test}
 use Rattle.lookups.proofs.find_named.Goals as goal
 
--- the test at each entry
-abbrev test : goal.Args → ℕ → Bool
-test a = named_test (entry_at eight_inch a.image.now) a.wild a.user a.s.now a.q
-
 pub loop-e-init : goal.loop-e-init
 loop-e-init c = refl
 
@@ -22,20 +18,20 @@ pub returns-then-is_named : goal.returns-then-is_named
 unfolding find_named_rule
 returns-then-is_named c =
     let l = c in
-    let m = l.args in
-    let t : test m l.loop-e.e ≡ true = rw (c.is_named.ensures, c.row.ensures.0) at c.if-is_named.true in
-    look_hit (test m) 0 eight_inch.entries l.loop-e.e l.loop-e.invariant (omega arith) t
+    let m = l in
+    let t : (let a = m.args in named_test (entry_at eight_inch a.image.now) a.wild a.user a.s.now a.q) l.loop-e.e ≡ true = rw (c.is_named.ensures, c.row.ensures.0) at c.if-is_named.true in
+    look_hit ((let a = m.args in named_test (entry_at eight_inch a.image.now) a.wild a.user a.s.now a.q)) 0 eight_inch.entries l.loop-e.e l.loop-e.invariant (omega arith) t
 
 pub loop-e-preserved : goal.loop-e-preserved
 loop-e-preserved c =
     let l = c in
-    let m = l.args in
-    let t : test m l.loop-e.e ≡ false = rw (c.is_named.ensures, c.row.ensures.0) at c.if-is_named.false in
-    first_turn (test m) l.loop-e.e eight_inch.entries (omega arith) t ∙ l.loop-e.invariant
+    let m = l in
+    let t : (let a = m.args in named_test (entry_at eight_inch a.image.now) a.wild a.user a.s.now a.q) l.loop-e.e ≡ false = rw (c.is_named.ensures, c.row.ensures.0) at c.if-is_named.false in
+    first_turn ((let a = m.args in named_test (entry_at eight_inch a.image.now) a.wild a.user a.s.now a.q)) l.loop-e.e eight_inch.entries (omega arith) t ∙ l.loop-e.invariant
 
 pub returns : goal.returns
 unfolding find_named_rule
 returns c =
     let l = c in
-    let m = l.args in
-    look_end (test m) 0 eight_inch.entries l.loop-e.e l.loop-e.invariant (omega arith)
+    let m = l in
+    look_end ((let a = m.args in named_test (entry_at eight_inch a.image.now) a.wild a.user a.s.now a.q)) 0 eight_inch.entries l.loop-e.e l.loop-e.invariant (omega arith)
