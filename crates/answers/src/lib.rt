@@ -1,4 +1,6 @@
 // How a call ends: the session's changes, and the answer of a code.
+#![tactic(auto)]
+
 ghost use Rattle.std.specs.Prelude.{◌≡◌};
 ghost use Rattle.model.specs.Codes.{says_of};
 ghost use Rattle.model.specs.Lent.{ended, searching, with_user, answer_of};

@@ -1,5 +1,7 @@
 // The calls as code tells them apart: `model`'s list once more, by each of its columns. A match whose arms are single numbers and plain
 // answers is one look-up.
+#![tactic(auto)]
+
 ghost use Rattle.std.specs.Prelude.{◌≡◌, not};
 ghost use Rattle.model.specs.declared.Kind.TheVariants.{Unlisted, Write};
 ghost use Rattle.model.specs.Kinds.{kind_of, uses_fcb_rule, is_random_rule, same, of_record};

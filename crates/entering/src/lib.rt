@@ -1,4 +1,6 @@
 // The rows that calls make and the bytes that an FCB takes from a row: what 15, 22, 23 and moves share.
+#![tactic(auto)]
+
 ghost use Rattle.std.specs.Prelude.{◌≡◌, ◌+◌, ◌*◌, ◌/◌, ◌%◌, ◌≤◌, ◌<◌, length};
 ghost use Rattle.lists.specs.Splice.{splice};
 ghost use Rattle.format.specs.Entries.{extent_of};

@@ -1,4 +1,6 @@
 // What is wrong with the bytes of a head, each held against a lowest, a highest and a barred number.
+#![tactic(auto)]
+
 ghost use Rattle.std.specs.Prelude.{◌≡◌, cond, ℕ, ◌-◌, ◌≤◌, eqb, length, get_or};
 ghost use Rattle.std.specs.Int.Bits.{bit_and};
 ghost use Rattle.lists.specs.Tab.{tab};

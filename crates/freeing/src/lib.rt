@@ -1,4 +1,6 @@
 // Blocks that become free: all that are pending, those that slots list, and those that are pending for some entries.
+#![tactic(auto)]
+
 ghost use Rattle.std.specs.Prelude.{◌≡◌, length};
 ghost use Rattle.format.specs.Diskette.{eight_inch};
 ghost use Rattle.format.specs.Notes.{settled_note_rule, freed_map, held_for_rule};

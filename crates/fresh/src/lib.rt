@@ -1,4 +1,6 @@
 // The fresh map: the notes of a directory whose listed blocks are marked, with nothing pending.
+#![tactic(auto)]
+
 ghost use Rattle.std.specs.Prelude.{◌≡◌, ◌<◌, length};
 ghost use Rattle.format.specs.Diskette.{eight_inch};
 ghost use Rattle.format.specs.Entries.{Rows};

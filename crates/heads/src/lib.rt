@@ -1,5 +1,7 @@
 // The head of a directory entry, its first sixteen bytes: whether they are in range. Every call asks this of every entry, so it is
 // written for all sixteen at once.
+#![tactic(auto)]
+
 ghost use Rattle.std.specs.Prelude.{◌≡◌, ◌≤◌, length};
 ghost use Rattle.lists.specs.Tab.{tab};
 ghost use Rattle.format.specs.Diskette.{entry_bytes};

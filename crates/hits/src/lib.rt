@@ -1,4 +1,6 @@
 // A row against a search pattern, and the first entry that a pattern hits.
+#![tactic(auto)]
+
 ghost use Rattle.std.specs.Prelude.{◌≡◌, ◌≤◌, length};
 ghost use Rattle.format.specs.Diskette.{eight_inch, Long, entry_bytes};
 ghost use Rattle.format.specs.Entries.{entry_at};

@@ -1,5 +1,7 @@
 // The key of a directory entry, made of user, name and extent: entries of one file share it. Every call asks for every entry's, so it is
 // made of two words.
+#![tactic(auto)]
+
 ghost use Rattle.std.specs.Prelude.{◌≡◌, ◌+◌, ◌≤◌, ◌<◌, length};
 ghost use Rattle.format.specs.Diskette.{entry_bytes};
 ghost use Rattle.format.specs.Names.{name_bytes};

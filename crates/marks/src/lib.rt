@@ -1,4 +1,6 @@
 // A mark for each block number, by which one that is out of range or was listed before is seen when it comes.
+#![tactic(auto)]
+
 ghost use Rattle.std.specs.Prelude.{◌≡◌, get_or, length};
 ghost use Rattle.format.specs.Diskette.{eight_inch};
 ghost use Rattle.facts.specs.Marks.{mark_count};

@@ -1,4 +1,6 @@
 // The slots of an FCB against an entry's: whether each is the entry's, or holds a block that is pending for it.
+#![tactic(auto)]
+
 ghost use Rattle.std.specs.Prelude.{◌≡◌, ◌≤◌, ◌<◌, length};
 ghost use Rattle.format.specs.Diskette.{eight_inch, slot_count};
 ghost use Rattle.format.specs.Fcb.{slot_fits_rule, slots_fit_rule};

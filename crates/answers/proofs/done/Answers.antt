@@ -1,0 +1,7 @@
+-- The search ends first.
+use mathlib.Core.Path.{◌∙◌}
+use borrow.Author.Rules.{rules}
+use Rattle.answers.proofs.done.Goals as goal
+
+pub returns : goal.returns
+returns c = c.accept.ensures ∙ rw c.end_search.ensures

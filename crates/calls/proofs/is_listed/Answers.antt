@@ -1,0 +1,17 @@
+-- Every kind but the first is a call's.
+use mathlib.Core.Path.{sym, ap}
+use mathlib.Core.Bool.{not}
+use mathlib.Core.List.{[], ◌∷◌}
+use types.Run.{miss}
+use borrow.Author.Rules.{rules}
+use Rattle.model.specs.declared.Kind.TheVariants.{Unlisted}
+use Rattle.calls.specs.Apart.{not_same}
+use Rattle.calls.proofs.is_listed.Goals as goal
+
+pub returns-in-Unlisted : goal.returns-in-Unlisted
+returns-in-Unlisted c = sym (rw c.in-Unlisted.is)
+
+pub returns-in_default : goal.returns-in_default
+returns-in_default c =
+    sym (ap not (not_same c.args.kind Unlisted
+    (λ q. miss (1 ∷ 2 ∷ 3 ∷ 4 ∷ 5 ∷ 6 ∷ 7 ∷ 8 ∷ 9 ∷ 10 ∷ []) 0 tt (rw q at c.in_default.is))))

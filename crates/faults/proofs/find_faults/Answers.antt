@@ -1,0 +1,24 @@
+-- The loop keeps that the faults below i are filled in.
+use mathlib.Core.Path.{◌≡◌}
+use Prim.Native.Nat.{ℕ, ◌-◌, ◌≤◌}
+use lib.ListN.{get_or, length, length-set}
+use lib.Bits.{bit_and}
+use Rattle.lists.specs.Tab.{Filled, filled_none, filled_more, filled_all}
+use Rattle.faults.specs.Faults.{head_bytes, fault_of}
+use borrow.Author.Rules.{rules}
+use native.Mathlib.Omega.{arith}
+use Rattle.faults.proofs.find_faults.Goals as goal
+
+pub loop-i-init : goal.loop-i-init
+loop-i-init c = (filled_none _ _, omega arith, c.requires.5)
+
+pub loop-i-preserved : goal.loop-i-preserved
+loop-i-preserved c =
+    let l = c.loop-i in
+    (filled_more _ _ l.i l.out c.fault.result (omega arith) c.fault.ensures l.invariant.0, omega arith, simp length-set l.invariant.2)
+
+pub returns : goal.returns
+returns c =
+    let l = c.loop-i in
+    let a = c in
+    filled_all _ _ head_bytes l.i l.out a.requires.5 (omega arith) l.invariant.0

@@ -1,0 +1,29 @@
+-- `freeing::free_held` meets its contract. The loop's invariant: the notes below b are freed where they are held, the others as they were.
+use Prim.Native.Nat.{ℕ, ◌-◌, ◌≤◌}
+use native.Mathlib.Omega.{arith}
+use borrow.Author.Rules.{rules}
+use Rattle.lists.specs.Tab.{Filled, filled_none, filled_all}
+use Rattle.format.specs.Diskette.{eight_inch}
+use Rattle.format.specs.Notes.{note_at_rule}
+use Rattle.notes.specs.Changes.{changed_note}
+use Rattle.freeing.specs.Freeing.{unheld_note_rule, unheld_map, marks_pick}
+use Rattle.freeing.proofs.free_held.Goals as goal
+
+pub loop-b-init : goal.loop-b-init
+loop-b-init c = (filled_none _ _, omega arith)
+
+pub loop-b-preserved : goal.loop-b-preserved
+loop-b-preserved c = let l = c in (
+  changed_note (λ (k n : ℕ). unheld_note_rule (marks_pick l.args.picked.now) n)
+      l.args.map.now l.loop-b.b l.loop-b.map _
+      c.unheld_note-n.result c.set_note.ensures (omega arith)
+      c.unheld_note-n.ensures l.loop-b.invariant.0,
+  omega arith,
+)
+
+pub returns : goal.returns
+unfolding unheld_map
+returns c =
+    let l = c in
+    filled_all _ l.args.map.now eight_inch.blocks l.loop-b.b l.loop-b.map
+    l.requires.0 (omega arith) l.loop-b.invariant.0
