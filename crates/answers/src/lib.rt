@@ -38,7 +38,7 @@ pub fn set_user(s: Session, user: u8) -> Session
 }
 
 // A code's line: A, H, and whether a search is over with it, as document 01 has them.
-#[derive(Drop)]
+#[derive(Clone, Copy)]
 struct Line(u8, u8, bool);
 
 fn line_of(code: Code) -> Line

@@ -15,14 +15,14 @@ use model::{Answer, Asked, Session};
 use targets::Target;
 
 // What a run comes to: whether its first call was accepted, and the session that it left.
-#[derive(Drop)]
+#[derive(Clone, Copy)]
 pub struct Ran {
     pub accepted: bool,
     pub session: Session,
 }
 
 // What a write and a read after it come to: whether a write was accepted, and what the last call made answered.
-#[derive(Drop)]
+#[derive(Clone, Copy)]
 pub struct ReadBack {
     pub accepted: bool,
     pub answer: Answer,

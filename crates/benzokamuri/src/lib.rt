@@ -13,7 +13,7 @@ use picking::{Time, Wanted};
 // What a run of the picker tells: how it ended, by its number, and A and H of the refusal that has no number of its own; given is 1 where the word was
 // handed out, else 0.
 #[repr(C)]
-#[derive(Drop)]
+#[derive(Clone, Copy)]
 pub struct Picked {
     pub number: u8,
     pub given: u8,
@@ -79,7 +79,7 @@ pub extern "C" fn benzo_pick(
 {
     let told = picker::pick(wanted, time, image, map, word, session);
     let pick = told.pick;
-    let says = logbook::says_of(pick);
+    let says = daybook::says_of(pick);
     let left = told.session;
     Picked {
         number: says.number,

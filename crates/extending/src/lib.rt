@@ -12,7 +12,7 @@ use picking::{Noted, Pick, Time, Wanted};
 const FULL_LOG: usize = 1024;
 
 // How far a search of the log has come: whether a record had the year and day, and the session that the reads left.
-#[derive(Drop)]
+#[derive(Clone, Copy)]
 pub struct Searching {
     pub found: bool,
     pub session: Session,
@@ -34,13 +34,13 @@ fn look_at(
     if s.found {
         return s;
     }
-    let mut f = logbook::at_record(fcb, r);
-    let mut buffer = logbook::blank_record();
+    let mut f = daybook::at_record(fcb, r);
+    let mut buffer = daybook::blank_record();
     let session = s.session;
     let answer = logging::call(time, 33, image, map, &mut f, &mut buffer, session);
     let left = answer.session;
     Searching {
-        found: logbook::tells_day(wanted.year, wanted.day, answer, buffer),
+        found: daybook::tells_day(wanted.year, wanted.day, answer, buffer),
         session: left,
     }
 }
@@ -129,15 +129,15 @@ pub fn extend_log(
         ≡ extended eight_inch time wanted (disk_of image.old map.old session) n }
 {
     let log = wanted.log;
-    let mut f = logbook::fcb_of(log);
-    let mut buffer = logbook::blank_record();
+    let mut f = daybook::fcb_of(log);
+    let mut buffer = daybook::blank_record();
     let answer = logging::call(time, 15, image, map, &mut f, &mut buffer, session);
     let left = answer.session;
-    if logbook::entry_accepted(answer) {
+    if daybook::entry_accepted(answer) {
         return search_and_add(wanted, time, image, map, f, n, left);
     }
     Noted {
-        pick: logbook::missing(Pick::NoFirst, answer),
+        pick: daybook::missing(Pick::NoFirst, answer),
         session: left,
     }
 }

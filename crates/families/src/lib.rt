@@ -1,4 +1,6 @@
 // Calls 19 and 23, which change every extent of the files that they name: these are deleted or renamed.
+#![tactic(auto)]
+
 ghost use Rattle.std.specs.Prelude.{◌≡◌, true, false, ◌≤◌, ◌<◌, length};
 ghost use Rattle.lists.specs.Tests.{◌and◌};
 ghost use Rattle.format.specs.Diskette.{Bytes, eight_inch, Long, entry_bytes};

@@ -1,4 +1,6 @@
 // Calls 15, 22 and 35: a file is opened, made, and its size told.
+#![tactic(auto)]
+
 ghost use Rattle.std.specs.Prelude.{◌≡◌, false, ◌<◌, length};
 ghost use Rattle.format.specs.Diskette.{Bytes, eight_inch, Long};
 ghost use Rattle.format.specs.Entries.{entry_at, named};

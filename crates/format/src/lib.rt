@@ -4,7 +4,7 @@
 #![tactic(auto)]
 
 // The answer of a look-up: the number of an entry or a block, or that there is none.
-#[derive(Drop)]
+#[derive(Clone, Copy)]
 pub enum Found {
     At(usize),
     Nothing,

@@ -13,7 +13,7 @@ use Rattle.picking.specs.declared.Pick.{Pick}
 use Rattle.picking.specs.declared.Pick.TheVariants.{DirectoryFull, DiskFull}
 use Rattle.picking.specs.Picker.{space_in_rule, call_at, asking, accepted, is_code, otherwise, tell, writing, making}
 use Rattle.picking.specs.Picker.{closing, spacing, unlocked, relocked, lifted_call_rule, closed, write_trouble_rule, written, made, begun}
-use Rattle.logbook.specs.Said.{close_told_rule}
+use Rattle.daybook.specs.Said.{close_told_rule}
 
 -- ---- one call
 -- a call that asks with equal bytes comes to the same

@@ -53,13 +53,13 @@ fn lifted_call(
         ≡ lifted_call_rule eight_inch (disk_of image.old map.old session)
         (asking time number fcb.old buffer.old) }
 {
-    let lifted = logbook::unlock(session);
+    let lifted = daybook::unlock(session);
     let answer = call(time, number, image, map, fcb, buffer, lifted);
     let left = answer.session;
     Answer {
         a: answer.a,
         h: answer.h,
-        session: logbook::relock(session, left),
+        session: daybook::relock(session, left),
     }
 }
 
@@ -75,11 +75,11 @@ fn close_log(
         ≡ closed eight_inch time (disk_of image.old map.old session) fcb }
 {
     let mut f = fcb;
-    let mut buffer = logbook::blank_record();
+    let mut buffer = daybook::blank_record();
     let answer = lifted_call(time, 16, image, map, &mut f, &mut buffer, session);
     let left = answer.session;
     Noted {
-        pick: logbook::close_told(answer),
+        pick: daybook::close_told(answer),
         session: left,
     }
 }
@@ -97,15 +97,15 @@ pub fn write_log(
     ensures { notes result image.new map.new
         ≡ written eight_inch time wanted (disk_of image.old map.old session) fcb n }
 {
-    let mut f = logbook::at_record(fcb, n);
-    let mut buffer = logbook::log_record(wanted.year, wanted.day);
+    let mut f = daybook::at_record(fcb, n);
+    let mut buffer = daybook::log_record(wanted.year, wanted.day);
     let answer = lifted_call(time, 34, image, map, &mut f, &mut buffer, session);
     let left = answer.session;
-    if logbook::record_accepted(answer) {
+    if daybook::record_accepted(answer) {
         return close_log(time, image, map, f, left);
     }
     Noted {
-        pick: logbook::write_trouble(answer),
+        pick: daybook::write_trouble(answer),
         session: left,
     }
 }
@@ -122,15 +122,15 @@ fn make_log(
         ≡ made eight_inch time wanted (disk_of image.old map.old session) }
 {
     let log = wanted.log;
-    let mut f = logbook::fcb_of(log);
-    let mut buffer = logbook::blank_record();
+    let mut f = daybook::fcb_of(log);
+    let mut buffer = daybook::blank_record();
     let answer = lifted_call(time, 22, image, map, &mut f, &mut buffer, session);
     let left = answer.session;
-    if logbook::entry_accepted(answer) {
+    if daybook::entry_accepted(answer) {
         return write_log(wanted, time, image, map, f, 0, left);
     }
     Noted {
-        pick: logbook::missing(Pick::DirectoryFull, answer),
+        pick: daybook::missing(Pick::DirectoryFull, answer),
         session: left,
     }
 }
@@ -147,12 +147,12 @@ pub fn begin_log(
         ≡ begun eight_inch time wanted (disk_of image.old map.old session) }
 {
     let log = wanted.log;
-    let mut f = logbook::fcb_of(log);
-    let mut buffer = logbook::blank_record();
+    let mut f = daybook::fcb_of(log);
+    let mut buffer = daybook::blank_record();
     let answer = call(time, 46, image, map, &mut f, &mut buffer, session);
     let left = answer.session;
-    if logbook::entry_accepted(answer) {
-        if logbook::space_in(buffer) == 0 {
+    if daybook::entry_accepted(answer) {
+        if daybook::space_in(buffer) == 0 {
             return Noted {
                 pick: Pick::DiskFull,
                 session: left,
@@ -161,7 +161,7 @@ pub fn begin_log(
         return make_log(wanted, time, image, map, left);
     }
     Noted {
-        pick: logbook::other(answer),
+        pick: daybook::other(answer),
         session: left,
     }
 }

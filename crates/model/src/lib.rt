@@ -4,7 +4,7 @@
 
 // What is asked: the call's number and its argument; and the time: the day, 1 January 1978 being 1, hour and minute in BCD.
 #[repr(C)]
-#[derive(Drop)]
+#[derive(Clone, Copy)]
 pub struct Asked {
     pub number: u8,
     pub argument: u8,
@@ -16,7 +16,7 @@ pub struct Asked {
 // What passes from call to call: the user, a search with its pattern, its next place, and whether it is on (any but 0), and whether the
 // write protection is lifted (any but 0).
 #[repr(C)]
-#[derive(Drop)]
+#[derive(Clone, Copy)]
 pub struct Session {
     pub user: u8,
     pub pattern: [u8; 12],
@@ -26,7 +26,7 @@ pub struct Session {
 }
 
 #[repr(C)]
-#[derive(Drop)]
+#[derive(Clone, Copy)]
 pub struct Answer {
     pub a: u8,
     pub h: u8,
@@ -34,7 +34,7 @@ pub struct Answer {
 }
 
 // What a call may change besides A, H and the search. `specs/Kinds.antt` lists the calls with their kinds.
-#[derive(Drop)]
+#[derive(Clone, Copy)]
 pub enum Kind {
     Unlisted,
     Quiet,
@@ -50,7 +50,7 @@ pub enum Kind {
 }
 
 // How a call ends. specs/Codes.antt gives document 01's A and H for each case.
-#[derive(Drop)]
+#[derive(Clone, Copy)]
 pub enum Code {
     Accepted(u8),
     NotListed,
@@ -71,7 +71,7 @@ pub enum Code {
 }
 
 // What the table of refusals says of a call.
-#[derive(Drop)]
+#[derive(Clone, Copy)]
 pub enum Verdict {
     Passed,
     Refused(Code),
@@ -79,7 +79,7 @@ pub enum Verdict {
 
 // What a record call that the table passed works on: the FCB's entry, the target's entry where that is another or a new one, and
 // the target's block.
-#[derive(Drop)]
+#[derive(Clone, Copy)]
 pub enum Plan {
     Stay(usize, usize),
     Move(usize, usize, usize),

@@ -16,7 +16,7 @@ use Rattle.picking.specs.declared.Told.{Told}
 use Rattle.picking.specs.declared.Pick.TheVariants.{DayOver, NoBook, OneFile}
 use Rattle.picking.specs.Picker.{Logging, picks, one_file_rule, last_day, accepted, is_code, otherwise, tell, opening}
 use Rattle.picking.specs.Picker.{reading, sizing, extended, begun, logged, worded, wordless, fetched, looked, picked}
-use Rattle.logbook.specs.Said.{read_trouble_rule}
+use Rattle.daybook.specs.Said.{read_trouble_rule}
 
 -- a call that was refused leaves the buffer as it was
 pub refused_buffer : (G : Geometry) (d : Disk) (q : Request) (o : Outcome) → o ≡ outcome_of G d q → accepted_answer q.asked.number o.answer ≡ false

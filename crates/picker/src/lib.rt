@@ -16,18 +16,18 @@ fn log_day(wanted: Wanted, time: Time, image: &mut [u8], map: &mut [u16], sessio
         ≡ logged eight_inch time wanted (disk_of image.old map.old session) }
 {
     let log = wanted.log;
-    let mut f = logbook::fcb_of(log);
-    let mut buffer = logbook::blank_record();
+    let mut f = daybook::fcb_of(log);
+    let mut buffer = daybook::blank_record();
     let answer = logging::call(time, 35, image, map, &mut f, &mut buffer, session);
     let left = answer.session;
-    if logbook::entry_accepted(answer) {
-        return extending::extend_log(wanted, time, image, map, logbook::size_in(f), left);
+    if daybook::entry_accepted(answer) {
+        return extending::extend_log(wanted, time, image, map, daybook::size_in(f), left);
     }
-    if logbook::is_code(255, 0, answer) {
+    if daybook::is_code(255, 0, answer) {
         return logging::begin_log(wanted, time, image, map, left);
     }
     Noted {
-        pick: logbook::other(answer),
+        pick: daybook::other(answer),
         session: left,
     }
 }
@@ -43,7 +43,7 @@ fn log_apart(
     ensures { notes result image.new map.new
         ≡ logged_apart eight_inch time wanted (disk_of image.old map.old session) }
 {
-    if logbook::one_file(wanted) {
+    if daybook::one_file(wanted) {
         return Noted {
             pick: Pick::OneFile,
             session: session,
@@ -80,14 +80,14 @@ fn fetch(
     ensures { picks result word.new image.new map.new
         ≡ fetched eight_inch time wanted (disk_of image.old map.old session) fcb word.old }
 {
-    let mut f = logbook::at_record(fcb, wanted.day as usize);
+    let mut f = daybook::at_record(fcb, wanted.day as usize);
     let answer = logging::call(time, 33, image, map, &mut f, word, session);
     let left = answer.session;
-    if logbook::record_accepted(answer) {
+    if daybook::record_accepted(answer) {
         return hand_out(wanted, time, image, map, left);
     }
-    let pick = logbook::read_trouble(answer);
-    logbook::wordless(pick, left)
+    let pick = daybook::read_trouble(answer);
+    daybook::wordless(pick, left)
 }
 
 // The book opened, and the day's word fetched.
@@ -103,15 +103,15 @@ fn look_up(
         ≡ looked eight_inch time wanted (disk_of image.old map.old session) word.old }
 {
     let book = wanted.book;
-    let mut f = logbook::fcb_of(book);
-    let mut buffer = logbook::blank_record();
+    let mut f = daybook::fcb_of(book);
+    let mut buffer = daybook::blank_record();
     let answer = logging::call(time, 15, image, map, &mut f, &mut buffer, session);
     let left = answer.session;
-    if logbook::entry_accepted(answer) {
+    if daybook::entry_accepted(answer) {
         return fetch(wanted, time, image, map, f, word, left);
     }
-    let pick = logbook::missing(Pick::NoBook, answer);
-    logbook::wordless(pick, left)
+    let pick = daybook::missing(Pick::NoBook, answer);
+    daybook::wordless(pick, left)
 }
 
 // A run of the picker, whatever it is handed.
@@ -126,8 +126,8 @@ pub fn pick(
     ensures { picks result word.new image.new map.new
         ≡ picked eight_inch time wanted (disk_of image.old map.old session) word.old }
 {
-    if logbook::day_over(wanted.day) {
-        return logbook::wordless(Pick::DayOver, session);
+    if daybook::day_over(wanted.day) {
+        return daybook::wordless(Pick::DayOver, session);
     }
     look_up(wanted, time, image, map, word, session)
 }

@@ -3,7 +3,7 @@ use model::Session;
 
 // What is wanted: the word of a day of a year, out of a book, with a log; the names are those of an FCB, eleven bytes.
 #[repr(C)]
-#[derive(Drop)]
+#[derive(Clone, Copy)]
 pub struct Wanted {
     pub year: u16,
     pub day: u16,
@@ -13,7 +13,7 @@ pub struct Wanted {
 
 // The time at which it is wanted, as every call is handed it: the day, 1 January 1978 being 1, hour and minute in BCD.
 #[repr(C)]
-#[derive(Drop)]
+#[derive(Clone, Copy)]
 pub struct Time {
     pub day: u16,
     pub hour: u8,
@@ -22,7 +22,7 @@ pub struct Time {
 
 // How a run ends: the word picked and logged, picked again, or a trouble by its name; the last is any other refusal of a call, with its A and H.
 // specs/Numbers.antt gives each its number.
-#[derive(Drop)]
+#[derive(Clone, Copy)]
 pub enum Pick {
     Logged,
     Again,
@@ -39,14 +39,14 @@ pub enum Pick {
 }
 
 // What logging a day tells.
-#[derive(Drop)]
+#[derive(Clone, Copy)]
 pub struct Noted {
     pub pick: Pick,
     pub session: Session,
 }
 
 // What a run tells, and whether it handed out the word.
-#[derive(Drop)]
+#[derive(Clone, Copy)]
 pub struct Told {
     pub pick: Pick,
     pub given: bool,

@@ -1,4 +1,6 @@
 // Where a record of an extent lies, and what a write of it leaves in the map and in the FCB.
+#![tactic(auto)]
+
 ghost use Rattle.std.specs.Prelude.{◌≡◌, ◌*◌, ◌≤◌, ◌<◌, length};
 ghost use Rattle.format.specs.Diskette.{eight_inch, slot_count, extent_records};
 ghost use Rattle.format.specs.Fcb.{fcb_bytes};

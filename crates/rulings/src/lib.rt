@@ -13,7 +13,7 @@ use model::{Code, Plan};
 use targets::Target;
 
 // What the state says of a record call.
-#[derive(Drop)]
+#[derive(Clone, Copy)]
 pub enum Ruling {
     Refuse(Code),
     Follow(Plan),

@@ -16,7 +16,7 @@ const LIFTS: usize = 256;
 const PROTECTS: usize = 257;
 
 // Where a run stands: past the FCBs and the buffers of the acts that were made, and the session that these left.
-#[derive(Drop)]
+#[derive(Clone, Copy)]
 struct Point {
     fcbs: usize,
     buffers: usize,

@@ -12,7 +12,7 @@ use model::{Answer, Asked};
 
 // The stamps that are due, in the order in which they are put: an entry's update gets the time, both stamps of a new entry become zero,
 // and an entry's create or access gets the time.
-#[derive(Drop)]
+#[derive(Clone, Copy)]
 pub struct Due {
     pub update: Found,
     pub new: Found,

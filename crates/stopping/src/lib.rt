@@ -1,4 +1,6 @@
 // Plans of reads that the write protection stops: those that would change an entry.
+#![tactic(auto)]
+
 ghost use Rattle.std.specs.Prelude.{◌≡◌, length};
 ghost use Rattle.lists.specs.Tests.{◌and◌};
 ghost use Rattle.format.specs.Diskette.{Bytes, eight_inch, Long};

@@ -12,7 +12,7 @@ use format::Found;
 use model::{Code, Plan};
 
 // Where a record call goes: the extent, the record in it, and cr afterwards.
-#[derive(Drop)]
+#[derive(Clone, Copy)]
 pub struct Target {
     pub extent: usize,
     pub at: usize,

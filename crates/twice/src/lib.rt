@@ -24,7 +24,7 @@ pub fn pick_once(
 }
 
 // What two runs tell.
-#[derive(Drop)]
+#[derive(Clone, Copy)]
 pub struct Twice {
     pub first: Picked,
     pub second: Picked,

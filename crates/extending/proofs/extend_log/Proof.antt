@@ -3,7 +3,7 @@ use mathlib.Core.Path.{sym, ◌∙◌}
 use borrow.Author.Rules.{rules}
 use Rattle.format.specs.Diskette.{eight_inch}
 use Rattle.demands.specs.Runs.{disk_of, outcome_of}
-use Rattle.logbook.specs.Said.{of_entries}
+use Rattle.daybook.specs.Said.{of_entries}
 use Rattle.logging.specs.Laws.{asked_alike}
 use Rattle.extending.specs.Laws.{extended_searches, extended_fails}
 use Rattle.extending.proofs.extend_log.Statement.{statement}

@@ -4,7 +4,7 @@ use borrow.Author.Rules.{rules}
 use Rattle.format.specs.Diskette.{eight_inch}
 use Rattle.demands.specs.Runs.{disk_of}
 use Rattle.picking.specs.Picker.{lifted_call_rule}
-use Rattle.logbook.specs.Said.{of_entries}
+use Rattle.daybook.specs.Said.{of_entries}
 use Rattle.logging.specs.Laws.{asked_alike, made_writes, made_fails}
 use Rattle.logging.proofs.make_log.Statement.{statement}
 use Rattle.logging.proofs.make_log.Tie as tie

@@ -4,7 +4,7 @@ use borrow.Author.Rules.{rules}
 use Rattle.format.specs.Diskette.{eight_inch}
 use Rattle.demands.specs.Runs.{disk_of}
 use Rattle.picking.specs.Picker.{lifted_call_rule}
-use Rattle.logbook.specs.Said.{of_records}
+use Rattle.daybook.specs.Said.{of_records}
 use Rattle.logging.specs.Laws.{asked_alike, written_closes, written_fails}
 use Rattle.logging.proofs.write_log.Statement.{statement}
 use Rattle.logging.proofs.write_log.Tie as tie

@@ -4,7 +4,7 @@ use borrow.Author.Rules.{rules}
 use Rattle.format.specs.Diskette.{eight_inch}
 use Rattle.model.specs.Lent.{outcome}
 use Rattle.demands.specs.Runs.{disk_of, outcome_of}
-use Rattle.logbook.specs.Said.{of_records}
+use Rattle.daybook.specs.Said.{of_records}
 use Rattle.logging.specs.Laws.{asked_alike}
 use Rattle.picker.specs.Laws.{fetched_worded, fetched_fails}
 use Rattle.picker.proofs.fetch.Statement.{statement}

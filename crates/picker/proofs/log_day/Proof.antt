@@ -3,7 +3,7 @@ use mathlib.Core.Path.{sym, ◌∙◌}
 use borrow.Author.Rules.{rules}
 use Rattle.format.specs.Diskette.{eight_inch}
 use Rattle.demands.specs.Runs.{disk_of, outcome_of}
-use Rattle.logbook.specs.Said.{of_entries}
+use Rattle.daybook.specs.Said.{of_entries}
 use Rattle.logging.specs.Laws.{asked_alike}
 use Rattle.picker.specs.Laws.{logged_extends, logged_begins, logged_fails}
 use Rattle.picker.proofs.log_day.Statement.{statement}

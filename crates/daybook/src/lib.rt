@@ -1,0 +1,315 @@
+// What the picker needs beside the calls: the FCB of a name, the log's records and numbers in bytes, what an answer comes to, and the protection put
+// back as it was.
+ghost use Rattle.std.specs.Prelude.{◌≡◌, true, false, cond, ℕ, ◌<◌, ltb};
+ghost use Rattle.lists.specs.Tests.{◌and◌};
+ghost use Rattle.format.specs.Fcb.{random_of_rule};
+ghost use Rattle.model.specs.Kinds.{kind_of, of_record};
+ghost use Rattle.model.specs.Lent.{Lent};
+ghost use Rattle.table.specs.Accepted.{accepted_answer};
+ghost use Rattle.demands.specs.Reading.{at_record_rule};
+ghost use Rattle.picking.specs.Numbers.{says_of};
+ghost use Rattle.picking.specs.Picker.{fcb_of_rule, blank, digit, stamp_of_rule, log_record_rule, has_stamp_rule, one_file_rule};
+ghost use Rattle.picking.specs.Picker.{space_in_rule, last_day, is_code, otherwise, write_trouble_rule, unlocked, relocked};
+ghost use Rattle.daybook.specs.Said.{said, read_trouble_rule, close_told_rule};
+
+use model::{Answer, Session};
+use picking::{Pick, Told, Wanted};
+
+// The bytes of a log record that tell year and day.
+const STAMP_BYTES: usize = 9;
+
+const LAST_DAY: u16 = 365;
+
+// What hosts are told of how a run ended: a number, and A and H where that is a refusal without a name of its own.
+#[derive(Clone, Copy)]
+pub struct Says {
+    pub number: u8,
+    pub a: u8,
+    pub h: u8,
+}
+
+// ---- bytes
+// The FCB of a name: drive 0, extent 0, all else 0.
+pub fn fcb_of(name: [u8; 11]) -> [u8; 36]
+    ensures { result ≡ fcb_of_rule name }
+{
+    let mut fcb = [0u8; 36];
+    lists::put(&mut fcb, 1, &name);
+    fcb
+}
+
+// The FCB with r0 to r2 set to a record.
+pub fn at_record(fcb: [u8; 36], number: usize) -> [u8; 36]
+    ensures { result ≡ at_record_rule fcb number }
+{
+    let bytes = [
+        (number % 256) as u8,
+        (number / 256 % 256) as u8,
+        (number / 65536 % 256) as u8,
+    ];
+    let mut at = fcb;
+    lists::put(&mut at, 33, &bytes);
+    at
+}
+
+// A buffer whose bytes do not matter.
+pub fn blank_record() -> [u8; 128]
+    ensures { result ≡ blank }
+{
+    [0u8; 128]
+}
+
+// The digit of a number at a power of ten.
+fn digit_at(n: u16, ten: u16) -> u8
+    requires { 0 < ten }
+    ensures { result ≡ digit n ten }
+{
+    (48 + n / ten % 10) as u8
+}
+
+// Five digits of the year, a space, three digits of the day.
+fn stamp_of(year: u16, day: u16) -> [u8; 9]
+    ensures { result ≡ stamp_of_rule year day }
+{
+    [
+        digit_at(year, 10000),
+        digit_at(year, 1000),
+        digit_at(year, 100),
+        digit_at(year, 10),
+        digit_at(year, 1),
+        32,
+        digit_at(day, 100),
+        digit_at(day, 10),
+        digit_at(day, 1),
+    ]
+}
+
+// The record that logs a day: its stamp, CR, LF, and 1AH to the end.
+pub fn log_record(year: u16, day: u16) -> [u8; 128]
+    ensures { result ≡ log_record_rule year day }
+{
+    let stamp = stamp_of(year, day);
+    let mut bytes = [26u8; 128];
+    lists::put(&mut bytes, 0, &stamp);
+    bytes[9] = 13;
+    bytes[10] = 10;
+    bytes
+}
+
+// Whether a record has the year and day: its first nine bytes are those.
+pub fn has_stamp(year: u16, day: u16, bytes: [u8; 128]) -> bool
+    ensures { result ≡ has_stamp_rule year day bytes }
+{
+    let wanted = stamp_of(year, day);
+    let mut i = 0;
+    while i < STAMP_BYTES {
+        if bytes[i] != wanted[i] {
+            return false;
+        }
+        i += 1;
+    }
+    true
+}
+
+// Whether book and log are one file: their names are the same in the low seven bits.
+pub fn one_file(wanted: Wanted) -> bool
+    ensures { result ≡ one_file_rule wanted }
+{
+    let book = wanted.book;
+    let log = wanted.log;
+    let mut i = 0;
+    while i < format::NAME_BYTES {
+        if book[i] % 128 != log[i] % 128 {
+            return false;
+        }
+        i += 1;
+    }
+    true
+}
+
+// The size that 35 put into r0 to r2.
+pub fn size_in(fcb: [u8; 36]) -> usize
+    ensures { result ≡ random_of_rule fcb }
+{
+    lists::wide(fcb[33]) + 256 * lists::wide(fcb[34]) + 65536 * lists::wide(fcb[35])
+}
+
+// The free records that 46 put into the buffer.
+pub fn space_in(buffer: [u8; 128]) -> usize
+    ensures { result ≡ space_in_rule buffer }
+{
+    lists::wide(buffer[0]) + 256 * lists::wide(buffer[1]) + 65536 * lists::wide(buffer[2])
+}
+
+// Whether a day is over the last of a year.
+pub fn day_over(day: u16) -> bool
+    ensures { result ≡ ltb last_day day }
+{
+    LAST_DAY < day
+}
+
+// ---- answers
+// Whether the answer to a call that moves a record says that it was accepted.
+pub fn record_accepted(answer: Answer) -> bool
+    ensures { (number : ℕ) → of_record (kind_of number) ≡ true → result ≡ accepted_answer number answer }
+{
+    if answer.h != 0 {
+        return false;
+    }
+    answer.a == 0
+}
+
+// Whether that to any other call does.
+pub fn entry_accepted(answer: Answer) -> bool
+    ensures { (number : ℕ) → of_record (kind_of number) ≡ false → result ≡ accepted_answer number answer }
+{
+    if answer.h != 0 {
+        return false;
+    }
+    answer.a != 255
+}
+
+// Whether a log record that was read is there, and has the year and day.
+pub fn tells_day(year: u16, day: u16, answer: Answer, bytes: [u8; 128]) -> bool
+    ensures { result ≡ (accepted_answer 33 answer and has_stamp_rule year day bytes) }
+{
+    let there = record_accepted(answer);
+    let stamped = has_stamp(year, day, bytes);
+    if there {
+        return stamped;
+    }
+    false
+}
+
+// Whether A and H are these.
+pub fn is_code(a: u8, h: u8, answer: Answer) -> bool
+    ensures { (l : Lent) → result ≡ is_code a h (said answer l) }
+{
+    if answer.a != a {
+        return false;
+    }
+    answer.h == h
+}
+
+// A refusal that has no name of its own.
+pub fn other(answer: Answer) -> Pick
+    ensures { result ≡ Pick.Other answer.a answer.h }
+{
+    Pick::Other(answer.a, answer.h)
+}
+
+// What a refusal comes to of a call that answers 255, 0 where something is missing.
+pub fn missing(pick: Pick, answer: Answer) -> Pick
+    ensures { (l : Lent) → result ≡ cond (is_code 255 0 (said answer l)) pick (otherwise (said answer l)) }
+{
+    if is_code(255, 0, answer) {
+        return pick;
+    }
+    other(answer)
+}
+
+// What a refused write of the log comes to.
+pub fn write_trouble(answer: Answer) -> Pick
+    ensures { (l : Lent) → result ≡ write_trouble_rule (said answer l) }
+{
+    if is_code(255, 3, answer) {
+        return Pick::LogReadOnly;
+    }
+    if is_code(5, 0, answer) {
+        return Pick::DirectoryFull;
+    }
+    if is_code(2, 0, answer) {
+        return Pick::DiskFull;
+    }
+    other(answer)
+}
+
+// What a refused read of the book comes to: record or extent is not there, or another refusal.
+pub fn read_trouble(answer: Answer) -> Pick
+    ensures { (l : Lent) → result ≡ read_trouble_rule (said answer l) }
+{
+    if is_code(1, 0, answer) {
+        return Pick::NoWord;
+    }
+    if is_code(4, 0, answer) {
+        return Pick::NoWord;
+    }
+    other(answer)
+}
+
+// What the close of the log comes to.
+pub fn close_told(answer: Answer) -> Pick
+    ensures { result ≡ close_told_rule answer }
+{
+    if entry_accepted(answer) {
+        return Pick::Logged;
+    }
+    other(answer)
+}
+
+// What a run that hands out no word tells.
+pub fn wordless(pick: Pick, session: Session) -> Told
+    ensures { (result.pick ≡ pick) × (result.given ≡ false) × (result.session ≡ session) }
+{
+    Told {
+        pick: pick,
+        given: false,
+        session: session,
+    }
+}
+
+// What hosts are told that has no A and H.
+fn named(number: u8) -> Says
+    ensures { (result.number ≡ number) × (result.a ≡ 0) × (result.h ≡ 0) }
+{
+    Says {
+        number: number,
+        a: 0,
+        h: 0,
+    }
+}
+
+// The number of how a run ended, with A and H.
+pub fn says_of(pick: Pick) -> Says
+    ensures { (result.number ≡ (says_of pick).number) × (result.a ≡ (says_of pick).a) × (result.h ≡ (says_of pick).h) }
+{
+    match pick {
+        Pick::Logged => named(0),
+        Pick::Again => named(1),
+        Pick::DayOver => named(2),
+        Pick::NoBook => named(3),
+        Pick::NoWord => named(4),
+        Pick::OneFile => named(5),
+        Pick::NoFirst => named(6),
+        Pick::LogFull => named(7),
+        Pick::LogReadOnly => named(8),
+        Pick::DirectoryFull => named(9),
+        Pick::DiskFull => named(10),
+        Pick::Other(a, h) => Says {
+            number: 11,
+            a: a,
+            h: h,
+        },
+    }
+}
+
+// ---- the protection
+// The session with its protection lifted, for one call.
+pub fn unlock(session: Session) -> Session
+    ensures { result ≡ unlocked session }
+{
+    if protection::is_protected(session) {
+        return protection::lift(session);
+    }
+    session
+}
+
+// The session that the call left, with the protection that there was before.
+pub fn relock(before: Session, session: Session) -> Session
+    ensures { result ≡ relocked before session }
+{
+    if protection::is_protected(before) {
+        return protection::protect(session);
+    }
+    session
+}
