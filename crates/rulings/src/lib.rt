@@ -1,4 +1,6 @@
 // The record calls decided, by the state as it came: refused with a code, or told a plan. Nothing is changed here.
+#![tactic(auto)]
+
 ghost use Rattle.std.specs.Prelude.{◌≡◌, ◌<◌, length};
 ghost use Rattle.format.specs.Diskette.{Bytes, eight_inch, Long, slot_count};
 ghost use Rattle.format.specs.Entries.{entry_at};

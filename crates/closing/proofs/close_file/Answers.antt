@@ -16,17 +16,15 @@ pub close_entry-requires : goal.close_entry-requires
 close_entry-requires c =
     let a = c.args in
     let found = c.current_entry in
-    let e = c.e.given in
-    let low : e.0.0 < eight_inch.entries =
-    close_low eight_inch a.image.now a.map.now a.fcb.now a.session found.result found.ensures e.0.0 e.1 in
+    let low : c.in-At.e < eight_inch.entries =
+    close_low eight_inch a.image.now a.map.now a.fcb.now a.session found.result found.ensures c.in-At.e c.in-At.is in
     search rules
 
 pub returns : goal.returns
 returns c asked buffer =
     let a = c.args in
     let found = c.current_entry in
-    let e = c.e.given in
     let closed = c.close_entry in
-    close_carried eight_inch a.image.now a.map.now a.fcb.now a.session found.result found.ensures asked buffer e.0.0 c.done.result
-    closed.new.image closed.new.map c.clear_attributes.new.fcb e.1 c.done.ensures closed.ensures.0 closed.ensures.1
+    close_carried eight_inch a.image.now a.map.now a.fcb.now a.session found.result found.ensures asked buffer c.in-At.e c.done.result
+    closed.new.image closed.new.map c.clear_attributes.new.fcb c.in-At.is c.done.ensures closed.ensures.0 closed.ensures.1
     c.clear_attributes.ensures

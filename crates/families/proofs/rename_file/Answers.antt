@@ -17,19 +17,19 @@ returns-then-not-name_right c = λ asked map buffer.
 pub returns-then-not-name_right-2 : goal.returns-then-not-name_right-2
 returns-then-not-name_right-2 c = λ asked map buffer.
     rename_new_wrong eight_inch asked _ _ _ (sym c.name_right.ensures ∙ c.if-not-name_right.false)
-    (sym c.name_right-2.ensures ∙ c.if2.true) c.refuse-then-not-name_right-2.ensures
+    (sym c.name_right-2.ensures ∙ c.if-not-name_right-2.true) c.refuse-then-not-name_right-2.ensures
 
 pub returns-in_default : goal.returns-in_default
 returns-in_default c = λ asked map buffer.
     let u = c in
-    rename_missed eight_inch asked _ _ _ ((let old' : name_right_rule false u.args.fcb.now 1 ≡ true = sym u.name_right.ensures ∙ u.if-not-name_right.false in old')) ((let new' : name_right_rule false u.args.fcb.now 17 ≡ true = sym u.name_right-2.ensures ∙ u.if2.false in new'))
+    rename_missed eight_inch asked _ _ _ ((let old' : name_right_rule false u.args.fcb.now 1 ≡ true = sym u.name_right.ensures ∙ u.if-not-name_right.false in old')) ((let new' : name_right_rule false u.args.fcb.now 17 ≡ true = sym u.name_right-2.ensures ∙ u.if-not-name_right-2.false in new'))
     (none_named eight_inch _ false _ 1 (sym c.find_named.ensures ∙ c.in_default.is)) c.refuse-in_default.ensures
 
 pub returns-then-any_read_only : goal.returns-then-any_read_only
 returns-then-any_read_only c = λ asked map buffer.
     let k = c in
     let u = k in
-    rename_guarded eight_inch asked _ _ _ ((let old' : name_right_rule false u.args.fcb.now 1 ≡ true = sym u.name_right.ensures ∙ u.if-not-name_right.false in old')) ((let new' : name_right_rule false u.args.fcb.now 17 ≡ true = sym u.name_right-2.ensures ∙ u.if2.false in new')) ((let some' : (map buffer : Bytes) → let a = k.args in any_named eight_inch (lend a.image.now map a.fcb.now buffer) false a.session.user 1 ≡ true = λ map buffer. some_named eight_inch _ false _ 1 _ (sym k.find_named.ensures ∙ k.in-At.is) in some') map buffer) (sym (c.any_read_only.ensures map buffer) ∙ c.if-any_read_only.true)
+    rename_guarded eight_inch asked _ _ _ ((let old' : name_right_rule false u.args.fcb.now 1 ≡ true = sym u.name_right.ensures ∙ u.if-not-name_right.false in old')) ((let new' : name_right_rule false u.args.fcb.now 17 ≡ true = sym u.name_right-2.ensures ∙ u.if-not-name_right-2.false in new')) ((let some' : (map buffer : Bytes) → let a = k.args in any_named eight_inch (lend a.image.now map a.fcb.now buffer) false a.session.user 1 ≡ true = λ map buffer. some_named eight_inch _ false _ 1 _ (sym k.find_named.ensures ∙ k.in-At.is) in some') map buffer) (sym (c.any_read_only.ensures map buffer) ∙ c.if-any_read_only.true)
     c.refuse-then-any_read_only.ensures
 
 pub returns-in_default-find_named : goal.returns-in_default-find_named
@@ -37,7 +37,7 @@ returns-in_default-find_named c = λ asked map buffer.
     let f = c in
     let k = f in
     let u = k in
-    rename_exists eight_inch asked _ _ _ ((let old' : name_right_rule false u.args.fcb.now 1 ≡ true = sym u.name_right.ensures ∙ u.if-not-name_right.false in old')) ((let new' : name_right_rule false u.args.fcb.now 17 ≡ true = sym u.name_right-2.ensures ∙ u.if2.false in new')) ((let some' : (map buffer : Bytes) → let a = k.args in any_named eight_inch (lend a.image.now map a.fcb.now buffer) false a.session.user 1 ≡ true = λ map buffer. some_named eight_inch _ false _ 1 _ (sym k.find_named.ensures ∙ k.in-At.is) in some') map buffer) ((let free' : (map buffer : Bytes) → let a = f.args in any_read_only_rule eight_inch (lend a.image.now map a.fcb.now buffer) false a.session.user ≡ false = λ map buffer. sym (f.any_read_only.ensures map buffer) ∙ f.if-any_read_only.false in free') map buffer)
+    rename_exists eight_inch asked _ _ _ ((let old' : name_right_rule false u.args.fcb.now 1 ≡ true = sym u.name_right.ensures ∙ u.if-not-name_right.false in old')) ((let new' : name_right_rule false u.args.fcb.now 17 ≡ true = sym u.name_right-2.ensures ∙ u.if-not-name_right-2.false in new')) ((let some' : (map buffer : Bytes) → let a = k.args in any_named eight_inch (lend a.image.now map a.fcb.now buffer) false a.session.user 1 ≡ true = λ map buffer. some_named eight_inch _ false _ 1 _ (sym k.find_named.ensures ∙ k.in-At.is) in some') map buffer) ((let free' : (map buffer : Bytes) → let a = f.args in any_read_only_rule eight_inch (lend a.image.now map a.fcb.now buffer) false a.session.user ≡ false = λ map buffer. sym (f.any_read_only.ensures map buffer) ∙ f.if-any_read_only.false in free') map buffer)
     (some_named eight_inch _ false _ 17 _ (sym c.find_named-2.ensures ∙ c.in_default-find_named.is)) c.refuse-in_default-find_named.ensures
 
 pub returns : goal.returns
@@ -46,6 +46,6 @@ returns c = λ asked map buffer.
     let f = n in
     let k = f in
     let u = k in
-    rename_done eight_inch asked _ _ _ ((let old' : name_right_rule false u.args.fcb.now 1 ≡ true = sym u.name_right.ensures ∙ u.if-not-name_right.false in old')) ((let new' : name_right_rule false u.args.fcb.now 17 ≡ true = sym u.name_right-2.ensures ∙ u.if2.false in new')) ((let some' : (map buffer : Bytes) → let a = k.args in any_named eight_inch (lend a.image.now map a.fcb.now buffer) false a.session.user 1 ≡ true = λ map buffer. some_named eight_inch _ false _ 1 _ (sym k.find_named.ensures ∙ k.in-At.is) in some') map buffer) ((let free' : (map buffer : Bytes) → let a = f.args in any_read_only_rule eight_inch (lend a.image.now map a.fcb.now buffer) false a.session.user ≡ false = λ map buffer. sym (f.any_read_only.ensures map buffer) ∙ f.if-any_read_only.false in free') map buffer) _
+    rename_done eight_inch asked _ _ _ ((let old' : name_right_rule false u.args.fcb.now 1 ≡ true = sym u.name_right.ensures ∙ u.if-not-name_right.false in old')) ((let new' : name_right_rule false u.args.fcb.now 17 ≡ true = sym u.name_right-2.ensures ∙ u.if-not-name_right-2.false in new')) ((let some' : (map buffer : Bytes) → let a = k.args in any_named eight_inch (lend a.image.now map a.fcb.now buffer) false a.session.user 1 ≡ true = λ map buffer. some_named eight_inch _ false _ 1 _ (sym k.find_named.ensures ∙ k.in-At.is) in some') map buffer) ((let free' : (map buffer : Bytes) → let a = f.args in any_read_only_rule eight_inch (lend a.image.now map a.fcb.now buffer) false a.session.user ≡ false = λ map buffer. sym (f.any_read_only.ensures map buffer) ∙ f.if-any_read_only.false in free') map buffer) _
     (none_named eight_inch _ false _ 17 (sym n.find_named-2.ensures ∙ n.in-Nothing.is))
     c.done.ensures c.rename_entries.ensures

@@ -16,11 +16,11 @@ returns-then-not-is_named c = let z : c.is_named.result ≡ false = c.if-not-is_
 pub returns-then-size-n : goal.returns-then-size-n
 returns-then-size-n c = let s = c in
     let z : c.is_named.result ≡ true = c.if-not-is_named.false in
-    let q : end_of (entry_at eight_inch s.args.image.now s.args.e) ≡ c.end-of.result = sym (rw c.row-r.ensures.0 at c.end-of.ensures) in
+    let q : end_of (entry_at eight_inch s.args.image.now s.args.e) ≡ c.end_of-n.result = sym (rw c.row-r.ensures.0 at c.end_of-n.ensures) in
     sym (larger_hit _ _ _ _ (rw (c.is_named.ensures, c.row-r.ensures.0) at z) ∙ omega arith)
 
 pub returns : goal.returns
 returns c = let s = c in
     let z : c.is_named.result ≡ true = c.if-not-is_named.false in
-    let q : end_of (entry_at eight_inch s.args.image.now s.args.e) ≡ c.end-of.result = sym (rw c.row-r.ensures.0 at c.end-of.ensures) in
+    let q : end_of (entry_at eight_inch s.args.image.now s.args.e) ≡ c.end_of-n.result = sym (rw c.row-r.ensures.0 at c.end_of-n.ensures) in
     sym (larger_hit _ _ _ _ (rw (c.is_named.ensures, c.row-r.ensures.0) at z) ∙ omega arith)
