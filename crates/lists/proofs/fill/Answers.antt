@@ -1,10 +1,8 @@
 -- The loop keeps that the first i copies of v are pasted in.
-use mathlib.Core.Path.{◌≡◌, refl}
-use Prim.Native.Nat.{◌-◌, ◌≤◌}
-use lib.ListN.{length, length-set}
-use lib.Seq.{paste, paste-zero}
+use mathlib.Core.Path.{refl}
+use lib.ListN.{length-set}
+use lib.Seq.{paste-zero}
 use Rattle.lists.specs.Splice.{copies, length_copies, fill_more, paste_all}
-use borrow.Author.Rules.{rules}
 use native.Mathlib.Omega.{arith}
 use Rattle.lists.proofs.fill.Goals as goal
 

@@ -1,10 +1,8 @@
 -- `lists::put` meets its contract. The loop's invariant: the first i bytes of src are pasted in. Assumes nothing.
-use mathlib.Core.Path.{◌≡◌, refl}
-use Prim.Native.Nat.{◌-◌, ◌≤◌}
+use mathlib.Core.Path.{refl}
 use native.Mathlib.Omega.{arith}
-use lib.ListN.{length, length-set}
-use lib.Seq.{paste, paste-zero}
-use borrow.Author.Rules.{rules}
+use lib.ListN.{length-set}
+use lib.Seq.{paste-zero}
 use Rattle.lists.specs.Splice.{paste_more, paste_all}
 use Rattle.lists.proofs.put.Goals as goal
 

@@ -1,11 +1,8 @@
 -- `lists::put` meets its contract. The loop's invariant: the first i bytes of src are pasted in. Assumes nothing.
-use mathlib.Core.Path.{◌≡◌, refl}
+use mathlib.Core.Path.{◌≡◌}
 use Prim.Native.Nat.{◌-◌, ◌≤◌}
-use native.Mathlib.Omega.{arith}
-use lib.ListN.{length, length-set}
-use lib.Seq.{paste, paste-zero}
-use borrow.Author.Rules.{rules}
-use Rattle.lists.specs.Splice.{paste_more, paste_all}
+use lib.ListN.{length}
+use lib.Seq.{paste}
 use Rattle.lists.proofs.put.Given as goal
 
 abbrev pub invariant-loop-i : goal.invariant-loop-i
