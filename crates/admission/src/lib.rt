@@ -1,4 +1,6 @@
 // What every call is asked for once its number is listed: lengths and parameters in range.
+#![tactic(auto)]
+
 ghost use Rattle.std.specs.Prelude.{◌≡◌};
 ghost use Rattle.format.specs.Diskette.{eight_inch};
 ghost use Rattle.model.specs.Lent.{lend};

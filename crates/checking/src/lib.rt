@@ -1,4 +1,6 @@
 // Row 255, 1 of the table, which every call is asked: whether the disk is right.
+#![tactic(auto)]
+
 ghost use Rattle.std.specs.Prelude.{◌≡◌, true, length, get_or};
 ghost use Rattle.format.specs.Diskette.{Bytes, eight_inch, Long};
 ghost use Rattle.format.specs.Entries.{entry_at};

@@ -1,4 +1,6 @@
 // Whether an image is consistent, decided in one pass over the directory. Every call of the file system asks this first.
+#![tactic(auto)]
+
 ghost use Rattle.std.specs.Prelude.{◌≡◌, true, false, ℕ, ◌+◌, ◌*◌, ◌/◌, ◌%◌, ◌≤◌, ◌<◌, eqb, length, get_or, set};
 ghost use Rattle.lists.specs.Tests.{◌and◌};
 ghost use Rattle.lists.specs.Below.{all_below};

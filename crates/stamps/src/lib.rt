@@ -1,4 +1,6 @@
 // The stamps beside the entries: where one lies, one that is put there, and those that a call makes, put one after the other.
+#![tactic(auto)]
+
 ghost use Rattle.std.specs.Prelude.{◌≡◌, ◌+◌, ◌≤◌, ◌<◌};
 ghost use Rattle.format.specs.Diskette.{eight_inch, Long, image_bytes};
 ghost use Rattle.format.specs.Dates.{stamp_bytes, with_stamp};

@@ -1,4 +1,6 @@
 // One record read or written, in the extent that the FCB has come to.
+#![tactic(auto)]
+
 ghost use Rattle.std.specs.Prelude.{◌≡◌, ◌≤◌, ◌<◌, length};
 ghost use Rattle.format.specs.Diskette.{Bytes, eight_inch, Long, record_bytes, slot_count, extent_records};
 ghost use Rattle.format.specs.Entries.{entry_at, extent_of};

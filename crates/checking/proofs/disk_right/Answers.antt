@@ -1,0 +1,25 @@
+-- `checking::disk_right` meets its contract: the image decides, then, except for 13, the map by the marks that the look at the image left.
+use mathlib.Core.Path.{sym, ◌∙◌}
+use borrow.Author.Rules.{rules}
+use borrow.Author.Tests.{not-true, not-false}
+use Rattle.lists.specs.Cases.{clash}
+use Rattle.format.specs.Diskette.{eight_inch}
+use Rattle.checking.specs.Disk.{image_wrong, log_in_right, map_decides}
+use Rattle.checking.proofs.disk_right.Goals as goal
+
+pub returns-then-not-is_consistent : goal.returns-then-not-is_consistent
+returns-then-not-is_consistent c =
+    let e = c.is_consistent.ensures in
+    (λ fcb buffer. sym (image_wrong eight_inch _ _ (sym e.0 ∙ c.if-not-is_consistent.true)), λ t. clash (sym t))
+
+pub returns-then-number-ne13 : goal.returns-then-number-ne13
+returns-then-number-ne13 c =
+    let e = c.is_consistent.ensures in
+    let r = c.if-not-is_consistent.false in
+    (λ fcb buffer. c.map_right.ensures (e.1 r).0 ∙ sym (map_decides eight_inch _ _ (sym e.0 ∙ r) c.if-number-ne13.true), λ t. e.1 r)
+
+pub returns : goal.returns
+returns c =
+    let e = c.is_consistent.ensures in
+    let r = c.if-not-is_consistent.false in
+    (λ fcb buffer. sym (log_in_right eight_inch _ _ (sym e.0 ∙ r) c.if-number-ne13.false), λ t. e.1 r)

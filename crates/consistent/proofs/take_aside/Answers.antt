@@ -1,0 +1,13 @@
+-- Being a right date entry decides the choice, and what was called the rest.
+use mathlib.Core.Path.{sym, ◌∙◌}
+use borrow.Author.Rules.{rules}
+use Rattle.consistent.specs.Pass.{aside_taken, aside_after}
+use Rattle.consistent.proofs.take_aside.Goals as goal
+
+pub returns-then-dates_right : goal.returns-then-dates_right
+unfolding aside_taken aside_after
+returns-then-dates_right c = rw (sym c.dates_right.ensures ∙ c.if-dates_right.true) c.take_dates.ensures
+
+pub returns : goal.returns
+unfolding aside_taken aside_after
+returns c = rw (sym c.dates_right.ensures ∙ c.if-dates_right.false) c.take_label.ensures

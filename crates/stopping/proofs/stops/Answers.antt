@@ -1,0 +1,11 @@
+-- A session whose protection is lifted stops nothing; one that is protected goes by the plan.
+use mathlib.Core.Path.{sym, ◌∙◌}
+use borrow.Author.Rules.{rules}
+use Rattle.lists.specs.Tests.{and_then, and_fails_left}
+use Rattle.stopping.proofs.stops.Goals as goal
+
+pub returns-then-is_protected : goal.returns-then-is_protected
+returns-then-is_protected c map buffer = c.move_changes.ensures map buffer ∙ sym (and_then _ _ (sym c.is_protected.ensures ∙ c.if-is_protected.true))
+
+pub returns : goal.returns
+returns c map buffer = sym (and_fails_left _ _ (sym c.is_protected.ensures ∙ c.if-is_protected.false))
