@@ -30,3 +30,8 @@ pub moves_record : (k : Kind) → (tag_of the_type k ≡ 9) ⊎ (tag_of the_type
 moves_record k (inl q) = rw (eq-eqb (kind_number k) 9 (sym (tag_is k) ∙ q))
 moves_record k (inr q) =
     let w : same k Write ≡ true = eq-eqb (kind_number k) 10 (sym (tag_is k) ∙ q) in split (bool_cases (same k Read)) (λ t. rw t) (λ f. rw (f, w))
+
+-- the same, of the kinds themselves
+pub moves_kind : (k : Kind) → (k ≡ Read) ⊎ (k ≡ Write) → of_record k ≡ true
+moves_kind k (inl q) = rw q refl
+moves_kind k (inr q) = rw q refl

@@ -1,5 +1,7 @@
 // The way from a call's kind to the call's own function, once the first three rows of the table have passed it, and a protected session is asked for
 // no change of the disk.
+#![tactic(auto)]
+
 ghost use Rattle.std.specs.Prelude.{◌≡◌, true};
 ghost use Rattle.format.specs.Diskette.{eight_inch};
 ghost use Rattle.format.specs.Entries.{entry_at};

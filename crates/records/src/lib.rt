@@ -1,4 +1,6 @@
 // The record calls carried out: the FCB comes to the target's extent, and a record is read or written there.
+#![tactic(auto)]
+
 ghost use Rattle.std.specs.Prelude.{◌≡◌, true, ◌≤◌, ◌<◌, length};
 ghost use Rattle.format.specs.Diskette.{Bytes, eight_inch, Long, record_bytes, extents, extent_records};
 ghost use Rattle.format.specs.Entries.{entry_at, extent_of};

@@ -1,6 +1,6 @@
 -- What is due is what the call makes, call by call.
-use Rattle.std.specs.Prelude.{◌≡◌, refl, Bool, true, false, cond, ℕ, ◌≤◌}
-use Rattle.std.proofs.Common.{ap, ◌∙◌, ne_eqb}
+use Rattle.std.specs.Prelude.{◌≡◌, refl, Bool, true, false, cond, ℕ, ◌≤◌, ◌⊎◌}
+use Rattle.std.proofs.Common.{ap, ◌∙◌, ne_eqb, inl, inr}
 use Rattle.std.proofs.Math.Path.{sym}
 use Rattle.std.proofs.Math.Bool.{not}
 use mathlib.Core.List.{List, [], ◌∷◌, ◌++◌, append-nil}
@@ -175,3 +175,13 @@ stampless G asked l s Create h = absurd (miss (2 ∷ 3 ∷ 4 ∷ 6 ∷ 8 ∷ 0 �
 stampless G asked l s Rename h = refl
 stampless G asked l s Read h = absurd (miss (2 ∷ 3 ∷ 4 ∷ 6 ∷ 8 ∷ 0 ∷ []) 9 tt h)
 stampless G asked l s Write h = absurd (miss (2 ∷ 3 ∷ 4 ∷ 6 ∷ 8 ∷ 0 ∷ []) 10 tt h)
+
+-- the same, of the kinds themselves
+pub stampless_kind : (G : Geometry) (asked : Asked) (l : Lent) (s : Session) (k : Kind)
+    → (k ≡ Search) ⊎ (k ≡ User) ⊎ (k ≡ Settle) ⊎ (k ≡ Delete) ⊎ (k ≡ Rename) ⊎ (k ≡ Unlisted) → stamps_by G asked l s k ≡ []
+stampless_kind G asked l s k (inl q) = rw q refl
+stampless_kind G asked l s k (inr (inl q)) = rw q refl
+stampless_kind G asked l s k (inr (inr (inl q))) = rw q refl
+stampless_kind G asked l s k (inr (inr (inr (inl q)))) = rw q refl
+stampless_kind G asked l s k (inr (inr (inr (inr (inl q))))) = rw q refl
+stampless_kind G asked l s k (inr (inr (inr (inr (inr q))))) = rw q refl

@@ -1,5 +1,7 @@
 // The stamps that a call makes on a disk with date entries, told from the state as it came. They are due where the call is accepted, which its
 // answer says; so no row of the table is decided here.
+#![tactic(auto)]
+
 ghost use Rattle.std.specs.Prelude.{◌≡◌, true, false, ◌<◌, length};
 ghost use Rattle.format.specs.Diskette.{Bytes, eight_inch, Long};
 ghost use Rattle.format.specs.Entries.{entry_at};
