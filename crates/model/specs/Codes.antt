@@ -1,7 +1,6 @@
 -- Document 01's A and H for each way in which a call ends, and whether a search is over with it.
 use Rattle.std.specs.Prelude.{Bool, true, false, ℕ}
 use Rattle.model.specs.declared.Code.{Code}
-use Rattle.model.specs.declared.Code.TheVariants as Code
 
 pub record Says : Type 0 where
   pub a : ℕ

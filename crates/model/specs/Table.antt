@@ -15,7 +15,6 @@ use Rattle.format.specs.Found.{is_found, number_of}
 use Rattle.format.specs.declared.Found.{Found}
 use Rattle.model.specs.declared.Session.{Session}
 use Rattle.model.specs.declared.Code.{Code}
-use Rattle.model.specs.declared.Code.TheVariants as Code
 use Rattle.model.specs.declared.Verdict.{Verdict}
 use Rattle.model.specs.declared.Verdict.TheVariants.{Passed, Refused}
 use Rattle.model.specs.declared.Asked.{Asked}

@@ -4,7 +4,6 @@ use Rattle.lists.specs.Cases.{refute}
 use mathlib.Core.Path.{sym, ap, ◌∙◌}
 use Prim.Native.Nat.{ℕ}
 use lib.Dec.{eqb}
-use borrow.Author.Rules.{rules}
 use Rattle.blocks.proofs.rest_is_zero.Goals as goal
 
 pub returns-then-word-ne0 : goal.returns-then-word-ne0

@@ -2,7 +2,6 @@
 use Rattle.blocks.specs.Runs.{taken_zeros}
 use Rattle.lanes.specs.Lanes.{bytes_zero}
 use mathlib.Core.Path.{sym, ◌∙◌}
-use borrow.Author.Rules.{rules}
 use Rattle.blocks.proofs.take_any.Goals as goal
 
 pub returns-then-half-eq0 : goal.returns-then-half-eq0

@@ -1,9 +1,6 @@
 -- The loop keeps that the first j of the four are taken.
-use Rattle.blocks.specs.Runs.{Taken, taken_none, taken_more}
-use lib.ListN.{length}
-use Prim.Native.Nat.{◌-◌, ◌≤◌}
+use Rattle.blocks.specs.Runs.{taken_none, taken_more}
 use mathlib.Core.Path.{◌≡◌, refl}
-use borrow.Author.Rules.{rules}
 use native.Mathlib.Omega.{arith}
 use Rattle.blocks.proofs.take_four.Goals as goal
 

@@ -1,10 +1,8 @@
 -- The loop keeps that the first j of the four are taken.
-use Rattle.blocks.specs.Runs.{Taken, taken_none, taken_more}
+use Rattle.blocks.specs.Runs.{Taken}
 use lib.ListN.{length}
 use Prim.Native.Nat.{◌-◌, ◌≤◌}
-use mathlib.Core.Path.{◌≡◌, refl}
-use borrow.Author.Rules.{rules}
-use native.Mathlib.Omega.{arith}
+use mathlib.Core.Path.{◌≡◌}
 use Rattle.blocks.proofs.take_four.Given as goal
 
 abbrev pub invariant-loop-j : goal.invariant-loop-j

@@ -1,11 +1,8 @@
 -- The loop keeps that the first k fours of the slots are taken from whatever marks the first four were taken from.
-use Rattle.blocks.specs.Runs.{Taken, taken_join, taken_rest, taken_keeps_none, rest_zeros}
+use Rattle.blocks.specs.Runs.{taken_join, taken_rest, taken_keeps_none, rest_zeros}
 use Rattle.blocks.specs.BlockMarks.{mark_slots, slots_free}
-use Rattle.format.specs.Diskette.{Bytes}
-use lib.ListN.{length}
-use Prim.Native.Nat.{◌+◌, ◌*◌, ◌-◌, ◌≤◌}
+use Prim.Native.Nat.{◌+◌, ◌*◌}
 use mathlib.Core.Path.{◌≡◌, refl, sym, ◌∙◌}
-use borrow.Author.Rules.{rules}
 use native.Mathlib.Omega.{arith}
 use Rattle.blocks.proofs.take_slots.Goals as goal
 

@@ -1,12 +1,9 @@
 -- The loop keeps that the first k fours of the slots are taken from whatever marks the first four were taken from.
-use Rattle.blocks.specs.Runs.{Taken, taken_join, taken_rest, taken_keeps_none, rest_zeros}
-use Rattle.blocks.specs.BlockMarks.{mark_slots, slots_free}
+use Rattle.blocks.specs.Runs.{Taken}
 use Rattle.format.specs.Diskette.{Bytes}
 use lib.ListN.{length}
-use Prim.Native.Nat.{◌+◌, ◌*◌, ◌-◌, ◌≤◌}
-use mathlib.Core.Path.{◌≡◌, refl, sym, ◌∙◌}
-use borrow.Author.Rules.{rules}
-use native.Mathlib.Omega.{arith}
+use Prim.Native.Nat.{◌*◌, ◌-◌, ◌≤◌}
+use mathlib.Core.Path.{◌≡◌}
 use Rattle.blocks.proofs.take_slots.Given as goal
 
 abbrev pub invariant-loop-k : goal.invariant-loop-k

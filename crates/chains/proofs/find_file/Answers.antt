@@ -1,16 +1,15 @@
 -- The loop keeps the walk back along the chain of the key: of the entries from f on, none is what is asked for.
 use mathlib.Core.Path.{◌≡◌, refl, sym}
-use mathlib.Core.Bool.{Bool, true, false}
+use mathlib.Core.Bool.{true, false}
 use Prim.Native.Nat.{ℕ, ◌-◌}
 use native.Mathlib.Omega.{arith}
-use borrow.Author.Rules.{rules}
 use Rattle.format.specs.Diskette.{eight_inch}
-use Rattle.format.specs.Entries.{Rows, entry_at}
+use Rattle.format.specs.Entries.{entry_at}
 use Rattle.keys.specs.Key.{file_key_rule, asked_below}
 use Rattle.facts.specs.Find.{file_test}
 use Rattle.facts.specs.Naming.{run_own}
 use Rattle.chains.specs.Chain.{key_in}
-use Rattle.chains.specs.Walk.{Walk, walk_all, walk_more, walk_less, file_only, find_hit_law, find_end}
+use Rattle.chains.specs.Walk.{walk_all, walk_more, walk_less, file_only, find_hit_law, find_end}
 use Rattle.chains.proofs.find_file.Goals as goal
 
 pub bounds-chain-file_key : goal.bounds-chain-file_key

@@ -3,13 +3,12 @@ use mathlib.Core.Path.{◌≡◌, refl, sym}
 use mathlib.Core.Bool.{true, false}
 use Prim.Native.Nat.{◌+◌, ◌-◌}
 use native.Mathlib.Omega.{arith}
-use borrow.Author.Rules.{rules}
 use Rattle.format.specs.Diskette.{eight_inch}
-use Rattle.format.specs.Entries.{Rows, entry_at, used}
+use Rattle.format.specs.Entries.{entry_at, used}
 use Rattle.format.specs.Consistent.{same_file_rule}
 use Rattle.facts.specs.Naming.{run_own}
 use Rattle.keys.specs.Key.{key_of, key_below}
-use Rattle.chains.specs.Walk.{Walk, walk_used, walk_before, walk_more, walk_less, same_as, same_only, alone_hit, alone_end}
+use Rattle.chains.specs.Walk.{walk_used, walk_before, walk_more, walk_less, same_as, same_only, alone_hit, alone_end}
 use Rattle.chains.proofs.is_alone.Goals as goal
 
 pub bounds-chain-e : goal.bounds-chain-e

@@ -2,7 +2,6 @@
 use Rattle.chains.specs.Walk.{asks_same}
 use Rattle.format.specs.Diskette.{eight_inch}
 use mathlib.Core.Path.{◌∙◌}
-use borrow.Author.Rules.{rules}
 use Rattle.chains.proofs.same_file.Goals as goal
 
 pub returns : goal.returns

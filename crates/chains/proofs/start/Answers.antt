@@ -1,7 +1,6 @@
 -- Each key's number is 0, so that no key has an entry.
 use mathlib.Core.Path.{◌∙◌}
 use native.Mathlib.Omega.{arith}
-use borrow.Author.Rules.{rules}
 use Rattle.lists.specs.Splice.{length_fill, get_d_fill_in}
 use Rattle.format.specs.Diskette.{eight_inch}
 use Rattle.keys.specs.Key.{key_count}

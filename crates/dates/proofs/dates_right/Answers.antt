@@ -4,7 +4,6 @@ use borrow.Author.Tests.{eq-eqb, ne_eqb}
 use Rattle.lists.specs.Tests.{and_fails_left}
 use Rattle.format.specs.Dates.{is_dates, dates_right_rule}
 use Rattle.dates.specs.Bcd.{three_tell}
-use borrow.Author.Rules.{rules}
 use Rattle.dates.proofs.dates_right.Goals as goal
 
 pub returns-then-r-ne33 : goal.returns-then-r-ne33

@@ -1,6 +1,5 @@
 -- Byte 0 of the row is the entry's.
 use Rattle.format.specs.Dates.{is_dates}
-use borrow.Author.Rules.{rules}
 use Rattle.dates.proofs.is_dated.Goals as goal
 
 pub returns : goal.returns

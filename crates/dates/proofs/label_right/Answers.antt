@@ -5,7 +5,6 @@ use borrow.Author.Tests.{eq-eqb, ne_eqb}
 use Rattle.lists.specs.Tests.{and_then, and_fails_left}
 use Rattle.format.specs.Dates.{is_label, asks_create, asks_access, label_right_rule}
 use Rattle.dates.specs.Bcd.{pair_fails, asking_decides}
-use borrow.Author.Rules.{rules}
 use Rattle.dates.proofs.label_right.Goals as goal
 
 pub returns-then-r-ne32 : goal.returns-then-r-ne32

@@ -5,7 +5,6 @@ use native.Mathlib.Omega.{arith}
 use lib.Dec.{eqb}
 use lib.Bits.{and_le_r}
 use Rattle.dates.specs.Bcd.{pair_sixes, pair_eights, fault, pair_tells}
-use borrow.Author.Rules.{rules}
 use Rattle.dates.proofs.pair_fault.Goals as goal
 
 pub overflow_add-result : goal.overflow_add-result

@@ -4,7 +4,6 @@ use Prim.Native.Nat.{◌+◌, ◌*◌}
 use native.Mathlib.Omega.{arith}
 use lib.Bits.{and_le_r}
 use Rattle.dates.specs.Bcd.{time_sixes, fault, time_tells}
-use borrow.Author.Rules.{rules}
 use Rattle.dates.proofs.time_right.Goals as goal
 
 pub overflow_add-result : goal.overflow_add-result

@@ -1,7 +1,6 @@
 -- The formula gives the published table's number; so the table's greatest is its bound.
 use native.Mathlib.Omega.{arith}
 use Rattle.disk.specs.Eight.{skewed_computed, skewed_high}
-use borrow.Author.Rules.{rules}
 use Rattle.disk.proofs.physical.Goals as goal
 
 pub returns : goal.returns

@@ -1,6 +1,5 @@
 -- The copy at the place that `offset` gives is the definition.
 use Rattle.format.specs.Diskette.{with_record}
-use borrow.Author.Rules.{rules}
 use Rattle.disk.proofs.write_record.Goals as goal
 
 pub returns : goal.returns

@@ -2,7 +2,6 @@
 use mathlib.Core.Path.{ap, ◌∙◌}
 use Rattle.lists.specs.Splice.{part}
 use Rattle.format.specs.Entries.{slots_of}
-use borrow.Author.Rules.{rules}
 use Rattle.entries.proofs.copy_slots.Goals as goal
 
 pub returns : goal.returns

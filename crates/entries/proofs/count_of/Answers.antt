@@ -1,6 +1,5 @@
 -- Over 128 the smaller of the byte and 128 is 128, and else the byte.
 use native.Mathlib.Omega.{arith}
-use borrow.Author.Rules.{rules}
 use Rattle.format.specs.Entries.{count_of}
 use Rattle.entries.proofs.count_of.Goals as goal
 

@@ -1,6 +1,5 @@
 -- The test on the runs is the definition.
 use Rattle.format.specs.Entries.{covers}
-use borrow.Author.Rules.{rules}
 use Rattle.entries.proofs.covers_extent.Goals as goal
 
 pub returns : goal.returns

@@ -1,5 +1,4 @@
 -- The sum is the definition.
-use borrow.Author.Rules.{rules}
 use Rattle.format.specs.Entries.{end_of}
 use Rattle.entries.proofs.end_of.Goals as goal
 

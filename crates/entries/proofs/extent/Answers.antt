@@ -1,7 +1,6 @@
 -- Two bytes, each below 256, put together as the definition does.
 use Rattle.format.specs.Entries.{extent_of}
 use native.Mathlib.Omega.{arith}
-use borrow.Author.Rules.{rules}
 use Rattle.entries.proofs.extent.Goals as goal
 
 pub returns : goal.returns

@@ -1,6 +1,5 @@
 -- `entries::extent_right` meets its contract: the tests stand in the definition's order.
 use mathlib.Core.Path.{sym}
-use borrow.Author.Rules.{rules}
 use borrow.Author.Tests.{le-leb, lt-leb}
 use Rattle.lists.specs.Tests.{and_then, and_fails_left}
 use Rattle.entries.proofs.extent_right.Goals as goal

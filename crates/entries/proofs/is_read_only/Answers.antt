@@ -1,7 +1,6 @@
 -- The byte is compared as the definition does.
 use mathlib.Core.Path.{refl}
 use Rattle.format.specs.Entries.{read_only}
-use borrow.Author.Rules.{rules}
 use Rattle.entries.proofs.is_read_only.Goals as goal
 
 pub returns : goal.returns

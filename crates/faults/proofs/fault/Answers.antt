@@ -1,7 +1,6 @@
 -- The three parts of a fault, or-ed.
 use mathlib.Core.Path.{refl}
 use Rattle.faults.specs.Faults.{fault_of}
-use borrow.Author.Rules.{rules}
 use Rattle.faults.proofs.fault.Goals as goal
 
 pub returns : goal.returns

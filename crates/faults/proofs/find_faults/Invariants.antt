@@ -1,12 +1,10 @@
 -- The loop keeps that the faults below i are filled in.
 use mathlib.Core.Path.{◌≡◌}
 use Prim.Native.Nat.{ℕ, ◌-◌, ◌≤◌}
-use lib.ListN.{get_or, length, length-set}
+use lib.ListN.{get_or, length}
 use lib.Bits.{bit_and}
-use Rattle.lists.specs.Tab.{Filled, filled_none, filled_more, filled_all}
+use Rattle.lists.specs.Tab.{Filled}
 use Rattle.faults.specs.Faults.{head_bytes, fault_of}
-use borrow.Author.Rules.{rules}
-use native.Mathlib.Omega.{arith}
 use Rattle.faults.proofs.find_faults.Given as goal
 
 abbrev pub invariant-loop-i : goal.invariant-loop-i

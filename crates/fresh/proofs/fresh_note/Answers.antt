@@ -1,6 +1,5 @@
 -- `fresh::fresh_note` meets its contract: past the directory the block's mark tells whether it is listed.
 use mathlib.Core.Path.{sym, ◌∙◌}
-use borrow.Author.Rules.{rules}
 use Rattle.format.specs.Diskette.{eight_inch}
 use Rattle.fresh.specs.Note.{fresh_area, fresh_told}
 use Rattle.fresh.proofs.fresh_note.Goals as goal

@@ -1,13 +1,8 @@
 -- `fresh::make_fresh` meets its contract. The loop's invariant, for each directory so marked: the notes below b are fresh ones.
-use mathlib.Core.Path.{◌≡◌, refl}
-use Prim.Native.Nat.{◌-◌, ◌≤◌}
+use mathlib.Core.Path.{refl}
 use native.Mathlib.Omega.{arith}
-use lib.ListN.{length}
-use borrow.Author.Rules.{rules}
-use Rattle.lists.specs.Tab.{Filled, filled_none, filled_all}
+use Rattle.lists.specs.Tab.{filled_none, filled_all}
 use Rattle.format.specs.Diskette.{eight_inch}
-use Rattle.format.specs.Entries.{Rows}
-use Rattle.facts.specs.Marks.{Marked}
 use Rattle.format.specs.Notes.{fresh_note_rule, fresh_map}
 use Rattle.notes.specs.Changes.{filled_note}
 use Rattle.fresh.proofs.make_fresh.Goals as goal

@@ -1,7 +1,6 @@
 -- Without the fault of byte 0 they are 0 exactly where the fields are right.
 use native.Mathlib.Omega.{arith}
 use Rattle.heads.specs.Head.{fields_tell}
-use borrow.Author.Rules.{rules}
 use Rattle.heads.proofs.fields_right.Goals as goal
 
 pub returns : goal.returns

@@ -1,7 +1,6 @@
 -- The tables are those of the definitions.
 use Rattle.faults.specs.Bytes.{byte_fault, counted, lowest, highest, barred}
 use Rattle.heads.specs.Head.{head_fault}
-use borrow.Author.Rules.{rules}
 use Rattle.heads.proofs.head_faults.Goals as goal
 
 pub returns : goal.returns

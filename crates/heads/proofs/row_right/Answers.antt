@@ -1,7 +1,6 @@
 -- Two words of faults are 0 exactly where the head is right.
 use native.Mathlib.Omega.{arith}
 use Rattle.heads.specs.Head.{words_tell}
-use borrow.Author.Rules.{rules}
 use Rattle.heads.proofs.row_right.Goals as goal
 
 pub returns : goal.returns

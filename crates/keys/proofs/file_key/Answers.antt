@@ -3,7 +3,6 @@ use mathlib.Core.Path.{◌≡◌, refl, ◌∙◌}
 use lib.Bits.{bit_and, and_mask, and_le_r}
 use Rattle.keys.specs.Key.{file_key_rule, low_asked, high_asked, seven_part, four_part}
 use native.Mathlib.Omega.{arith}
-use borrow.Author.Rules.{rules}
 use Rattle.keys.proofs.file_key.Goals as goal
 
 pub overflow_mul-low : goal.overflow_mul-low

@@ -1,7 +1,6 @@
 -- The definition, step by step; what is left of a division by 256 is a key.
 use mathlib.Core.Path.{refl}
 use native.Mathlib.Omega.{arith}
-use borrow.Author.Rules.{rules}
 use Rattle.keys.specs.Key.{key_from}
 use Rattle.keys.proofs.fold.Goals as goal
 

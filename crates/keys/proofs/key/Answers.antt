@@ -4,7 +4,6 @@ use native.Mathlib.Nat.{zero-add}
 use lib.Bits.{and_le_r}
 use Rattle.keys.specs.Key.{key_of, low_part_law, high_part_law}
 use native.Mathlib.Omega.{arith}
-use borrow.Author.Rules.{rules}
 use Rattle.keys.proofs.key.Goals as goal
 
 pub fold-requires : goal.fold-requires

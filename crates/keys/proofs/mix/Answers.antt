@@ -1,7 +1,6 @@
 -- Halves of a word times numbers below 2 to the 31 fit, and so does their sum.
 use mathlib.Core.Path.{refl}
 use Rattle.keys.specs.Key.{mixed}
-use borrow.Author.Rules.{rules}
 use Rattle.keys.proofs.mix.Goals as goal
 
 pub returns : goal.returns

@@ -1,7 +1,6 @@
 -- `lanes::half` meets its contract: four bytes, each below 256.
 use Prim.Native.Nat.{◌+◌}
 use native.Mathlib.Omega.{arith}
-use borrow.Author.Rules.{rules}
 use Rattle.lanes.specs.Lanes.{half_sum}
 use Rattle.lanes.proofs.half.Goals as goal
 

@@ -1,6 +1,5 @@
 -- `lanes::word` meets its contract: two fours.
 use native.Mathlib.Omega.{arith}
-use borrow.Author.Rules.{rules}
 use Rattle.lanes.specs.Lanes.{word_sum, word_bytes}
 use Rattle.lanes.proofs.word.Goals as goal
 

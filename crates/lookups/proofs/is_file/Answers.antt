@@ -1,9 +1,7 @@
 -- User and name first, then the extent: the first that fails decides.
 use mathlib.Core.Path.{sym, ◌∙◌}
-use borrow.Author.Tests.{not-true, not-false}
 use Rattle.lists.specs.Tests.{and_then, and_fails_left}
 use Rattle.format.specs.Entries.{is_file_rule}
-use borrow.Author.Rules.{rules}
 use Rattle.lookups.proofs.is_file.Goals as goal
 
 pub returns-then-not-is_named : goal.returns-then-not-is_named

@@ -3,7 +3,6 @@ use mathlib.Core.Path.{sym, ◌∙◌}
 use borrow.Author.Tests.{eq-eqb, ne_eqb}
 use Rattle.lists.specs.Tests.{and_fails_left, and_then}
 use Rattle.format.specs.Entries.{named}
-use borrow.Author.Rules.{rules}
 use Rattle.lookups.proofs.is_named.Goals as goal
 
 pub returns-then-r-user : goal.returns-then-r-user

@@ -1,13 +1,9 @@
 -- `maps::area_right` meets its contract. The loop's invariant: the notes below b are the directory's.
-use mathlib.Core.Bool.{true}
-use mathlib.Core.Path.{◌≡◌, sym}
-use Prim.Native.Nat.{ℕ, ◌-◌, ◌≤◌}
+use mathlib.Core.Path.{sym}
 use native.Mathlib.Omega.{arith}
-use lib.Dec.{eqb}
 use borrow.Author.Tests.{eq-eqb, ne_eqb}
-use Rattle.lists.specs.Below.{all_below, all_none, all_more, all_fails, all_done}
+use Rattle.lists.specs.Below.{all_none, all_more, all_fails, all_done}
 use Rattle.format.specs.Diskette.{eight_inch}
-use Rattle.format.specs.Notes.{area_note, note_at_rule}
 use Rattle.maps.specs.Told.{area_right_rule}
 use Rattle.maps.proofs.area_right.Goals as goal
 

@@ -1,5 +1,4 @@
 -- `maps::difference` meets its contract: the note is held against the one that the mark tells.
-use borrow.Author.Rules.{rules}
 use borrow.Author.Tests.{eq-eqb, ne_eqb}
 use Rattle.maps.proofs.difference.Goals as goal
 

@@ -1,9 +1,8 @@
 -- `maps::differences` meets its contract. The loop's invariant: n is the count of the differences below b.
-use mathlib.Core.Path.{◌≡◌, sym}
-use Prim.Native.Nat.{◌+◌, ◌-◌, ◌≤◌}
+use mathlib.Core.Path.{sym}
+use Prim.Native.Nat.{◌+◌}
 use native.Mathlib.Omega.{arith}
-use borrow.Author.Rules.{rules}
-use Rattle.lists.specs.Count.{count_below, count_high, count_done}
+use Rattle.lists.specs.Count.{count_high, count_done}
 use Rattle.format.specs.Diskette.{eight_inch}
 use Rattle.maps.specs.Told.{differs, difference_count, no_area_differs, difference_adds}
 use Rattle.maps.proofs.differences.Goals as goal

@@ -1,8 +1,6 @@
 -- `maps::map_right` meets its contract: a map with no differences is the fresh one, which is right; any other is asked for note by note.
 use mathlib.Core.Path.{sym, ◌∙◌}
 use native.Mathlib.Omega.{arith}
-use borrow.Author.Rules.{rules}
-use borrow.Author.Tests.{not-true, not-false}
 use Rattle.format.specs.Diskette.{eight_inch}
 use Rattle.maps.specs.Told.{area_wrong, same_right}
 use Rattle.maps.proofs.map_right.Goals as goal

@@ -1,6 +1,5 @@
 -- `maps::note_right` meets its contract: the tests follow the definition's cases, with marks in place of the directory.
 use mathlib.Core.Path.{sym, ◌∙◌}
-use borrow.Author.Rules.{rules}
 use borrow.Author.Tests.{eq-eqb, ne_eqb}
 use Rattle.lists.specs.Tests.{or_then, or_left}
 use Rattle.format.specs.Diskette.{eight_inch}

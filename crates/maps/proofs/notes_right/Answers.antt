@@ -1,15 +1,9 @@
 -- `maps::notes_right` meets its contract. The loop's invariant, where the listed blocks are marked: the notes below b are right.
-use mathlib.Core.Bool.{true}
-use mathlib.Core.Path.{◌≡◌, sym, ◌∙◌}
-use Prim.Native.Nat.{ℕ, ◌-◌, ◌≤◌}
+use mathlib.Core.Path.{sym, ◌∙◌}
 use native.Mathlib.Omega.{arith}
-use borrow.Author.Rules.{rules}
-use borrow.Author.Tests.{not-true, not-false}
-use Rattle.lists.specs.Below.{all_below, all_none, all_more, all_fails, all_done}
+use Rattle.lists.specs.Below.{all_none, all_more, all_fails, all_done}
 use Rattle.format.specs.Diskette.{eight_inch}
-use Rattle.format.specs.Entries.{entry_at}
-use Rattle.facts.specs.Marks.{Marked}
-use Rattle.format.specs.Notes.{note_at_rule, note_right_rule, map_right}
+use Rattle.format.specs.Notes.{map_right}
 use Rattle.maps.proofs.notes_right.Goals as goal
 
 pub loop-b-init : goal.loop-b-init

@@ -1,15 +1,12 @@
 -- `maps::notes_right` meets its contract. The loop's invariant, where the listed blocks are marked: the notes below b are right.
 use mathlib.Core.Bool.{true}
-use mathlib.Core.Path.{◌≡◌, sym, ◌∙◌}
+use mathlib.Core.Path.{◌≡◌}
 use Prim.Native.Nat.{ℕ, ◌-◌, ◌≤◌}
-use native.Mathlib.Omega.{arith}
-use borrow.Author.Rules.{rules}
-use borrow.Author.Tests.{not-true, not-false}
-use Rattle.lists.specs.Below.{all_below, all_none, all_more, all_fails, all_done}
+use Rattle.lists.specs.Below.{all_below}
 use Rattle.format.specs.Diskette.{eight_inch}
 use Rattle.format.specs.Entries.{entry_at}
 use Rattle.facts.specs.Marks.{Marked}
-use Rattle.format.specs.Notes.{note_at_rule, note_right_rule, map_right}
+use Rattle.format.specs.Notes.{note_at_rule, note_right_rule}
 use Rattle.maps.proofs.notes_right.Given as goal
 
 abbrev pub invariant-loop-b : goal.invariant-loop-b

@@ -5,7 +5,6 @@ use Rattle.format.specs.Diskette.{Bytes, eight_inch}
 use Rattle.lists.specs.Splice.{splice, copies}
 use Prim.Native.Nat.{◌-◌}
 use mathlib.Core.Path.{ap, ◌∙◌}
-use borrow.Author.Rules.{rules}
 use Rattle.marks.proofs.start_marks.Goals as goal
 
 pub returns : goal.returns

@@ -1,7 +1,6 @@
 -- A number has its place in the marks, since there is one for each byte.
 use Rattle.marks.specs.Numbers.{mark_number}
 use mathlib.Core.Path.{◌≡◌}
-use borrow.Author.Rules.{rules}
 use Rattle.marks.proofs.take_number.Goals as goal
 
 pub returns : goal.returns

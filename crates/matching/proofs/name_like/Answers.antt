@@ -1,13 +1,8 @@
 -- The loop keeps that the bytes passed are what is asked for.
-use borrow.Author.Rules.{rules}
 use native.Mathlib.Omega.{arith}
-use mathlib.Core.Path.{◌≡◌, sym, ◌∙◌}
-use mathlib.Core.Bool.{true}
-use Prim.Native.Nat.{ℕ, ◌+◌, ◌-◌, ◌≤◌}
-use lib.ListN.{get_or}
-use borrow.Author.Tests.{not-true, not-false}
-use Rattle.lists.specs.Below.{all_below, all_none, all_more, all_fails, all_done}
-use Rattle.format.specs.Names.{name_bytes, byte_like_rule, name_like_rule}
+use mathlib.Core.Path.{sym, ◌∙◌}
+use Rattle.lists.specs.Below.{all_none, all_more, all_fails, all_done}
+use Rattle.format.specs.Names.{name_bytes, name_like_rule}
 use Rattle.matching.proofs.name_like.Goals as goal
 
 pub loop-i-init : goal.loop-i-init

@@ -1,13 +1,10 @@
 -- The loop keeps that the bytes passed are what is asked for.
-use borrow.Author.Rules.{rules}
-use native.Mathlib.Omega.{arith}
-use mathlib.Core.Path.{◌≡◌, sym, ◌∙◌}
+use mathlib.Core.Path.{◌≡◌}
 use mathlib.Core.Bool.{true}
 use Prim.Native.Nat.{ℕ, ◌+◌, ◌-◌, ◌≤◌}
 use lib.ListN.{get_or}
-use borrow.Author.Tests.{not-true, not-false}
-use Rattle.lists.specs.Below.{all_below, all_none, all_more, all_fails, all_done}
-use Rattle.format.specs.Names.{name_bytes, byte_like_rule, name_like_rule}
+use Rattle.lists.specs.Below.{all_below}
+use Rattle.format.specs.Names.{name_bytes, byte_like_rule}
 use Rattle.matching.proofs.name_like.Given as goal
 
 abbrev pub invariant-loop-i : goal.invariant-loop-i

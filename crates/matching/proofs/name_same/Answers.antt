@@ -1,13 +1,8 @@
 -- The words decide the first eight bytes, and the loop keeps that the bytes passed are what is asked for.
-use mathlib.Core.Path.{◌≡◌, sym, ◌∙◌}
-use mathlib.Core.Bool.{true, false}
-use Prim.Native.Nat.{ℕ, ◌+◌, ◌-◌, ◌≤◌}
-use lib.ListN.{get_or}
-use borrow.Author.Tests.{not-true, not-false}
-use Rattle.lists.specs.Below.{all_below, all_more, all_fails, all_done}
-use Rattle.format.specs.Names.{name_bytes, byte_like_rule, name_like_rule}
+use mathlib.Core.Path.{sym, ◌∙◌}
+use Rattle.lists.specs.Below.{all_more, all_fails, all_done}
+use Rattle.format.specs.Names.{name_bytes, name_like_rule}
 use Rattle.matching.specs.Words.{words_like, words_differ}
-use borrow.Author.Rules.{rules}
 use native.Mathlib.Omega.{arith}
 use Rattle.matching.proofs.name_same.Goals as goal
 

@@ -1,14 +1,10 @@
 -- The words decide the first eight bytes, and the loop keeps that the bytes passed are what is asked for.
-use mathlib.Core.Path.{◌≡◌, sym, ◌∙◌}
+use mathlib.Core.Path.{◌≡◌}
 use mathlib.Core.Bool.{true, false}
 use Prim.Native.Nat.{ℕ, ◌+◌, ◌-◌, ◌≤◌}
 use lib.ListN.{get_or}
-use borrow.Author.Tests.{not-true, not-false}
-use Rattle.lists.specs.Below.{all_below, all_more, all_fails, all_done}
-use Rattle.format.specs.Names.{name_bytes, byte_like_rule, name_like_rule}
-use Rattle.matching.specs.Words.{words_like, words_differ}
-use borrow.Author.Rules.{rules}
-use native.Mathlib.Omega.{arith}
+use Rattle.lists.specs.Below.{all_below}
+use Rattle.format.specs.Names.{name_bytes, byte_like_rule}
 use Rattle.matching.proofs.name_same.Given as goal
 
 abbrev pub invariant-loop-i : goal.invariant-loop-i

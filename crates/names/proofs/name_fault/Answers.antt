@@ -1,6 +1,5 @@
 -- The byte is one of a name, or not.
 use native.Mathlib.Omega.{arith}
-use borrow.Author.Rules.{rules}
 use Rattle.names.proofs.name_fault.Goals as goal
 
 pub returns-then-name_byte : goal.returns-then-name_byte

@@ -1,12 +1,8 @@
 -- The loop counts the bytes passed that may not stand in a name: none, exactly where all may.
-use Rattle.format.specs.Names.{name_bytes, name_byte_rule, name_right_rule}
-use Rattle.lists.specs.Count.{count_below, count_none, count_next, count_all, count_fails}
+use Rattle.format.specs.Names.{name_bytes, name_right_rule}
+use Rattle.lists.specs.Count.{count_none, count_next, count_all, count_fails}
 use Rattle.lists.specs.Tests.{and_fails_left, and_then}
-use lib.ListN.{get_or}
-use Prim.Native.Nat.{ℕ, ◌+◌, ◌-◌, ◌≤◌}
-use mathlib.Core.Bool.{not}
 use mathlib.Core.Path.{◌≡◌, sym, ◌∙◌}
-use borrow.Author.Rules.{rules}
 use native.Mathlib.Omega.{arith}
 use Rattle.names.proofs.name_right.Goals as goal
 

@@ -1,12 +1,9 @@
 -- `notes::first_free` meets its contract. The loop's invariant: the first free block from `first` on is the first from 0 on.
-use mathlib.Core.Path.{◌≡◌, refl, ◌∙◌}
+use mathlib.Core.Path.{◌≡◌}
 use Prim.Native.Nat.{◌-◌, ◌≤◌}
-use native.Mathlib.Omega.{arith}
-use borrow.Author.Tests.{eq-eqb, ne_eqb}
-use Rattle.lists.specs.Below.{first_in, first_turn}
+use Rattle.lists.specs.Below.{first_in}
 use Rattle.format.specs.Diskette.{eight_inch}
-use Rattle.facts.specs.Found.{look_hit, look_end}
-use Rattle.format.specs.Notes.{is_free, find_free}
+use Rattle.format.specs.Notes.{is_free}
 use Rattle.notes.proofs.first_free.Given as goal
 
 abbrev pub invariant-loop-first : goal.invariant-loop-first

@@ -1,9 +1,8 @@
 -- `notes::free_count` meets its contract. The loop's invariant: n is the count of the free blocks below b.
-use mathlib.Core.Path.{◌≡◌, sym}
-use Prim.Native.Nat.{◌+◌, ◌-◌, ◌≤◌}
+use mathlib.Core.Path.{sym}
+use Prim.Native.Nat.{◌+◌}
 use native.Mathlib.Omega.{arith}
-use borrow.Author.Rules.{rules}
-use Rattle.lists.specs.Count.{count_below, count_none, count_next, count_high, count_done}
+use Rattle.lists.specs.Count.{count_none, count_next, count_high, count_done}
 use Rattle.format.specs.Diskette.{eight_inch}
 use Rattle.format.specs.Notes.{is_free, free_count_rule}
 use Rattle.notes.proofs.free_count.Goals as goal

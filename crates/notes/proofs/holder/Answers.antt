@@ -1,6 +1,5 @@
 -- The tests are the definition's: the note is pending, and for an entry that there is.
 use mathlib.Core.Path.{sym}
-use borrow.Author.Rules.{rules}
 use borrow.Author.Tests.{le-leb, lt-leb}
 use Rattle.format.specs.Diskette.{eight_inch}
 use Rattle.format.specs.Notes.{is_pending, pending_entry}

@@ -1,7 +1,6 @@
 -- `notes::note_at` meets its contract: a list has 0 past its end.
 use mathlib.Core.Path.{sym}
 use lib.ListN.{get_or-eq_default}
-use borrow.Author.Rules.{rules}
 use Rattle.notes.proofs.note_at.Goals as goal
 
 pub returns : goal.returns

@@ -1,6 +1,5 @@
 -- `notes::pending_note` meets its contract: the number is the definition's, and fits sixteen bits since entries are few.
 use mathlib.Core.Path.{refl}
-use borrow.Author.Rules.{rules}
 use Rattle.format.specs.Notes.{pending_for}
 use Rattle.notes.proofs.pending_note.Goals as goal
 

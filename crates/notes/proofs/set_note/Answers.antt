@@ -1,6 +1,5 @@
 -- `notes::set_note` meets its contract: one store.
 use mathlib.Core.Path.{refl}
-use borrow.Author.Rules.{rules}
 use Rattle.format.specs.Notes.{with_note}
 use Rattle.notes.proofs.set_note.Goals as goal
 

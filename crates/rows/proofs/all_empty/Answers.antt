@@ -1,8 +1,6 @@
 -- The first three decide, then the fourth by its first byte.
 use mathlib.Core.Path.{refl, sym, ◌∙◌}
 use native.Mathlib.Omega.{arith}
-use borrow.Author.Tests.{not-true, not-false}
-use borrow.Author.Rules.{rules}
 use Rattle.lists.specs.Tests.{and_then, and_fails_left}
 use Rattle.lists.specs.Below.{all_next}
 use Rattle.rows.specs.Entries.{row_empty}

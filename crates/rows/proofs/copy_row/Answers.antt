@@ -1,6 +1,5 @@
 -- The copy from the entry's place on is the definition.
 use Rattle.format.specs.Entries.{entry_at}
-use borrow.Author.Rules.{rules}
 use Rattle.rows.proofs.copy_row.Goals as goal
 
 pub returns : goal.returns

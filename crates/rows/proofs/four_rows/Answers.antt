@@ -7,7 +7,6 @@ use Rattle.lists.specs.Splice.{part, take_part}
 use Rattle.format.specs.Diskette.{eight_inch, record_bytes, offset_of, record_at}
 use Rattle.disk.specs.Eight.{eight_sound}
 use Rattle.disk.specs.Records.{length_record_at}
-use borrow.Author.Rules.{rules}
 use Rattle.rows.proofs.four_rows.Goals as goal
 
 pub returns : goal.returns

@@ -7,7 +7,6 @@ use Rattle.disk.specs.Eight.{eight_sound}
 use Rattle.format.specs.Diskette.{eight_inch, entry_bytes}
 use Rattle.format.specs.Entries.{entry_at, entry_place_rule}
 use Rattle.rows.specs.Entries.{length_entry_at}
-use borrow.Author.Rules.{rules}
 use Rattle.rows.proofs.row.Goals as goal
 
 pub returns : goal.returns

@@ -5,7 +5,6 @@ use native.Mathlib.Omega.{arith}
 use lib.ListN.{length}
 use Rattle.lists.specs.Splice.{take_part, length_part}
 use Rattle.format.specs.Diskette.{entry_bytes}
-use borrow.Author.Rules.{rules}
 use Rattle.rows.proofs.row_at.Goals as goal
 
 pub returns : goal.returns

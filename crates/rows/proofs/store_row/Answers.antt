@@ -1,6 +1,5 @@
 -- The copy to the entry's place is the definition.
 use Rattle.format.specs.Entries.{with_entry}
-use borrow.Author.Rules.{rules}
 use Rattle.rows.proofs.store_row.Goals as goal
 
 pub returns : goal.returns

@@ -1,11 +1,9 @@
 -- The loop keeps that the rows before the place are empty.
-use Rattle.rows.specs.Entries.{row_of, row_empty}
-use Rattle.format.specs.Diskette.{Bytes, entry_bytes}
-use Rattle.format.specs.Entries.{empty}
-use Rattle.lists.specs.Below.{all_below, all_none, all_more, all_fails, all_done}
+use Rattle.rows.specs.Entries.{row_empty}
+use Rattle.format.specs.Diskette.{entry_bytes}
+use Rattle.lists.specs.Below.{all_none, all_more, all_fails, all_done}
 use borrow.Author.Tests.{eq-eqb, ne_eqb}
-use Prim.Native.Nat.{ℕ, ◌+◌, ◌-◌, ◌/◌, ◌%◌, ◌≤◌}
-use mathlib.Core.Bool.{Bool, true}
+use Prim.Native.Nat.{◌+◌, ◌/◌}
 use mathlib.Core.Path.{◌≡◌, refl, sym, ◌∙◌}
 use native.Mathlib.Omega.{arith}
 use Rattle.rows.proofs.three_empty.Invariants.{blank}

@@ -1,13 +1,11 @@
 -- The loop keeps that the rows before the place are empty.
-use Rattle.rows.specs.Entries.{row_of, row_empty}
+use Rattle.rows.specs.Entries.{row_of}
 use Rattle.format.specs.Diskette.{Bytes, entry_bytes}
 use Rattle.format.specs.Entries.{empty}
-use Rattle.lists.specs.Below.{all_below, all_none, all_more, all_fails, all_done}
-use borrow.Author.Tests.{eq-eqb, ne_eqb}
-use Prim.Native.Nat.{ℕ, ◌+◌, ◌-◌, ◌/◌, ◌%◌, ◌≤◌}
+use Rattle.lists.specs.Below.{all_below}
+use Prim.Native.Nat.{ℕ, ◌-◌, ◌/◌, ◌%◌, ◌≤◌}
 use mathlib.Core.Bool.{Bool, true}
-use mathlib.Core.Path.{◌≡◌, refl, sym, ◌∙◌}
-use native.Mathlib.Omega.{arith}
+use mathlib.Core.Path.{◌≡◌}
 use Rattle.rows.proofs.three_empty.Given as goal
 
 -- the i-th of four rows is empty
