@@ -7,7 +7,7 @@ use Prim.Native.Nat.{ℕ, ◌+◌, ◌-◌, ◌%◌, ◌≤◌, ◌<◌}
 use native.Mathlib.Omega.{arith}
 use Rattle.std.proofs.Math.ListN.{length, get_or}
 use Rattle.lists.specs.Cases.{split, lt_or_le, eq_or_ne}
-use Rattle.lists.specs.Tests.{◌and◌, and_left, and_right, and_both}
+use Rattle.lists.specs.Tests.{and_left, and_right, and_both}
 use Rattle.lists.specs.Below.{all_at, all_intro}
 use Rattle.lists.specs.Splice.{part, splice, length_part, length_splice, get_d_part, get_d_splice_in, get_d_splice_at, get_d_splice_out, part_splice_same, part_splice_other}
 use Rattle.format.specs.Diskette.{Bytes, Geometry, Sound, record_at, entry_bytes, entries_per_record, Long}

@@ -29,7 +29,6 @@ use Rattle.fields.specs.Closing.{file_closed, unchanged_end}
 use Rattle.fields.specs.Images.{row_closed_image, row_closed_image_other}
 use Rattle.table.specs.Facts.{AcceptedCall}
 use Rattle.table.specs.Accept.{writes_by}
-use Rattle.table.specs.Plans as Plans
 use Rattle.invariant.specs.Good.{Good}
 use Rattle.effects.specs.View.{view_of}
 use Rattle.effects.specs.Cur.{Cur, cur_current, cur_uses, cur_named}

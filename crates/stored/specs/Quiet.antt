@@ -25,7 +25,7 @@ use Rattle.model.specs.Lent.{Drive, Lent, Outcome, protected, ended}
 use Rattle.model.specs.Entering.{entered}
 use Rattle.model.specs.Target.{present_entry}
 use Rattle.model.specs.Calls.{opened_at, opened}
-use Rattle.model.specs.Stamps.{Stamp, first, access_stamps, stamps_by, stamped_outcome, where_dated}
+use Rattle.model.specs.Stamps.{Stamp, access_stamps, stamps_by, stamped_outcome, where_dated}
 use Rattle.model.specs.Step.{told, does}
 use Rattle.model.specs.Table.{time_right_rule, asked_entry, own_rows, move_changes, protection_holds}
 use Rattle.fields.specs.Agree.{count_cong}

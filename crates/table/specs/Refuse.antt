@@ -19,7 +19,6 @@ use Rattle.format.specs.declared.Found.TheVariants.{Nothing}
 use Rattle.model.specs.declared.Asked.{Asked}
 use Rattle.model.specs.declared.Session.{Session}
 use Rattle.model.specs.declared.Code.{Code}
-use Rattle.model.specs.declared.Code.TheVariants as Code
 use Rattle.model.specs.declared.Verdict.TheVariants.{Refused}
 use Rattle.model.specs.contracts.Code.{the_type}
 use Rattle.model.specs.Codes.{says_of, h_of}

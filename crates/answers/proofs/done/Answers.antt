@@ -1,6 +1,5 @@
 -- The search ends first.
 use mathlib.Core.Path.{◌∙◌}
-use borrow.Author.Rules.{rules}
 use Rattle.answers.proofs.done.Goals as goal
 
 pub returns : goal.returns

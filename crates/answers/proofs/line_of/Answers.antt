@@ -2,7 +2,6 @@
 use mathlib.Core.Path.{◌≡◌, sym, ap}
 use Rattle.model.specs.declared.Code.{Code}
 use Rattle.model.specs.Codes.{says_of}
-use borrow.Author.Rules.{rules}
 use Rattle.answers.proofs.line_of.Goals as goal
 
 line : {code d : Code} → code ≡ d → ((says_of d).a ≡ (says_of code).a) × ((says_of d).h ≡ (says_of code).h) × ((says_of d).over ≡ (says_of code).over)

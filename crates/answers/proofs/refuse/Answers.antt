@@ -1,7 +1,6 @@
 -- The code's line decides: A and H are its, and where it says that a search is over, the session's is.
 use mathlib.Core.Path.{◌≡◌, sym, ◌∙◌}
 use mathlib.Core.Bool.{true, false}
-use borrow.Author.Rules.{rules}
 use Rattle.model.specs.Codes.{says_of}
 use Rattle.answers.proofs.refuse.Goals as goal
 

@@ -1,6 +1,5 @@
 -- Byte 12 is tested first: it takes one compare.
 use mathlib.Core.Path.{sym, ◌∙◌}
-use borrow.Author.Rules.{rules}
 use borrow.Author.Tests.{le-leb, lt-leb}
 use Rattle.lists.specs.Tests.{and_fails_right, and_first}
 use Rattle.asking.specs.Asked.{asks_right_rule}

@@ -1,5 +1,4 @@
 -- The look-up with byte 12 is the definition.
-use borrow.Author.Rules.{rules}
 use Rattle.model.specs.Table.{asked_entry}
 use Rattle.asking.proofs.find_asked.Goals as goal
 

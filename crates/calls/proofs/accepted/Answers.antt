@@ -1,7 +1,6 @@
 -- `calls::accepted` meets its contract: H first, then A by the kind of the call.
 use Rattle.table.specs.Accepted.{accepted_answer}
 use mathlib.Core.Path.{sym, ◌∙◌}
-use borrow.Author.Rules.{rules}
 use borrow.Author.Tests.{eq-eqb, ne_eqb}
 use Rattle.lists.specs.Tests.{and_then, and_fails_left}
 use Rattle.calls.proofs.accepted.Goals as goal

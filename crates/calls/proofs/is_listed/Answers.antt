@@ -1,7 +1,6 @@
 -- Every kind but the first is a call's.
 use mathlib.Core.Path.{sym, ap}
 use mathlib.Core.Bool.{not}
-use borrow.Author.Rules.{rules}
 use Rattle.model.specs.declared.Kind.TheVariants.{Unlisted}
 use Rattle.calls.specs.Apart.{not_same}
 use Rattle.calls.proofs.is_listed.Goals as goal

@@ -2,7 +2,6 @@
 use Prim.Native.Nat.{ℕ}
 use native.Mathlib.Omega.{arith}
 use lib.Seq.{get_or-set_other}
-use borrow.Author.Rules.{rules}
 use Rattle.model.specs.Closing.{closed_fcb}
 use Rattle.closing.proofs.clear_attributes.Goals as goal
 

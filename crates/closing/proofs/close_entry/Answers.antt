@@ -8,7 +8,6 @@ use Rattle.disk.specs.Eight.{eight_sound}
 use Rattle.merging.specs.Merging.{close_keeps_rule, keeps_row}
 use Rattle.closing.specs.Laws.{kept_image, closed_image_law, closed_map_law}
 use Rattle.fields.specs.Closing.{map_kept}
-use borrow.Author.Rules.{rules}
 use Rattle.closing.proofs.close_entry.Goals as goal
 
 pub returns-then-close_keeps : goal.returns-then-close_keeps

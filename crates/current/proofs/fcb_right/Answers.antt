@@ -1,7 +1,5 @@
 -- The name and the numbers come first; where they are right, cr decides.
 use mathlib.Core.Path.{sym, ◌∙◌}
-use borrow.Author.Rules.{rules}
-use borrow.Author.Tests.{not-true, not-false}
 use Rattle.lists.specs.Tests.{and_then, and_fails_left}
 use Rattle.current.specs.Current.{fcb_fields}
 use Rattle.current.proofs.fcb_right.Goals as goal

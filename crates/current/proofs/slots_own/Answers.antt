@@ -1,6 +1,5 @@
 -- `current::slots_own` meets its contract: both are taken out, and compared.
 use mathlib.Core.Path.{◌≡◌, ◌∙◌}
-use borrow.Author.Rules.{rules}
 use Rattle.format.specs.Diskette.{Bytes}
 use Rattle.slots.specs.Slots.{slots_same_rule}
 use Rattle.current.proofs.slots_own.Goals as goal

@@ -1,13 +1,10 @@
 -- `entering::clear_interface` meets its contract. The invariant: the bytes below i are the cleared row's, the others the row's.
 use mathlib.Core.Path.{◌≡◌}
 use Prim.Native.Nat.{◌-◌, ◌≤◌}
-use native.Mathlib.Omega.{arith}
-use lib.ListN.{length, length-set}
-use borrow.Author.Rules.{rules}
+use lib.ListN.{length}
 use Rattle.lists.specs.Tab.{Filled}
 use Rattle.format.specs.Diskette.{entry_bytes}
 use Rattle.model.specs.Entering.{interface_byte}
-use Rattle.entering.specs.Rows.{cleared_start, cleared_more, cleared_all}
 use Rattle.entering.proofs.clear_interface.Given as goal
 
 abbrev pub invariant-loop-i : goal.invariant-loop-i

@@ -1,5 +1,4 @@
 -- `entering::copy_fields` meets its contract: `put` splices the part.
-use borrow.Author.Rules.{rules}
 use Rattle.lists.specs.Splice.{part}
 use Rattle.model.specs.Entering.{copied}
 use Rattle.entering.proofs.copy_fields.Goals as goal

@@ -1,6 +1,5 @@
 -- `entering::enter` meets its contract: of its own extent a row is as it is.
 use mathlib.Core.Path.{refl, ap, sym, ◌∙◌}
-use borrow.Author.Rules.{rules}
 use Rattle.model.specs.Entering.{copied, interface_cleared, entered}
 use Rattle.fields.specs.Entering.{as_extent_own}
 use Rattle.entering.proofs.enter.Goals as goal

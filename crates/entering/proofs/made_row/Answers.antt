@@ -1,13 +1,10 @@
 -- `entering::made_row` meets its contract. The invariant: the bytes up to name byte i are the made row's, the others as they were.
-use mathlib.Core.Path.{◌≡◌, refl, sym}
-use Prim.Native.Nat.{◌+◌, ◌-◌, ◌≤◌}
+use mathlib.Core.Path.{refl, sym}
 use native.Mathlib.Omega.{arith}
-use lib.ListN.{length, length-set}
-use Rattle.format.specs.Names.{name_bytes}
-use Rattle.format.specs.Diskette.{entry_bytes}
+use lib.ListN.{length-set}
 use Rattle.model.specs.Entering.{made_row_rule}
 use Rattle.fields.specs.Making.{byte_made}
-use Rattle.entering.specs.Rows.{Made, made_start, made_more, made_all, blank_zero}
+use Rattle.entering.specs.Rows.{made_start, made_more, made_all, blank_zero}
 use Rattle.entering.proofs.made_row.Goals as goal
 
 pub loop-i-init : goal.loop-i-init

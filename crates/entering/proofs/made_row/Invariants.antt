@@ -1,13 +1,11 @@
 -- `entering::made_row` meets its contract. The invariant: the bytes up to name byte i are the made row's, the others as they were.
-use mathlib.Core.Path.{◌≡◌, refl, sym}
+use mathlib.Core.Path.{◌≡◌}
 use Prim.Native.Nat.{◌+◌, ◌-◌, ◌≤◌}
-use native.Mathlib.Omega.{arith}
-use lib.ListN.{length, length-set}
+use lib.ListN.{length}
 use Rattle.format.specs.Names.{name_bytes}
 use Rattle.format.specs.Diskette.{entry_bytes}
 use Rattle.model.specs.Entering.{made_row_rule}
-use Rattle.fields.specs.Making.{byte_made}
-use Rattle.entering.specs.Rows.{Made, made_start, made_more, made_all, blank_zero}
+use Rattle.entering.specs.Rows.{Made}
 use Rattle.entering.proofs.made_row.Given as goal
 
 abbrev pub invariant-loop-i : goal.invariant-loop-i

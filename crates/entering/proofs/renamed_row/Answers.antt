@@ -1,14 +1,11 @@
 -- `entering::renamed_row` meets its contract. The invariant: the bytes up to name byte i are the renamed row's, the others the row's.
 use mathlib.Core.Path.{◌≡◌, sym, ◌∙◌}
-use Prim.Native.Nat.{◌+◌, ◌-◌, ◌≤◌}
 use native.Mathlib.Omega.{arith}
 use lib.ListN.{length, length-set}
 use borrow.Author.Rules.{rules}
-use Rattle.format.specs.Names.{name_bytes}
-use Rattle.format.specs.Diskette.{entry_bytes}
 use Rattle.model.specs.Entering.{renamed_row_rule, renamed_byte}
 use Rattle.fields.specs.Making.{byte_renamed}
-use Rattle.entering.specs.Rows.{Made, renamed_start, made_more, renamed_all}
+use Rattle.entering.specs.Rows.{renamed_start, made_more, renamed_all}
 use Rattle.entering.proofs.renamed_row.Goals as goal
 
 pub loop-i-init : goal.loop-i-init

@@ -1,14 +1,11 @@
 -- `entering::renamed_row` meets its contract. The invariant: the bytes up to name byte i are the renamed row's, the others the row's.
-use mathlib.Core.Path.{◌≡◌, sym, ◌∙◌}
+use mathlib.Core.Path.{◌≡◌}
 use Prim.Native.Nat.{◌+◌, ◌-◌, ◌≤◌}
-use native.Mathlib.Omega.{arith}
-use lib.ListN.{length, length-set}
-use borrow.Author.Rules.{rules}
+use lib.ListN.{length}
 use Rattle.format.specs.Names.{name_bytes}
 use Rattle.format.specs.Diskette.{entry_bytes}
-use Rattle.model.specs.Entering.{renamed_row_rule, renamed_byte}
-use Rattle.fields.specs.Making.{byte_renamed}
-use Rattle.entering.specs.Rows.{Made, renamed_start, made_more, renamed_all}
+use Rattle.model.specs.Entering.{renamed_row_rule}
+use Rattle.entering.specs.Rows.{Made}
 use Rattle.entering.proofs.renamed_row.Given as goal
 
 abbrev pub invariant-loop-i : goal.invariant-loop-i

@@ -1,15 +1,12 @@
 -- The loop's invariant: the entries below e are done, and marked where they were erased.
 use mathlib.Core.Path.{◌≡◌, refl, ◌∙◌}
 use mathlib.Core.Bool.{true}
-use Prim.Native.Nat.{◌-◌, ◌≤◌}
 use native.Mathlib.Omega.{arith}
-use lib.ListN.{length, length-set}
-use borrow.Author.Rules.{rules}
+use lib.ListN.{length-set}
 use Rattle.format.specs.Diskette.{eight_inch}
-use Rattle.format.specs.Entries.{named}
 use Rattle.disk.specs.Eight.{eight_sound}
 use Rattle.consistency.specs.Naming.{named_used}
-use Rattle.erasing.specs.Erasing.{Erasing, erasing_none, erasing_more, erasing_image, erasing_map}
+use Rattle.erasing.specs.Erasing.{erasing_none, erasing_more, erasing_image, erasing_map}
 use Rattle.erasing.proofs.erase_entries.Goals as goal
 
 pub loop-e-init : goal.loop-e-init

@@ -1,15 +1,11 @@
 -- The loop's invariant: the entries below e are done, and marked where they were erased.
-use mathlib.Core.Path.{◌≡◌, refl, ◌∙◌}
+use mathlib.Core.Path.{◌≡◌}
 use mathlib.Core.Bool.{true}
 use Prim.Native.Nat.{◌-◌, ◌≤◌}
-use native.Mathlib.Omega.{arith}
-use lib.ListN.{length, length-set}
-use borrow.Author.Rules.{rules}
+use lib.ListN.{length}
 use Rattle.format.specs.Diskette.{eight_inch}
 use Rattle.format.specs.Entries.{named}
-use Rattle.disk.specs.Eight.{eight_sound}
-use Rattle.consistency.specs.Naming.{named_used}
-use Rattle.erasing.specs.Erasing.{Erasing, erasing_none, erasing_more, erasing_image, erasing_map}
+use Rattle.erasing.specs.Erasing.{Erasing}
 use Rattle.erasing.proofs.erase_entries.Given as goal
 
 abbrev pub invariant-loop-e : goal.invariant-loop-e

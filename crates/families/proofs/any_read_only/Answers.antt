@@ -1,13 +1,9 @@
 -- The loop's invariant: no entry below e is named and read-only.
 use mathlib.Core.Path.{◌≡◌, sym}
-use mathlib.Core.Bool.{Bool, true, false}
-use Prim.Native.Nat.{ℕ, ◌-◌, ◌≤◌}
+use mathlib.Core.Bool.{true, false}
 use native.Mathlib.Omega.{arith}
-use borrow.Author.Rules.{rules}
-use Rattle.lists.specs.Tests.{◌and◌}
-use Rattle.lists.specs.Below.{any_below, any_none, any_at, any_more, any_done}
-use Rattle.format.specs.Diskette.{Bytes, eight_inch}
-use Rattle.format.specs.Entries.{entry_at, named, read_only}
+use Rattle.lists.specs.Below.{any_none, any_at, any_more, any_done}
+use Rattle.format.specs.Diskette.{eight_inch}
 use Rattle.model.specs.Table.{any_read_only_rule}
 use Rattle.families.proofs.any_read_only.Invariants.{guarded}
 use Rattle.families.proofs.any_read_only.Goals as goal

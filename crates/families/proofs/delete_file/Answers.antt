@@ -1,13 +1,11 @@
 -- Each answer is that of the row that decides; where none holds, the entries are erased and their blocks freed.
 use mathlib.Core.Path.{◌≡◌, sym, ◌∙◌}
 use mathlib.Core.Bool.{true}
-use borrow.Author.Tests.{not-true, not-false}
 use Rattle.format.specs.Diskette.{Bytes, eight_inch}
 use Rattle.format.specs.Names.{name_right_rule}
 use Rattle.model.specs.Table.{any_named}
 use Rattle.model.specs.Lent.{lend}
 use Rattle.families.specs.Steps.{some_named, none_named, delete_wrong, delete_missed, delete_guarded, delete_done}
-use borrow.Author.Rules.{rules}
 use Rattle.families.proofs.delete_file.Goals as goal
 
 pub returns-then-not-name_right : goal.returns-then-not-name_right

@@ -1,7 +1,5 @@
 -- t1' is tested first; where it is not set, the conjunction fails at once.
 use mathlib.Core.Path.{sym, ◌∙◌}
-use borrow.Author.Rules.{rules}
-use borrow.Author.Tests.{not-true, not-false}
 use Rattle.lists.specs.Tests.{and_fails_right, and_first}
 use Rattle.families.proofs.guards.Goals as goal
 

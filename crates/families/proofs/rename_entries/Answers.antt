@@ -1,15 +1,8 @@
 -- The loop's invariant: the image is the lent one with its entries below e renamed.
-use mathlib.Core.Path.{◌≡◌, refl, sym, ◌∙◌}
-use mathlib.Core.Bool.{false}
-use Prim.Native.Nat.{◌-◌, ◌≤◌}
+use mathlib.Core.Path.{refl, sym, ◌∙◌}
 use native.Mathlib.Omega.{arith}
-use lib.ListN.{length}
-use borrow.Author.Rules.{rules}
-use Rattle.lists.specs.Fold.{fold_below, fold_none, fold_more, fold_done}
-use Rattle.format.specs.Diskette.{eight_inch}
-use Rattle.format.specs.Entries.{named}
-use Rattle.model.specs.Entering.{renamed_row_rule}
-use Rattle.model.specs.Calls.{changed_row, changed_rows}
+use Rattle.lists.specs.Fold.{fold_none, fold_more, fold_done}
+use Rattle.model.specs.Calls.{changed_rows}
 use Rattle.families.proofs.rename_entries.Goals as goal
 
 pub loop-e-init : goal.loop-e-init

@@ -1,15 +1,13 @@
 -- The loop's invariant: the image is the lent one with its entries below e renamed.
-use mathlib.Core.Path.{◌≡◌, refl, sym, ◌∙◌}
+use mathlib.Core.Path.{◌≡◌}
 use mathlib.Core.Bool.{false}
 use Prim.Native.Nat.{◌-◌, ◌≤◌}
-use native.Mathlib.Omega.{arith}
 use lib.ListN.{length}
-use borrow.Author.Rules.{rules}
-use Rattle.lists.specs.Fold.{fold_below, fold_none, fold_more, fold_done}
+use Rattle.lists.specs.Fold.{fold_below}
 use Rattle.format.specs.Diskette.{eight_inch}
 use Rattle.format.specs.Entries.{named}
 use Rattle.model.specs.Entering.{renamed_row_rule}
-use Rattle.model.specs.Calls.{changed_row, changed_rows}
+use Rattle.model.specs.Calls.{changed_row}
 use Rattle.families.proofs.rename_entries.Given as goal
 
 abbrev pub invariant-loop-e : goal.invariant-loop-e

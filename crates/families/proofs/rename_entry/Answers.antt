@@ -4,7 +4,6 @@ use mathlib.Core.Bool.{true, false}
 use Rattle.format.specs.Diskette.{eight_inch}
 use Rattle.format.specs.Entries.{entry_at, named}
 use Rattle.model.specs.Calls.{changed_row}
-use borrow.Author.Rules.{rules}
 use Rattle.families.proofs.rename_entry.Goals as goal
 
 pub returns-then-is_named : goal.returns-then-is_named

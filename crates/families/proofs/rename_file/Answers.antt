@@ -1,13 +1,11 @@
 -- Each answer is that of the row that decides; where none holds, every extent is renamed.
 use mathlib.Core.Path.{◌≡◌, sym, ◌∙◌}
 use mathlib.Core.Bool.{true, false}
-use borrow.Author.Tests.{not-true, not-false}
 use Rattle.format.specs.Diskette.{Bytes, eight_inch}
 use Rattle.format.specs.Names.{name_right_rule}
 use Rattle.model.specs.Lent.{lend}
 use Rattle.model.specs.Table.{any_named, any_read_only_rule}
 use Rattle.families.specs.Steps.{some_named, none_named, rename_wrong, rename_new_wrong, rename_missed, rename_guarded, rename_exists, rename_done}
-use borrow.Author.Rules.{rules}
 use Rattle.families.proofs.rename_file.Goals as goal
 
 pub returns-then-not-name_right : goal.returns-then-not-name_right

@@ -10,7 +10,6 @@ use Rattle.model.specs.Table.{any_named}
 use Rattle.table.specs.First.{here, later}
 use Rattle.table.specs.Own.{calling}
 use Rattle.table.specs.OwnStep.{refuses_own, quiet_own}
-use borrow.Author.Rules.{rules}
 use Rattle.files.proofs.file_size.Goals as goal
 
 pub returns-then-not-name_right : goal.returns-then-not-name_right

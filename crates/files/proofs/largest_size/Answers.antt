@@ -1,13 +1,8 @@
 -- The loop's invariant: the size is the largest over the entries below e.
-use mathlib.Core.Path.{◌≡◌, sym}
-use mathlib.Core.Bool.{false}
-use Prim.Native.Nat.{◌-◌, ◌≤◌}
+use mathlib.Core.Path.{sym}
 use native.Mathlib.Omega.{arith}
-use borrow.Author.Rules.{rules}
-use Rattle.lists.specs.Fold.{fold_below, fold_none, fold_more, fold_done}
-use Rattle.format.specs.Diskette.{eight_inch}
-use Rattle.format.specs.Entries.{entry_at, named}
-use Rattle.model.specs.Calls.{larger_size_rule, file_size_rule}
+use Rattle.lists.specs.Fold.{fold_none, fold_more, fold_done}
+use Rattle.model.specs.Calls.{file_size_rule}
 use Rattle.files.proofs.largest_size.Goals as goal
 
 pub loop-e-init : goal.loop-e-init

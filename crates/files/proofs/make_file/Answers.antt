@@ -1,7 +1,6 @@
 -- Each answer is that of the row that decides; where none holds, the first empty entry and the FCB take the new row.
 use mathlib.Core.Path.{◌≡◌, refl, sym, ap, ◌∙◌}
 use Prim.Native.Nat.{◌<◌}
-use borrow.Author.Tests.{not-true, not-false}
 use Rattle.format.specs.Diskette.{Bytes, eight_inch}
 use Rattle.format.specs.Entries.{entry_at, find_empty_rule}
 use Rattle.format.specs.Found.{is_found}

@@ -3,7 +3,6 @@ use mathlib.Core.Path.{◌≡◌, refl, sym, ◌∙◌}
 use mathlib.Core.List.{[]}
 use Prim.Native.Nat.{◌<◌}
 use borrow.Author.Rules.{rules}
-use borrow.Author.Tests.{not-true, not-false}
 use Rattle.format.specs.Diskette.{Bytes, eight_inch}
 use Rattle.format.specs.declared.Found.TheVariants.{At}
 use Rattle.model.specs.declared.Code.TheVariants.{BadName, Failed}

@@ -1,10 +1,8 @@
 -- `freeing::free_held` meets its contract. The loop's invariant: the notes below b are freed where they are held, the others as they were.
-use Prim.Native.Nat.{ℕ, ◌-◌, ◌≤◌}
+use Prim.Native.Nat.{ℕ}
 use native.Mathlib.Omega.{arith}
-use borrow.Author.Rules.{rules}
-use Rattle.lists.specs.Tab.{Filled, filled_none, filled_all}
+use Rattle.lists.specs.Tab.{filled_none, filled_all}
 use Rattle.format.specs.Diskette.{eight_inch}
-use Rattle.format.specs.Notes.{note_at_rule}
 use Rattle.notes.specs.Changes.{changed_note}
 use Rattle.freeing.specs.Freeing.{unheld_note_rule, unheld_map, marks_pick}
 use Rattle.freeing.proofs.free_held.Goals as goal

@@ -1,10 +1,9 @@
 -- `freeing::free_pending` meets its contract. The loop's invariant: the notes below b are settled, the others as they were.
-use Prim.Native.Nat.{ℕ, ◌-◌, ◌≤◌}
+use Prim.Native.Nat.{ℕ}
 use native.Mathlib.Omega.{arith}
-use borrow.Author.Rules.{rules}
-use Rattle.lists.specs.Tab.{Filled, filled_none, filled_all}
+use Rattle.lists.specs.Tab.{filled_none, filled_all}
 use Rattle.format.specs.Diskette.{eight_inch}
-use Rattle.format.specs.Notes.{note_at_rule, settled_note_rule, freed_map}
+use Rattle.format.specs.Notes.{settled_note_rule, freed_map}
 use Rattle.notes.specs.Changes.{changed_note}
 use Rattle.freeing.proofs.free_pending.Goals as goal
 

@@ -1,12 +1,8 @@
 -- `freeing::free_slots` meets its contract. The loop's invariant: the blocks of the slots below j are free, the other notes as they were.
-use mathlib.Core.Path.{◌≡◌}
 use Prim.Native.Nat.{◌-◌, ◌≤◌}
-use native.Mathlib.Omega.{arith}
-use borrow.Author.Rules.{rules}
-use Rattle.format.specs.Entries.{slot_in}
 use Rattle.format.specs.Diskette.{eight_inch, slot_count}
 use Rattle.freeing.specs.Freeing.{in_slots}
-use Rattle.freeing.specs.Laws.{Freed, slots_none, slots_more, slots_done}
+use Rattle.freeing.specs.Laws.{Freed}
 use Rattle.freeing.proofs.free_slots.Given as goal
 
 abbrev pub invariant-loop-j : goal.invariant-loop-j

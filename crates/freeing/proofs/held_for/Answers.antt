@@ -5,7 +5,6 @@ use Prim.Native.Nat.{ℕ, ◌≤◌}
 use native.Mathlib.Omega.{arith}
 use lib.Dec.{eqb}
 use lib.ListN.{length, get_or-eq_default}
-use borrow.Author.Rules.{rules}
 use Rattle.format.specs.Diskette.{Bytes, eight_inch}
 use Rattle.notes.specs.Holder.{holder_low, held_at, held_none}
 use Rattle.freeing.specs.Freeing.{marks_pick}

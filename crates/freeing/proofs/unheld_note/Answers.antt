@@ -1,5 +1,4 @@
 -- `freeing::unheld_note` meets its contract: the code's test is the definition's.
-use borrow.Author.Rules.{rules}
 use Rattle.freeing.specs.Freeing.{unheld_note_rule}
 use Rattle.freeing.proofs.unheld_note.Goals as goal
 

@@ -1,6 +1,5 @@
 -- 3FH first, then ex, then s2: each way out is one case of the definition.
 use mathlib.Core.Path.{sym, ◌∙◌}
-use borrow.Author.Rules.{rules}
 use borrow.Author.Tests.{eq-eqb, ne_eqb}
 use Rattle.lists.specs.Tests.{or_left, or_then, and_fails_left, and_then}
 use Rattle.hits.specs.Hits.{extent_by_bytes}

@@ -1,10 +1,8 @@
 -- The loop's invariant: what is first from e on is first from the start on, since no entry passed before e.
 use mathlib.Core.Path.{◌≡◌, refl, ◌∙◌}
-use mathlib.Core.Bool.{Bool, true, false}
-use Prim.Native.Nat.{ℕ, ◌-◌}
+use mathlib.Core.Bool.{true, false}
 use native.Mathlib.Omega.{arith}
-use borrow.Author.Rules.{rules}
-use Rattle.lists.specs.Below.{first_in, first_turn}
+use Rattle.lists.specs.Below.{first_turn}
 use Rattle.format.specs.Diskette.{eight_inch}
 use Rattle.format.specs.Entries.{entry_at}
 use Rattle.facts.specs.Found.{look_hit, look_end}

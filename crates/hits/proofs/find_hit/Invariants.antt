@@ -1,14 +1,9 @@
 -- The loop's invariant: what is first from e on is first from the start on, since no entry passed before e.
-use mathlib.Core.Path.{◌≡◌, refl, ◌∙◌}
-use mathlib.Core.Bool.{Bool, true, false}
-use Prim.Native.Nat.{ℕ, ◌-◌}
-use native.Mathlib.Omega.{arith}
-use borrow.Author.Rules.{rules}
-use Rattle.lists.specs.Below.{first_in, first_turn}
+use mathlib.Core.Path.{◌≡◌}
+use Prim.Native.Nat.{◌-◌}
+use Rattle.lists.specs.Below.{first_in}
 use Rattle.format.specs.Diskette.{eight_inch}
 use Rattle.format.specs.Entries.{entry_at}
-use Rattle.facts.specs.Found.{look_hit, look_end}
-use Rattle.model.specs.Search.{find_hit_rule}
 use Rattle.hits.specs.Hits.{hit_test}
 use Rattle.hits.proofs.find_hit.Given as goal
 

@@ -1,8 +1,7 @@
 -- User, extent, name: the first that fails decides, and where the first two hold the name does.
 use mathlib.Core.Path.{◌≡◌, sym, ◌∙◌}
 use mathlib.Core.Bool.{true, false}
-use borrow.Author.Rules.{rules}
-use borrow.Author.Tests.{ne_eqb, not-true, not-false}
+use borrow.Author.Tests.{ne_eqb}
 use Rattle.lists.specs.Tests.{and_fails_left, and_fails_right}
 use Rattle.format.specs.Diskette.{eight_inch}
 use Rattle.format.specs.Entries.{named}

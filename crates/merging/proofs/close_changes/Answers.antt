@@ -2,7 +2,6 @@
 use mathlib.Core.Path.{sym, ◌∙◌}
 use Rattle.lists.specs.Tests.{or_right, or_first}
 use Rattle.model.specs.Closing.{close_changes_rule}
-use borrow.Author.Rules.{rules}
 use Rattle.merging.proofs.close_changes.Goals as goal
 
 pub returns-then-ends_later : goal.returns-then-ends_later

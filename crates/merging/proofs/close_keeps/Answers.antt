@@ -1,10 +1,8 @@
 -- The slots decide first, then the ends.
 use mathlib.Core.Path.{sym, ap, ◌∙◌}
 use mathlib.Core.Bool.{not}
-use borrow.Author.Tests.{not-true, not-false}
 use Rattle.lists.specs.Tests.{and_then, and_fails_left}
 use Rattle.merging.specs.Merging.{close_keeps_rule}
-use borrow.Author.Rules.{rules}
 use Rattle.merging.proofs.close_keeps.Goals as goal
 
 pub returns-then-not-slots_own : goal.returns-then-not-slots_own

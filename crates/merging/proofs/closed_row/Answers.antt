@@ -1,7 +1,6 @@
 -- `merging::closed_row` meets its contract: the merged slots are put into the row with the later end.
 use Rattle.format.specs.Diskette.{eight_inch}
 use Rattle.merging.specs.Merging.{closed_row_law}
-use borrow.Author.Rules.{rules}
 use Rattle.merging.proofs.closed_row.Goals as goal
 
 pub returns : goal.returns

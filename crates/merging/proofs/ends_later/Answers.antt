@@ -1,7 +1,6 @@
 -- The FCB's count decides first, then the two ends.
 use mathlib.Core.Path.{sym, ◌∙◌}
 use Rattle.merging.specs.Merging.{never_later, later_by}
-use borrow.Author.Rules.{rules}
 use Rattle.merging.proofs.ends_later.Goals as goal
 
 pub returns-then-count_of-eq0 : goal.returns-then-count_of-eq0

@@ -2,10 +2,8 @@
 use mathlib.Core.Path.{sym, ◌∙◌}
 use native.Mathlib.Omega.{arith}
 use lib.ListN.{length-set}
-use borrow.Author.Tests.{not-true, not-false}
 use Rattle.fields.specs.Closing.{later_stays}
 use Rattle.merging.specs.Merging.{later_takes}
-use borrow.Author.Rules.{rules}
 use Rattle.merging.proofs.later_end.Goals as goal
 
 pub returns-then-not-ends_later : goal.returns-then-not-ends_later

@@ -1,12 +1,10 @@
 -- `merging::merge` meets its contract. The invariant: the slots below j are the merged ones.
-use mathlib.Core.Path.{◌≡◌, refl, sym, ◌∙◌}
-use Prim.Native.Nat.{◌-◌, ◌≤◌}
+use mathlib.Core.Path.{refl, sym, ◌∙◌}
 use native.Mathlib.Omega.{arith}
-use lib.ListN.{length, length-set}
-use borrow.Author.Rules.{rules}
-use Rattle.lists.specs.Tab.{Filled, filled_none, filled_more, filled_all}
+use lib.ListN.{length-set}
+use Rattle.lists.specs.Tab.{filled_none, filled_more, filled_all}
 use Rattle.format.specs.Diskette.{eight_inch, slot_count}
-use Rattle.model.specs.Closing.{merged_byte_rule, merged_slots}
+use Rattle.model.specs.Closing.{merged_slots}
 use Rattle.merging.specs.Merging.{same_none}
 use Rattle.fields.specs.Closing.{merged_none}
 use Rattle.merging.proofs.merge.Goals as goal

@@ -1,14 +1,10 @@
 -- `merging::merge` meets its contract. The invariant: the slots below j are the merged ones.
-use mathlib.Core.Path.{◌≡◌, refl, sym, ◌∙◌}
+use mathlib.Core.Path.{◌≡◌}
 use Prim.Native.Nat.{◌-◌, ◌≤◌}
-use native.Mathlib.Omega.{arith}
-use lib.ListN.{length, length-set}
-use borrow.Author.Rules.{rules}
-use Rattle.lists.specs.Tab.{Filled, filled_none, filled_more, filled_all}
+use lib.ListN.{length}
+use Rattle.lists.specs.Tab.{Filled}
 use Rattle.format.specs.Diskette.{eight_inch, slot_count}
-use Rattle.model.specs.Closing.{merged_byte_rule, merged_slots}
-use Rattle.merging.specs.Merging.{same_none}
-use Rattle.fields.specs.Closing.{merged_none}
+use Rattle.model.specs.Closing.{merged_byte_rule}
 use Rattle.merging.proofs.merge.Given as goal
 
 abbrev pub invariant-loop-j : goal.invariant-loop-j

@@ -1,6 +1,5 @@
 -- `merging::merged_byte` meets its contract.
 use mathlib.Core.Path.{sym, ◌∙◌}
-use borrow.Author.Rules.{rules}
 use Rattle.format.specs.Entries.{slot_at}
 use Rattle.model.specs.Closing.{merged_byte_rule}
 use Rattle.merging.proofs.merged_byte.Goals as goal

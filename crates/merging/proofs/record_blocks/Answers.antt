@@ -1,10 +1,7 @@
 -- `merging::record_blocks` meets its contract. The invariant: the map is what the slots below j have made of it.
-use mathlib.Core.Path.{◌≡◌, refl, sym, ap, ◌∙◌}
-use Prim.Native.Nat.{◌-◌, ◌≤◌}
+use mathlib.Core.Path.{refl, sym, ap, ◌∙◌}
 use native.Mathlib.Omega.{arith}
-use lib.ListN.{length}
-use borrow.Author.Rules.{rules}
-use Rattle.lists.specs.Fold.{fold_below, fold_none, fold_next, fold_done}
+use Rattle.lists.specs.Fold.{fold_none, fold_next, fold_done}
 use Rattle.format.specs.Diskette.{Bytes, slot_count, eight_inch}
 use Rattle.model.specs.Closing.{closed_note}
 use Rattle.merging.specs.Merging.{same_none}

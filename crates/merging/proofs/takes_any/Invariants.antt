@@ -1,10 +1,8 @@
 -- `merging::takes_any` meets its contract. The loop's invariant: no slot below j is taken.
 use mathlib.Core.Bool.{false}
-use mathlib.Core.Path.{◌≡◌, sym, ◌∙◌}
+use mathlib.Core.Path.{◌≡◌}
 use Prim.Native.Nat.{◌-◌, ◌≤◌}
-use native.Mathlib.Omega.{arith}
-use borrow.Author.Rules.{rules}
-use Rattle.lists.specs.Below.{any_below, any_none, any_more, any_at, any_done}
+use Rattle.lists.specs.Below.{any_below}
 use Rattle.format.specs.Diskette.{slot_count, eight_inch}
 use Rattle.model.specs.Closing.{takes_slot_rule}
 use Rattle.merging.proofs.takes_any.Given as goal

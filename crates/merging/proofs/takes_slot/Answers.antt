@@ -2,7 +2,6 @@
 use Rattle.format.specs.Entries.{slot_in}
 use mathlib.Core.Path.{sym}
 use borrow.Author.Tests.{eq-eqb, ne_eqb}
-use borrow.Author.Rules.{rules}
 use Rattle.lists.specs.Tests.{and_fails_left, and_then}
 use Rattle.model.specs.Closing.{takes_slot_rule}
 use Rattle.merging.proofs.takes_slot.Goals as goal

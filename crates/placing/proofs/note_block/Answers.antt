@@ -2,7 +2,6 @@
 use borrow.Author.Tests.{eq-eqb, ne_eqb}
 use Rattle.model.specs.Target.{written_map}
 use Rattle.facts.specs.Slots.{slot_byte}
-use borrow.Author.Rules.{rules}
 use Rattle.placing.proofs.note_block.Goals as goal
 
 pub returns-then-fcb-j-ne0 : goal.returns-then-fcb-j-ne0

@@ -2,7 +2,6 @@
 use mathlib.Core.Path.{refl}
 use native.Mathlib.Omega.{arith}
 use Rattle.model.specs.Target.{place_in}
-use borrow.Author.Rules.{rules}
 use Rattle.placing.proofs.place_in.Goals as goal
 
 pub returns : goal.returns

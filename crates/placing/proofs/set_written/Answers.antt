@@ -1,7 +1,6 @@
 -- The three bytes that the definition sets.
 use Rattle.format.specs.Entries.{with_slot}
 use Rattle.model.specs.Target.{written_fcb, written_count}
-use borrow.Author.Rules.{rules}
 use Rattle.placing.proofs.set_written.Goals as goal
 
 pub returns : goal.returns

@@ -5,7 +5,6 @@ use Rattle.model.specs.Kinds.{kind_of}
 use Rattle.model.specs.Step.{effect, settled}
 use Rattle.table.specs.Own.{calling}
 use Rattle.table.specs.OwnStep.{carries_own}
-use borrow.Author.Rules.{rules}
 use Rattle.plain.proofs.free_blocks.Goals as goal
 
 pub returns : goal.returns

@@ -1,6 +1,5 @@
 -- Eight times the free notes are put into the buffer, and the answer is that of a call done.
 use Rattle.model.specs.Calls.{space}
-use borrow.Author.Rules.{rules}
 use Rattle.plain.proofs.free_space.Goals as goal
 
 pub returns : goal.returns

@@ -1,7 +1,5 @@
 -- `plain::position_right` meets its contract: the tests stand in the definition's order.
 use mathlib.Core.Path.{sym, ◌∙◌}
-use borrow.Author.Rules.{rules}
-use borrow.Author.Tests.{not-true, not-false}
 use Rattle.lists.specs.Tests.{and_then, and_fails_left}
 use Rattle.model.specs.Table.{position_right_rule}
 use Rattle.plain.proofs.position_right.Goals as goal

@@ -9,7 +9,6 @@ use Rattle.model.specs.declared.Code.TheVariants.{Failed}
 use Rattle.table.specs.First.{here}
 use Rattle.table.specs.Own.{calling}
 use Rattle.table.specs.OwnStep.{refuses_own, quiet_own}
-use borrow.Author.Rules.{rules}
 use Rattle.plain.proofs.random_record.Goals as goal
 
 pub returns-then-not-position_right : goal.returns-then-not-position_right

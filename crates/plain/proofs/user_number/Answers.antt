@@ -13,7 +13,6 @@ use Rattle.model.specs.declared.Code.TheVariants.{Failed}
 use Rattle.table.specs.First.{here}
 use Rattle.table.specs.Own.{calling}
 use Rattle.table.specs.OwnStep.{refuses_own, carries_own}
-use borrow.Author.Rules.{rules}
 use Rattle.plain.proofs.user_number.Goals as goal
 
 pub returns-then-argument : goal.returns-then-argument

@@ -1,6 +1,5 @@
 -- One arm a kind: its answer is what `by_kind` says of its calls.
 use mathlib.Core.Path.{◌∙◌}
-use borrow.Author.Rules.{rules}
 use Rattle.model.specs.declared.Kind.TheVariants.{Unlisted, Quiet, Search, User, Settle, Close, Delete, Create, Rename, Read, Write}
 use Rattle.table.specs.Protection.{by_kind}
 use Rattle.protection.proofs.kind_changes.Goals as goal

@@ -1,6 +1,5 @@
 -- A session whose protection is lifted refuses nothing; one that is protected goes by the kind.
 use mathlib.Core.Path.{sym, ◌∙◌}
-use borrow.Author.Rules.{rules}
 use Rattle.lists.specs.Tests.{and_then, and_fails_left}
 use Rattle.protection.proofs.refuses.Goals as goal
 

@@ -1,7 +1,6 @@
 -- The test is the definition's.
 use borrow.Author.Tests.{eq-eqb, ne_eqb}
 use Rattle.rulings.specs.Ruling.{block_for_rule}
-use borrow.Author.Rules.{rules}
 use Rattle.rulings.proofs.block_for.Goals as goal
 
 pub returns-then-slot-eq0 : goal.returns-then-slot-eq0

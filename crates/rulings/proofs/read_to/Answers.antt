@@ -3,7 +3,6 @@ use Rattle.format.specs.Diskette.{eight_inch}
 use Rattle.format.specs.Entries.{entry_at}
 use Rattle.rulings.specs.Laws.{read_short, read_empty, read_there}
 use mathlib.Core.Path.{sym, ◌∙◌}
-use borrow.Author.Rules.{rules}
 use Rattle.rulings.proofs.read_to.Goals as goal
 
 pub returns-then-wide-r : goal.returns-then-wide-r

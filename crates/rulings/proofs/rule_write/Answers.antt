@@ -1,6 +1,5 @@
 -- The tests of the definition, one after the other; the rows of the entry and of the block are ruled on by write_to.
 use mathlib.Core.Path.{sym, ◌∙◌}
-use borrow.Author.Rules.{rules}
 use borrow.Author.Tests.{le-leb, lt-leb}
 use Rattle.rulings.specs.Ruling.{write_from}
 use Rattle.rulings.proofs.rule_write.Goals as goal

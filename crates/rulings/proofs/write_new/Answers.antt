@@ -1,7 +1,6 @@
 -- No empty entry, no free block, or both: the three cases of the definition.
 use mathlib.Core.Path.{sym, ◌∙◌}
 use Rattle.rulings.specs.Ruling.{write_new_rule}
-use borrow.Author.Rules.{rules}
 use Rattle.rulings.proofs.write_new.Goals as goal
 
 pub returns-in_default : goal.returns-in_default

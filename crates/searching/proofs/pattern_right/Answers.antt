@@ -1,7 +1,6 @@
 -- The tests stand in the definition's order.
 use mathlib.Core.Path.{sym, ◌∙◌}
-use borrow.Author.Rules.{rules}
-use borrow.Author.Tests.{not-true, not-false, le-leb, lt-leb}
+use borrow.Author.Tests.{le-leb, lt-leb}
 use Rattle.lists.specs.Tests.{and_then, and_fails_left, or_left, or_then}
 use Rattle.searching.specs.Searches.{pattern_right_rule}
 use Rattle.searching.proofs.pattern_right.Goals as goal

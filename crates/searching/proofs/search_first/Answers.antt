@@ -1,6 +1,5 @@
 -- An FCB that may not be searched for is refused; otherwise the search goes on from entry 0.
 use mathlib.Core.Path.{sym, ◌∙◌}
-use borrow.Author.Tests.{not-true, not-false}
 use Rattle.format.specs.Diskette.{Bytes, eight_inch}
 use Rattle.model.specs.declared.Code.TheVariants.{BadName}
 use Rattle.model.specs.Lent.{Lent, lend}
@@ -8,7 +7,6 @@ use Rattle.model.specs.Search.{pattern_of}
 use Rattle.table.specs.Own.{calling}
 use Rattle.table.specs.OwnStep.{refuses_own}
 use Rattle.searching.specs.Searches.{first_refused, first_searched}
-use borrow.Author.Rules.{rules}
 use Rattle.searching.proofs.search_first.Goals as goal
 
 pub returns-then-not-pattern_right : goal.returns-then-not-pattern_right

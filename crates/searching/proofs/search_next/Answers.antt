@@ -6,7 +6,6 @@ use Rattle.model.specs.Lent.{Lent, lend}
 use Rattle.table.specs.Own.{calling}
 use Rattle.table.specs.OwnStep.{refuses_own}
 use Rattle.searching.specs.Searches.{next_refused, next_searched}
-use borrow.Author.Rules.{rules}
 use Rattle.searching.proofs.search_next.Goals as goal
 
 pub returns-then-session-eq0 : goal.returns-then-session-eq0

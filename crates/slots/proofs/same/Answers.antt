@@ -1,10 +1,7 @@
 -- `slots::same` meets its contract. The invariant: no bit differs exactly where the first j slots are the same.
 use mathlib.Core.Path.{◌≡◌, sym}
-use Prim.Native.Nat.{ℕ, ◌-◌, ◌≤◌}
 use native.Mathlib.Omega.{arith}
-use lib.Dec.{eqb}
-use lib.ListN.{get_or}
-use Rattle.lists.specs.Below.{all_below, all_none}
+use Rattle.lists.specs.Below.{all_none}
 use Rattle.format.specs.Diskette.{slot_count}
 use Rattle.slots.specs.Slots.{slots_same_rule, same_more}
 use Rattle.slots.proofs.same.Goals as goal

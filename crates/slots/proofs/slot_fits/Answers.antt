@@ -1,7 +1,6 @@
 -- `slots::slot_fits` meets its contract: the tests stand in the definition's order, and the last one compares the note.
 use Rattle.format.specs.Entries.{slot_in}
 use mathlib.Core.Path.{sym, ◌∙◌}
-use borrow.Author.Rules.{rules}
 use borrow.Author.Tests.{eq-eqb, ne_eqb}
 use Rattle.lists.specs.Tests.{and_fails_left, or_then, or_left}
 use Rattle.format.specs.Fcb.{slot_fits_rule}

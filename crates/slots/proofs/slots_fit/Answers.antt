@@ -1,13 +1,9 @@
 -- `slots::slots_fit` meets its contract. The loop's invariant: the slots below j fit.
-use mathlib.Core.Bool.{true}
-use mathlib.Core.Path.{◌≡◌, sym, ◌∙◌}
-use Prim.Native.Nat.{◌-◌, ◌≤◌}
+use mathlib.Core.Path.{sym, ◌∙◌}
 use native.Mathlib.Omega.{arith}
-use borrow.Author.Rules.{rules}
-use borrow.Author.Tests.{not-true, not-false}
-use Rattle.lists.specs.Below.{all_below, all_none, all_more, all_fails, all_done}
-use Rattle.format.specs.Diskette.{slot_count, eight_inch}
-use Rattle.format.specs.Fcb.{slot_fits_rule, slots_fit_rule}
+use Rattle.lists.specs.Below.{all_none, all_more, all_fails, all_done}
+use Rattle.format.specs.Diskette.{slot_count}
+use Rattle.format.specs.Fcb.{slots_fit_rule}
 use Rattle.slots.proofs.slots_fit.Goals as goal
 
 pub loop-j-init : goal.loop-j-init

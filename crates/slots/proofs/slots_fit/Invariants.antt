@@ -1,13 +1,10 @@
 -- `slots::slots_fit` meets its contract. The loop's invariant: the slots below j fit.
 use mathlib.Core.Bool.{true}
-use mathlib.Core.Path.{◌≡◌, sym, ◌∙◌}
+use mathlib.Core.Path.{◌≡◌}
 use Prim.Native.Nat.{◌-◌, ◌≤◌}
-use native.Mathlib.Omega.{arith}
-use borrow.Author.Rules.{rules}
-use borrow.Author.Tests.{not-true, not-false}
-use Rattle.lists.specs.Below.{all_below, all_none, all_more, all_fails, all_done}
+use Rattle.lists.specs.Below.{all_below}
 use Rattle.format.specs.Diskette.{slot_count, eight_inch}
-use Rattle.format.specs.Fcb.{slot_fits_rule, slots_fit_rule}
+use Rattle.format.specs.Fcb.{slot_fits_rule}
 use Rattle.slots.proofs.slots_fit.Given as goal
 
 abbrev pub invariant-loop-j : goal.invariant-loop-j

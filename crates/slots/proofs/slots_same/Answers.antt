@@ -1,5 +1,4 @@
 -- `slots::slots_same` meets its contract: the sixteen are lent as they are.
-use borrow.Author.Rules.{rules}
 use Rattle.slots.proofs.slots_same.Goals as goal
 
 pub returns : goal.returns

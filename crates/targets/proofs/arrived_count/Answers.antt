@@ -1,7 +1,6 @@
 -- The test is the definition's.
 use borrow.Author.Tests.{eq-eqb, ne_eqb}
 use Rattle.targets.specs.Target.{arrived_count_rule}
-use borrow.Author.Rules.{rules}
 use Rattle.targets.proofs.arrived_count.Goals as goal
 
 pub returns-then-t-e : goal.returns-then-t-e

@@ -2,7 +2,6 @@
 use borrow.Author.Tests.{eq-eqb, ne_eqb}
 use Rattle.facts.specs.Slots.{slot_byte}
 use Rattle.targets.specs.Target.{arrived_slot_rule}
-use borrow.Author.Rules.{rules}
 use Rattle.targets.proofs.arrived_slot.Goals as goal
 
 pub returns-then-t-e : goal.returns-then-t-e

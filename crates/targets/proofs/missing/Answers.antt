@@ -3,7 +3,6 @@ use mathlib.Core.Path.{◌≡◌, sym, ◌∙◌}
 use mathlib.Core.Bool.{true, false}
 use Rattle.model.specs.Kinds.{is_random_rule}
 use Rattle.targets.specs.Target.{missing_code}
-use borrow.Author.Rules.{rules}
 use Rattle.targets.proofs.missing.Goals as goal
 
 pub returns-then-is_random : goal.returns-then-is_random

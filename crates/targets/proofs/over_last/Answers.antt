@@ -3,7 +3,6 @@ use mathlib.Core.Path.{sym, ◌∙◌}
 use borrow.Author.Tests.{lt-leb, le-leb}
 use Rattle.lists.specs.Tests.{and_fails_right, and_first}
 use Rattle.targets.specs.Target.{over_last_rule}
-use borrow.Author.Rules.{rules}
 use Rattle.targets.proofs.over_last.Goals as goal
 
 pub returns-then-extent-lt-EXTENTS : goal.returns-then-extent-lt-EXTENTS

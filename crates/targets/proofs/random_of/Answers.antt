@@ -1,6 +1,5 @@
 -- `targets::random_of` meets its contract: three bytes, each below 256.
 use native.Mathlib.Omega.{arith}
-use borrow.Author.Rules.{rules}
 use Rattle.format.specs.Fcb.{random_of_rule}
 use Rattle.targets.proofs.random_of.Goals as goal
 

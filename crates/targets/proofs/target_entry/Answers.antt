@@ -1,7 +1,6 @@
 -- In the FCB's own extent the look-up is the one that has found e.
 use mathlib.Core.Path.{◌≡◌, sym, ◌∙◌}
 use Rattle.format.specs.Entries.{extent_of}
-use borrow.Author.Rules.{rules}
 use Rattle.targets.proofs.target_entry.Goals as goal
 
 pub returns-then-extent : goal.returns-then-extent

@@ -5,7 +5,6 @@ use mathlib.Core.Bool.{true, false}
 use Rattle.model.specs.Kinds.{is_random_rule}
 use Rattle.fields.specs.Target.{extent_random, record_random, cr_after_random, extent_past, record_past, extent_within, record_within, cr_after_sequential}
 use Rattle.format.specs.Fcb.{cr_of}
-use borrow.Author.Rules.{rules}
 use Rattle.targets.proofs.target_of.Goals as goal
 
 pub returns-then-is_random : goal.returns-then-is_random
