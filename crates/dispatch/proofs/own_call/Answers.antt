@@ -6,7 +6,7 @@ use Rattle.format.specs.Diskette.{eight_inch}
 use Rattle.table.specs.Own.{not_unlisted}
 use Rattle.table.specs.Protection.{not_reader, unread_spared}
 use Rattle.table.specs.OwnStep.{own_step, ready_step, ready_own, own_at}
-use Rattle.calls.specs.Apart.{moves_record}
+use Rattle.calls.specs.Apart.{moves_kind}
 use Rattle.dispatch.specs.Numbers.{only_of, other_of, at_number}
 use Rattle.model.specs.Lent.{Lent, lend}
 use Rattle.model.specs.Kinds.{kind_of, same, of_record}
@@ -31,7 +31,7 @@ delete_file-requires c =
 pub record_call-requires : goal.record_call-requires
 record_call-requires c =
     let m = c in let s = m in let p = s.requires in let f = p.3.fits in
-    let moves : of_record (kind_of s.args.asked.number) ≡ true = rw (← p.0) (moves_record s.args.kind m.in-Read.is) in
+    let moves : of_record (kind_of s.args.asked.number) ≡ true = rw (← p.0) (moves_kind s.args.kind m.in-Read.is) in
     (f.map_long, f.buffer_long, p.3.image_right, moves, p.5, search rules)
 
 pub returns-in-Quiet : goal.returns-in-Quiet

@@ -21,4 +21,5 @@ pub returns-in-36 : goal.returns-in-36
 returns-in-36 c = at_number _ _ _ c.in-36.is (λ a. c.random_record.ensures a _ _ _)
 
 pub returns-in_default : goal.returns-in_default
+unfolding kind_of told
 returns-in_default c = let m = c in let q = m.requires.0 in at_number _ _ _ (last_of Quiet _ 46 (15 ∷ 35 ∷ 36 ∷ []) refl refl q m.in_default.in_default-own.rest) (λ a. quiet_own eight_inch (calling 46 a) _ _ _ refl tt (c.free_space.ensures _ _))
