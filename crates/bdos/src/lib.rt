@@ -1,5 +1,7 @@
 // The entry point: one call, from its number to its answer. The first three rows of the table are decided here, in their order, and then the
 // protection, but for a read's, which its own function asks for; then the call goes to that function, and its stamps are put.
+#![tactic(auto)]
+
 ghost use Rattle.std.specs.Prelude.{◌≡◌, true};
 ghost use Rattle.format.specs.Diskette.{eight_inch};
 ghost use Rattle.format.specs.Entries.{entry_at};
