@@ -1,5 +1,7 @@
 // What the picker needs beside the calls: the FCB of a name, the log's records and numbers in bytes, what an answer comes to, and the protection put
 // back as it was.
+#![tactic(auto)]
+
 ghost use Rattle.std.specs.Prelude.{◌≡◌, true, false, cond, ℕ, ◌<◌, ltb};
 ghost use Rattle.lists.specs.Tests.{◌and◌};
 ghost use Rattle.format.specs.Fcb.{random_of_rule};

@@ -1,4 +1,6 @@
 // The word picker of document 02, [11], as a definition made of calls, in specs/. Here stand the types in which a word is asked for and answered.
+#![tactic(auto)]
+
 use model::Session;
 
 // What is wanted: the word of a day of a year, out of a book, with a log; the names are those of an FCB, eleven bytes.

@@ -1,5 +1,7 @@
 // A script: calls in plain numbers, with FCBs and buffers of any lengths, made one after another through the public call; and the protection
 // lifted and set between them.
+#![tactic(auto)]
+
 ghost use Rattle.std.specs.Prelude.{◌≡◌, ◌+◌, ◌≤◌, length};
 ghost use Rattle.format.specs.Diskette.{eight_inch};
 ghost use Rattle.demands.specs.Runs.{disk_of, after_act, run};

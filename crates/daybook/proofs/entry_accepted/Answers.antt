@@ -1,0 +1,14 @@
+-- `daybook::entry_accepted` meets its contract: H first, then A.
+use mathlib.Core.Path.{sym, ◌∙◌}
+use borrow.Author.Tests.{eq-eqb, ne_eqb}
+use Rattle.lists.specs.Tests.{and_then, and_fails_left}
+use Rattle.table.specs.Accepted.{accepted_answer}
+use Rattle.daybook.proofs.entry_accepted.Goals as goal
+
+pub returns-then-answer-ne0 : goal.returns-then-answer-ne0
+unfolding accepted_answer
+returns-then-answer-ne0 c number k = sym (and_fails_left _ _ (ne_eqb _ _ c.if-answer-ne0.true))
+
+pub returns : goal.returns
+unfolding accepted_answer
+returns c number k = sym (and_then _ _ (eq-eqb _ _ c.if-answer-ne0.false) ∙ rw k)
