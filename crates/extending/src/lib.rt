@@ -1,4 +1,6 @@
 // The picker's log that is there: opened, searched record by record, and extended where no record has the year and day.
+#![tactic(auto)]
+
 ghost use Rattle.std.specs.Prelude.{◌≡◌};
 ghost use Rattle.format.specs.Diskette.{eight_inch};
 ghost use Rattle.demands.specs.Runs.{disk_of};

@@ -1,4 +1,6 @@
 // The picker's log written, by calls alone: one call as it is, and with the protection lifted for it; the write and the close; a log that is made first.
+#![tactic(auto)]
+
 ghost use Rattle.std.specs.Prelude.{◌≡◌};
 ghost use Rattle.format.specs.Diskette.{eight_inch};
 ghost use Rattle.model.specs.Lent.{outcome};
