@@ -1,5 +1,7 @@
 // The word picker of document 02, [11]: the word of a day out of the book, handed out however often it is asked for, and the day logged once.
 // It goes by the contract of the public call alone.
+#![tactic(auto)]
+
 ghost use Rattle.std.specs.Prelude.{◌≡◌};
 ghost use Rattle.format.specs.Diskette.{eight_inch};
 ghost use Rattle.model.specs.Lent.{Outcome};
