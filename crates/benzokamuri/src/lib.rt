@@ -1,4 +1,6 @@
-// The export for C and Rust hosts. Each slice is a pointer and a length there; include/benzokamuri.h says what a caller must know.
+// The calls that hosts make, each with the contract that it is exported with: benzokamuri_c hands them on to C and Rust hosts.
+#![tactic(auto)]
+
 ghost use Rattle.std.specs.Prelude.{◌≡◌, cond};
 ghost use Rattle.format.specs.Diskette.{eight_inch};
 ghost use Rattle.model.specs.Lent.{lend, outcome, lift, protect};
@@ -23,8 +25,7 @@ pub struct Picked {
 }
 
 // One call, whatever it is handed.
-#[unsafe(no_mangle)]
-pub extern "C" fn benzo_call(
+pub fn benzo_call(
     asked: Asked,
     image: &mut [u8],
     map: &mut [u16],
@@ -39,16 +40,14 @@ pub extern "C" fn benzo_call(
 }
 
 // The session with its write protection lifted: no call lifts it.
-#[unsafe(no_mangle)]
-pub extern "C" fn benzo_lift(session: Session) -> Session
+pub fn benzo_lift(session: Session) -> Session
     ensures { result ≡ lift session }
 {
     protection::lift(session)
 }
 
 // The session with its write protection set.
-#[unsafe(no_mangle)]
-pub extern "C" fn benzo_protect(session: Session) -> Session
+pub fn benzo_protect(session: Session) -> Session
     ensures { result ≡ protect session }
 {
     protection::protect(session)
@@ -65,8 +64,7 @@ fn byte_of(test: bool) -> u8
 }
 
 // The word of a day, and the day logged, whatever is handed.
-#[unsafe(no_mangle)]
-pub extern "C" fn benzo_pick(
+pub fn benzo_pick(
     wanted: Wanted,
     time: Time,
     image: &mut [u8],
