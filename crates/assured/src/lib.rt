@@ -1,5 +1,7 @@
 // The demands once more, of `call` itself: functions above it that go by its contract, and by those of lifting and setting the protection, alone, and
 // ask nothing of what they are handed.
+#![tactic(auto)]
+
 ghost use Rattle.std.specs.Prelude.{◌≡◌, ◌<◌, length};
 ghost use Rattle.format.specs.Diskette.{eight_inch, extents, extent_records};
 ghost use Rattle.format.specs.Fcb.{fcb_bytes};

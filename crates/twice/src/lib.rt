@@ -1,4 +1,6 @@
 // Request [11], of the export itself: one run of the picker, and a second one, by its contract alone, which ask nothing of what they are handed.
+#![tactic(auto)]
+
 ghost use Rattle.demands.specs.Runs.{disk_of};
 ghost use Rattle.twice.specs.Once.{PickedOnce};
 ghost use Rattle.twice.specs.Twice.{PickedTwice};
