@@ -48,6 +48,7 @@ pub fn covers_extent(r: &[u8], ext: usize) -> bool
 }
 
 // How many records a row or an FCB counts, in the extent that its ex and s2 give: rc, but 128 where rc is more.
+#[tactic(auto, unfolding(format::specs::Entries::count_of))]
 pub fn count_of(r: &[u8]) -> u8
     requires { entry_bytes ≤ length r.now }
     ensures { result ≡ count_of r.now }

@@ -7,6 +7,7 @@ ghost use Rattle.format.specs.Names.{name_bytes, name_byte_rule, name_right_rule
 use format::NAME_BYTES;
 
 // Whether a name may hold the byte: 20H to 7EH in the low seven bits, and 3FH only in a pattern.
+#[tactic(auto, using(crate::proofs::Bytes::under, crate::proofs::Bytes::over, crate::proofs::Bytes::letter, crate::proofs::Bytes::any))]
 fn name_byte(wild: bool, b: u8) -> bool
     ensures { result ≡ name_byte_rule wild b }
 {
