@@ -20,8 +20,7 @@
 //! * [`Disk`] owns an image, its map, a transfer buffer and a session. Lengths
 //!   can't be wrong there, and only calls change the image. It begins
 //!   write-protected: no call changes the image until [`Disk::lift`].
-//! * [`Fcb`], [`Name`] and [`Pattern`] are what calls are given; [`Glob`] is a
-//!   pattern as a shell has it too.
+//! * [`Fcb`], [`Name`] and [`Pattern`] are what calls are given.
 //! * [`Time`] is what calls are handed and stamps hold. A disk begins at
 //!   [`Time::ZERO`]; `disk.set_time(Time::now()?)` makes it the system's clock.
 //! * [`Code`] says why a call was refused, in the help card's sentence.
@@ -43,7 +42,6 @@ mod calls;
 mod codes;
 mod disk;
 mod fcb;
-mod globs;
 mod names;
 mod picker;
 mod time;
@@ -56,7 +54,6 @@ pub use calls::Call;
 pub use codes::Code;
 pub use disk::{Disk, Found, NoDisk, Stamps, WrongLength};
 pub use fcb::Fcb;
-pub use globs::Glob;
 pub use names::{BadName, Name, Pattern};
 pub use picker::{Pick, Picked, LOG_RECORDS};
 pub use time::{BadTime, Date, Time};

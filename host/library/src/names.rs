@@ -99,12 +99,6 @@ impl Pattern {
     pub fn name(&self) -> Option<Name> {
         Name::of(&self.0)
     }
-
-    /// Whether it matches a name, as searches and deletes find it.
-    pub fn matches(&self, name: Name) -> bool {
-        let mut pairs = self.0.iter().zip(name.0);
-        pairs.all(|(&wanted, found)| wanted == ANY || wanted == found)
-    }
 }
 
 impl From<Name> for Pattern {
@@ -117,7 +111,11 @@ impl FromStr for Pattern {
     type Err = BadName;
 
     fn from_str(text: &str) -> Result<Self, BadName> {
-        let [name, kind] = split(text)?;
+        let (name, kind) = match text.split_once('.') {
+            Some((_, kind)) if kind.contains('.') => return Err(BadName::TwoDots),
+            Some(two) => two,
+            None => (text, ""),
+        };
         let mut bytes = [b' '; 11];
         let (name_bytes, kind_bytes) = bytes.split_at_mut(NAME_BYTES);
         spell(name, name_bytes, BadName::NameTooLong)?;
@@ -127,15 +125,6 @@ impl FromStr for Pattern {
             (b' ', false) => Err(BadName::Percent),
             _ => Ok(Pattern(bytes)),
         }
-    }
-}
-
-/// Name and type of a text.
-pub(crate) fn split(text: &str) -> Result<[&str; 2], BadName> {
-    match text.split_once('.') {
-        Some((_, kind)) if kind.contains('.') => Err(BadName::TwoDots),
-        Some((name, kind)) => Ok([name, kind]),
-        None => Ok([text, ""]),
     }
 }
 
@@ -153,21 +142,13 @@ fn spell(text: &str, bytes: &mut [u8], too_long: BadName) -> Result<(), BadName>
         }
         let byte = match character {
             '?' => ANY,
-            _ => byte(character, &mut characters)?,
+            '%' => percent(characters.next(), characters.next())?,
+            _ => plain(character)?,
         };
         *bytes.get_mut(at).ok_or(too_long)? = byte;
         at += 1;
     }
     Ok(())
-}
-
-/// The byte that a character stands for, with the two digits behind it where it
-/// is a `%`.
-pub(crate) fn byte(first: char, rest: &mut impl Iterator<Item = char>) -> Result<u8, BadName> {
-    match first {
-        '%' => percent(rest.next(), rest.next()),
-        _ => plain(first),
-    }
 }
 
 /// A character that stands for itself, as a capital.
@@ -218,21 +199,10 @@ impl fmt::Display for Pattern {
 }
 
 /// A name or a type without the spaces that fill it up.
-fn unfilled(bytes: &[u8]) -> &[u8] {
-    let end = bytes.iter().rposition(|&byte| byte != b' ');
-    &bytes[..end.map_or(0, |last| last + 1)]
-}
-
-/// The characters of a name and of its type.
-pub(crate) fn parts(name: &Name) -> [&[u8]; 2] {
-    let (name, kind) = name.0.split_at(NAME_BYTES);
-    [unfilled(name), unfilled(kind)]
-}
-
-/// A name or a type as it is written.
 fn written(bytes: &[u8]) -> String {
+    let end = bytes.iter().rposition(|&byte| byte != b' ');
     let mut text = String::new();
-    for &byte in unfilled(bytes) {
+    for &byte in &bytes[..end.map_or(0, |last| last + 1)] {
         let itself = byte == ANY
             || (byte.is_ascii_graphic()
                 && !byte.is_ascii_lowercase()

@@ -2,8 +2,16 @@
 
 use crate::layout::Row;
 use crate::looking::Looking;
-use crate::texts::FILLING;
 use benzokamuri::{Code, Disk, Fcb, Found, Name, Pattern, Stamps, BUFFER_LEN};
+
+/// What fills up a file's last record.
+pub const FILLING: u8 = 0x1A;
+
+/// A text without what fills it up: it ends before the first such byte.
+pub fn text(bytes: &[u8]) -> &[u8] {
+    let end = bytes.iter().position(|&byte| byte == FILLING);
+    &bytes[..end.unwrap_or(bytes.len())]
+}
 
 /// The highest user.
 pub const LAST_USER: u8 = 15;

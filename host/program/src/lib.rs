@@ -21,18 +21,14 @@ mod hex;
 pub mod layout;
 pub mod looking;
 pub mod picture;
-pub mod progress;
 pub mod saving;
-pub mod selecting;
 mod state;
 pub mod store;
-pub mod texts;
 pub mod trouble;
 mod verbs;
 mod words;
 
 use benzokamuri::{BadTime, Disk, Time};
-use progress::Progress;
 use std::ffi::OsString;
 use std::fmt;
 use std::io::{self, ErrorKind, Write};
@@ -49,8 +45,6 @@ pub struct Desk<'a> {
     pub colours: bool,
     /// Whether only what is wrong is said, and not what was done.
     pub quiet: bool,
-    /// How far long work has come.
-    pub progress: Progress,
     /// Says what time it is, where the command line does not.
     pub clock: fn() -> Result<Time, BadTime>,
     /// How often the write protection of a disk was lifted. A verb that only
@@ -70,7 +64,6 @@ impl<'a> Desk<'a> {
             err,
             colours: false,
             quiet: false,
-            progress: Progress::default(),
             clock: Time::now,
             lifts: 0,
         }
@@ -90,22 +83,8 @@ impl<'a> Desk<'a> {
         }
     }
 
-    /// Says what was done to a file, a line each, unless that is not to be said.
-    fn tell_file(&mut self, what: fmt::Arguments) -> io::Result<()> {
-        match self.quiet {
-            true => Ok(()),
-            false => writeln!(self.out, "{what}"),
-        }
-    }
-
-    /// Tells how far long work has come.
-    fn tell_progress(&mut self, what: fmt::Arguments) {
-        self.progress.tell(self.err, what);
-    }
-
     /// Says what is worth a remark. That nobody reads it is no reason to stop.
     fn remark(&mut self, what: fmt::Arguments) {
-        self.progress.wipe(self.err);
         let _ = writeln!(self.err, "benzokamuri: {what}");
     }
 }
@@ -172,9 +151,7 @@ struct Verb {
 /// status.
 pub fn run(words: &[OsString], desk: &mut Desk) -> u8 {
     let mut verb = None;
-    let done = obey(words, &mut verb, desk);
-    desk.progress.wipe(desk.err);
-    let done = done.and_then(|()| Ok(desk.out.flush()?));
+    let done = obey(words, &mut verb, desk).and_then(|()| Ok(desk.out.flush()?));
     let Err(trouble) = done else {
         return trouble::DONE;
     };

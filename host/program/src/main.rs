@@ -13,10 +13,8 @@ fn main() -> ExitCode {
     let asked_for_none = std::env::var_os("NO_COLOR").is_some_and(|word| !word.is_empty());
     let dumb = std::env::var_os("TERM").is_some_and(|word| word == "dumb");
     let (mut out, mut err) = (io::BufWriter::new(stdout.lock()), io::stderr());
-    let is_watched = err.is_terminal() && !dumb;
     let mut desk = Desk::new(&mut out, &mut err);
     desk.colours = stdout.is_terminal() && !asked_for_none && !dumb;
-    desk.progress.is_watched = is_watched;
     desk.out.nowhere = is_null_device(&stdout);
     let status = program::run(&words, &mut desk);
     // What could not be printed by now was not printed before either.

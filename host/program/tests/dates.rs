@@ -155,12 +155,12 @@ fn labels_and_date_entries_are_no_room_for_files() {
         .done("free disk.img")
         .contains("entries     47 of 47\n"));
     for number in 0..47 {
-        folder.done_at(NOW, &format!("put disk.img file --as f{number}"));
+        folder.done_at(NOW, &format!("put disk.img file f{number}"));
     }
     assert!(folder
         .done("free disk.img")
         .contains("entries      0 of 47\n"));
-    let said = folder.refused("put disk.img file --as more");
+    let said = folder.refused("put disk.img file more");
     assert!(said.contains(": 255, 0: The directory is full"), "{said}");
     assert!(folder
         .done("check disk.img")
@@ -179,14 +179,14 @@ fn stamps_are_those_that_the_label_asks_for() {
         (&[], ["-", "-"]),
     ] {
         let folder = dated(asked);
-        folder.done_at(NOW, "put disk.img file --as a.txt");
+        folder.done_at(NOW, "put disk.img file a.txt");
         assert_eq!(stamps(&folder, "A.TXT"), due, "{asked:?}");
         // Neither a new name nor looking at it stamps it.
         folder.done_at(LATER, "mv disk.img a.txt b.txt");
-        folder.done_at(LATER, "get disk.img b.txt --as -");
+        folder.done_at(LATER, "get disk.img b.txt -");
         assert_eq!(stamps(&folder, "B.TXT"), due, "{asked:?}");
         // What is put anew is made anew, at a time that may be earlier.
-        folder.done_at("1978-01-01 00:01", "put -f disk.img file --as b.txt");
+        folder.done_at("1978-01-01 00:01", "put -f disk.img file b.txt");
         let again = due.map(|stamp| stamp.replace(NOW, "1978-01-01 00:01"));
         assert_eq!(stamps(&folder, "B.TXT"), again, "{asked:?}");
     }
@@ -251,7 +251,7 @@ user  name          attributes  records      size  create/access     update
 fn stamps_that_are_no_dates_and_columns_that_hold() {
     let folder = dated(&["create", "update"]);
     for name in ["a", "b", "%61%62%63.%64", "c"] {
-        folder.done_at(NOW, &format!("put disk.img file --as {name}"));
+        folder.done_at(NOW, &format!("put disk.img file {name}"));
     }
     let mut image = folder.read("disk.img");
     let mut put = |entry: usize, at: usize, stamp: [u8; 4]| {
@@ -305,8 +305,8 @@ fn the_picture_of_the_map_is_unchanged() {
 /// A folder with a disk whose label asks for access stamps, and two files.
 fn with_access() -> Folder {
     let folder = dated(&["access", "update"]);
-    folder.done_at(NOW, "put disk.img file --as a.txt");
-    folder.done_at(NOW, "put disk.img file --as b.txt");
+    folder.done_at(NOW, "put disk.img file a.txt");
+    folder.done_at(NOW, "put disk.img file b.txt");
     folder
 }
 
@@ -315,7 +315,7 @@ fn looking_leaves_no_stamp_and_get_stamp_does() {
     let folder = with_access();
     let before = folder.read("disk.img");
     for line in [
-        "get disk.img a.txt --as -",
+        "get disk.img a.txt -",
         "get disk.img *.*",
         "ls -la disk.img",
         "check disk.img",
@@ -325,7 +325,7 @@ fn looking_leaves_no_stamp_and_get_stamp_does() {
         folder.done_at(LATER, line);
         assert!(folder.read("disk.img") == before, "{line}");
     }
-    folder.done_at(LATER, "get --stamp disk.img a.txt --as -");
+    folder.done_at(LATER, "get --stamp disk.img a.txt -");
     assert_eq!(stamps(&folder, "A.TXT"), [LATER, NOW]);
     assert_eq!(stamps(&folder, "B.TXT"), ["-", NOW]);
     folder.done_at(NOW, "get --stamp -f disk.img *.*");
@@ -336,7 +336,7 @@ fn looking_leaves_no_stamp_and_get_stamp_does() {
     let folder = dated(&["create"]);
     folder.done_at(NOW, "put disk.img file");
     let before = folder.read("disk.img");
-    folder.done_at(LATER, "get --stamp disk.img file --as copy");
+    folder.done_at(LATER, "get --stamp disk.img file copy");
     assert!(folder.read("disk.img") == before);
 }
 
@@ -349,18 +349,15 @@ fn a_get_that_fails_leaves_no_stamp() {
     std::fs::hard_link(folder.at("disk.img"), folder.at("other.img")).unwrap();
     for (line, why) in [
         ("get --stamp disk.img *.*", "B.TXT is there already"),
-        ("get --stamp disk.img a.txt --as no/such", "can't be saved"),
-        ("get --stamp disk.img c.txt --as -", "255, 0"),
+        ("get --stamp disk.img a.txt no/such", "can't be saved"),
+        ("get --stamp disk.img c.txt -", "255, 0"),
         (
-            "get --stamp -f disk.img a.txt --as disk.img",
+            "get --stamp -f disk.img a.txt disk.img",
             "disk.img is the image",
         ),
+        ("get --stamp -f disk.img a.txt link", "link is the image"),
         (
-            "get --stamp -f disk.img a.txt --as link",
-            "link is the image",
-        ),
-        (
-            "get --stamp -f other.img a.txt --as disk.img",
+            "get --stamp -f other.img a.txt disk.img",
             "disk.img is the image",
         ),
     ] {
@@ -373,7 +370,7 @@ fn a_get_that_fails_leaves_no_stamp() {
     // Standard output is written before the image is saved.
     let full = File::options().write(true).open("/dev/full").unwrap();
     let mut command = folder.command();
-    let command = command.args(["get", "--stamp", "disk.img", "a.txt", "--as", "-"]);
+    let command = command.args(["get", "--stamp", "disk.img", "a.txt", "-"]);
     let status = command.stdout(full).stderr(Stdio::null()).status().unwrap();
     assert_eq!(status.code(), Some(1));
     assert!(folder.read("disk.img") == before);
@@ -396,7 +393,7 @@ fn what_reaches_nobody_leaves_no_stamp() {
     folder.done_at(NOW, "put disk.img long");
     folder.done_at(NOW, "put disk.img none");
     let before = folder.read("disk.img");
-    let line = "get --stamp disk.img a.txt --as -";
+    let line = "get --stamp disk.img a.txt -";
     assert_not_stamped(&folder, &before, folder.run_unheard(line));
     // Rust puts /dev/null where standard output is closed, so they are one.
     assert_not_stamped(&folder, &before, folder.run_into(Stdio::null(), line));
@@ -412,11 +409,11 @@ fn what_reaches_nobody_leaves_no_stamp() {
     // A reader who leaves in the middle, as `head` does.
     let (mut reader, writer) = std::io::pipe().unwrap();
     let leaves = std::thread::spawn(move || reader.read_exact(&mut [0]).unwrap());
-    let left = folder.run_into(writer, "get --stamp disk.img long --as -");
+    let left = folder.run_into(writer, "get --stamp disk.img long -");
     leaves.join().unwrap();
     assert_not_stamped(&folder, &before, left);
     // Who does not ask for stamps has nothing to lose.
-    for line in ["get disk.img a.txt --as -", "get disk.img long --as -"] {
+    for line in ["get disk.img a.txt -", "get disk.img long -"] {
         assert_eq!(folder.run_unheard(line).status, Some(0), "{line}");
         assert_eq!(folder.run_into(Stdio::null(), line).status, Some(0));
     }
@@ -428,11 +425,8 @@ fn what_is_not_printed_is_not_lost() {
     let folder = with_access();
     folder.write("none", b"");
     folder.done_at(NOW, "put disk.img none");
-    let line = "get --stamp -f disk.img a.txt --as copy";
-    for (file, line) in [
-        ("A.TXT", line),
-        ("NONE", "get --stamp disk.img none --as -"),
-    ] {
+    let line = "get --stamp -f disk.img a.txt copy";
+    for (file, line) in [("A.TXT", line), ("NONE", "get --stamp disk.img none -")] {
         assert_eq!(folder.run_unheard(line).status, Some(0), "{line}");
         assert_ne!(stamps(&folder, file)[0], "-");
     }
@@ -451,7 +445,7 @@ fn a_file_is_written_before_its_stamp() {
         folder.write("disk.img", &old);
         let _ = std::fs::remove_file(folder.at("copy"));
         let mut command = folder.command();
-        command.args(["get", "--stamp", "disk.img", "a.txt", "--as", "copy"]);
+        command.args(["get", "--stamp", "disk.img", "a.txt", "copy"]);
         let status = command.env("BENZOKAMURI_END_SAVE_AT", step.to_string());
         let status = status.status().unwrap();
         let copied = std::fs::read(folder.at("copy")).is_ok_and(|bytes| bytes.len() == 128);
@@ -495,9 +489,9 @@ fn get_stamp_waits_for_whoever_changes_the_image() {
     let folder = with_access();
     let held = File::open(folder.at("disk.img")).unwrap();
     held.lock().unwrap();
-    folder.done_at(LATER, "get disk.img a.txt --as -");
+    folder.done_at(LATER, "get disk.img a.txt -");
     let mut command = folder.command();
-    let command = command.args(["get", "--stamp", "disk.img", "a.txt", "--as", "copy"]);
+    let command = command.args(["get", "--stamp", "disk.img", "a.txt", "copy"]);
     let mut child = command.spawn().unwrap();
     std::thread::sleep(Duration::from_millis(300));
     assert!(child.try_wait().unwrap().is_none(), "it waits");
@@ -513,9 +507,9 @@ fn get_stamp_waits_for_whoever_changes_the_image() {
 fn times_are_given_anywhere() {
     let folder = dated(&["create"]);
     for (number, words) in [
-        ["--time", LATER, "put", "disk.img", "file", "--as=f0"],
-        ["put", "--time", LATER, "disk.img", "file", "--as=f1"],
-        ["put", "disk.img", "file", "--as=f2", "--time", LATER],
+        ["--time", LATER, "put", "disk.img", "file", "f0"],
+        ["put", "--time", LATER, "disk.img", "file", "f1"],
+        ["put", "disk.img", "file", "f2", "--time", LATER],
     ]
     .iter()
     .enumerate()
@@ -526,12 +520,10 @@ fn times_are_given_anywhere() {
     }
     // What stands behind the verb is meant, and =.
     let joined = format!("--time={NOW}");
-    folder.run_words([
-        "--time", LATER, "put", &joined, "disk.img", "file", "--as=f3",
-    ]);
+    folder.run_words(["--time", LATER, "put", &joined, "disk.img", "file", "f3"]);
     assert_eq!(stamps(&folder, "F3")[0], NOW);
     for time in ["1978-01-01 00:00", "2157-06-05 23:59"] {
-        folder.done_at(time, "put -f disk.img file --as edge");
+        folder.done_at(time, "put -f disk.img file edge");
         assert_eq!(stamps(&folder, "EDGE")[0], time);
     }
 }
@@ -555,7 +547,7 @@ fn times_that_are_none_are_wrong_usage() {
             "days are those from 1978-01-01 to 2157-06-05",
         ),
     ] {
-        for verb in ["new x", "put disk.img file --as x", "ls disk.img", "demo"] {
+        for verb in ["new x", "put disk.img file x", "ls disk.img", "demo"] {
             let words = verb.split(' ').chain(["--time", time]);
             let Ran { status, out, err } = folder.run_words(words);
             assert_eq!((status, out.len()), (Some(2), 0), "{verb}, {time}: {err}");
@@ -573,16 +565,16 @@ fn every_verb_takes_a_time() {
     let folder = dated(&["access"]);
     for line in [
         "new -f other.img",
-        "put disk.img file --as a",
+        "put disk.img file a",
         "ls disk.img",
-        "get disk.img a --as -",
+        "get disk.img a -",
         "mv disk.img a b",
         "rm disk.img b",
         "free disk.img",
         "check disk.img",
         "map disk.img",
         "call disk.img 13",
-        "put disk.img file --as words.dat",
+        "put disk.img file words.dat",
         "pick -q --year 2026 --day 0 disk.img",
         "demo",
     ] {
@@ -641,7 +633,7 @@ fn a_clock_that_has_no_day_of_ours_is_told() {
     let [disk, file] = [&disk, &file].map(|path| path.to_str().unwrap());
     let wrong = || Err(BadTime::NoSuchDay);
     let done = |words: &[&str]| run_with_clock(wrong, words);
-    assert_eq!(done(&["put", disk, file, "--as", "a"]), (0, WRONG.into()));
+    assert_eq!(done(&["put", disk, file, "a"]), (0, WRONG.into()));
     assert_eq!(stamps(&folder, "A"), ["-", "-"]);
     assert_eq!(
         done(&["new", "-f", "--label", "x", disk]),

@@ -186,17 +186,11 @@ fn read_with_our_verbs(folder: &Folder, recipe: &Recipe) {
     let expected_lines: Vec<String> = expected.iter().map(|file| file.line()).collect();
     assert_eq!(lines, expected_lines, "{name}");
     for file in expected {
-        let got = folder.run(&format!(
-            "get -u {} disk.img {} --as -",
-            file.user, file.name
-        ));
+        let got = folder.run(&format!("get -u {} disk.img {} -", file.user, file.name));
         assert_eq!(got.status, Some(0), "{name}: {}", got.err);
         assert_eq!(got.err, "", "{name}");
         assert!(got.out == file.bytes(), "{name}: {}", file.name);
-        let whole = folder.run(&format!(
-            "get -r -u {} disk.img {} --as -",
-            file.user, file.name
-        ));
+        let whole = folder.run(&format!("get -r -u {} disk.img {} -", file.user, file.name));
         assert_eq!(whole.out.len(), 128 * file.records(), "{name}");
         assert!(whole.out.starts_with(&file.bytes()), "{name}");
     }
@@ -245,13 +239,13 @@ fn change_with_our_verbs(folder: &Folder, recipe: &Recipe) -> Vec<(u8, String, V
         }
         let mut bytes = common::bytes(length, user);
         folder.write("ours", &bytes);
-        folder.done(&format!("put -u {user} disk.img ours --as {name}"));
+        folder.done(&format!("put -u {user} disk.img ours {name}"));
         bytes.resize(length.next_multiple_of(128), 0x1A);
         held.push((user, name.to_string(), bytes));
     }
     assert!(folder.done("check disk.img").contains("consistent"));
     for (user, name, bytes) in &held {
-        let got = folder.run(&format!("get -u {user} disk.img {name} --as -"));
+        let got = folder.run(&format!("get -u {user} disk.img {name} -"));
         assert!(got.out == *bytes, "{}: {name}", recipe.name);
     }
     held
@@ -303,10 +297,7 @@ fn a_disk_that_lacks_what_its_directory_lists() {
     let mut filled = image;
     filled.resize(256_256, 0);
     folder.write("torn.img", &filled);
-    assert_eq!(
-        folder.run("get torn.img h1.dat --as -").out.len(),
-        120 * 1_024
-    );
+    assert_eq!(folder.run("get torn.img h1.dat -").out.len(), 120 * 1_024);
 }
 
 // -- With cpmtools ------------------------------------------------------------
@@ -425,7 +416,7 @@ fn live_disks_of_ours() {
             let mut bytes = file.bytes();
             folder.write("ours", &bytes);
             let OnDisk { user, name, .. } = file;
-            folder.done(&format!("put -u {user} disk.img ours --as {name}"));
+            folder.done(&format!("put -u {user} disk.img ours {name}"));
             bytes.resize(128 * file.records(), 0x1A);
             held.push((*user, name.to_string(), bytes));
         }
@@ -435,7 +426,7 @@ fn live_disks_of_ours() {
         if recipe.name != "full" {
             cpm(&folder, "cpmcp", &["disk.img", "theirs", "9:theirs.txt"]);
             assert_eq!(
-                folder.run("get -u 9 disk.img theirs.txt --as -").out,
+                folder.run("get -u 9 disk.img theirs.txt -").out,
                 b"from the other side"
             );
             folder.done("rm -u 9 disk.img *.*");

@@ -44,7 +44,7 @@ fn with_book() -> Folder {
 
 /// The log as it stands on the disk.
 fn log(folder: &Folder) -> Vec<u8> {
-    folder.run("get -r disk.img WORDS.LOG --as -").out
+    folder.run("get -r disk.img WORDS.LOG -").out
 }
 
 /// A run that has to come to this: status, what is printed, and what is said.
@@ -226,11 +226,11 @@ fn files_and_users_by_name() {
     let folder = Folder::new();
     folder.done("new disk.img");
     folder.write("book", &book(3));
-    folder.done("put -u 7 disk.img book --as terms.txt");
+    folder.done("put -u 7 disk.img book terms.txt");
     let line = "pick -q -u 7 --book terms.txt --log days.log --year 9 --day 2 disk.img";
     assert_eq!(folder.done(line), "the word of day 2\n");
     assert_eq!(
-        folder.run("get -u 7 -r disk.img days.log --as -").out,
+        folder.run("get -u 7 -r disk.img days.log -").out,
         logged(9, 2)
     );
     let said = folder.refused("pick --book a?b disk.img");
@@ -260,9 +260,9 @@ fn troubles_say_what_to_do() {
     let folder = with_book();
     let days: Vec<u8> = (0..1_024).flat_map(|day| logged(day, 0)).collect();
     folder.write("full", &days);
-    folder.done("put disk.img full --as full.log");
+    folder.done("put disk.img full full.log");
     folder.write("short", &book(5));
-    folder.done("put disk.img short --as short.dat");
+    folder.done("put disk.img short short.dat");
     for (options, day, out, err) in [
         ("", 366, "", "The day is over 365. Count days from 0: 1 January is day 0."),
         (

@@ -49,9 +49,9 @@ fn verbs_that_look_never_lift() {
     for line in [
         "ls @disk.img",
         "ls -l -a @disk.img *.txt",
-        "get @disk.img long.dat --as @copy",
-        "get -f -r @disk.img *.* --as @.",
-        "get @disk.img nosuch --as @none",
+        "get @disk.img long.dat @copy",
+        "get -f -r @disk.img *.* @.",
+        "get @disk.img nosuch @none",
         "free @disk.img",
         "check @disk.img",
         "check --state @kept @disk.img",
@@ -86,11 +86,11 @@ fn the_demo_lifts_each_of_its_disks_once() {
 fn verbs_that_change_a_disk_lift_it_once() {
     let folder = with_files();
     for line in [
-        "put @disk.img @NOTE.TXT --as new.txt",
-        "put -f @disk.img @LONG.DAT --as new.txt",
+        "put @disk.img @NOTE.TXT new.txt",
+        "put -f @disk.img @LONG.DAT new.txt",
         "mv @disk.img new.txt newer.txt",
         "rm @disk.img newer.txt",
-        "get --stamp -f @disk.img *.* --as @.",
+        "get --stamp -f @disk.img *.* @.",
         "call --lift @disk.img 22 --name made",
     ] {
         let before = folder.read("disk.img");
@@ -99,9 +99,9 @@ fn verbs_that_change_a_disk_lift_it_once() {
     }
     // Nothing is lifted for what is refused before it would write.
     for line in [
-        "put @disk.img @NOTE.TXT --as note.txt",
-        "put @disk.img @nosuch --as some.txt",
-        "get --stamp @disk.img note.txt --as @NOTE.TXT",
+        "put @disk.img @NOTE.TXT note.txt",
+        "put @disk.img @nosuch some.txt",
+        "get --stamp @disk.img note.txt @NOTE.TXT",
         "mv @disk.img note.txt bad?.txt",
         "rm @disk.img",
     ] {
@@ -221,7 +221,7 @@ fn there_is_one_way_to_pick() {
 #[test]
 fn the_picker_lifts_for_its_log_alone() {
     let folder = with_files();
-    folder.done("put disk.img LONG.DAT --as words.dat");
+    folder.done("put disk.img LONG.DAT words.dat");
     let before = folder.read("disk.img");
     let line = "pick --year 2026 --day 3 @disk.img";
     assert_eq!(lifts(&folder, line), (0, 0));
@@ -268,7 +268,7 @@ fn kept(folder: &Folder) -> String {
 #[test]
 fn a_state_keeps_the_protection_and_a_search() {
     let folder = with_files();
-    folder.done("put disk.img NOTE.TXT --as third.txt");
+    folder.done("put disk.img NOTE.TXT third.txt");
     folder.done("call --state kept disk.img 17 --name *.*");
     assert_eq!(kept(&folder), "0");
     // Neither option ends the search.

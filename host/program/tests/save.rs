@@ -19,9 +19,9 @@ fn ended_at_every_step() {
     let folder = Folder::new();
     folder.write("file", &bytes(50_000, 3));
     folder.done("new disk.img");
-    folder.done("put disk.img file --as kept");
+    folder.done("put disk.img file kept");
     let old = folder.read("disk.img");
-    folder.done("put disk.img file --as added");
+    folder.done("put disk.img file added");
     let new = folder.read("disk.img");
     assert_ne!(old, new);
 
@@ -29,7 +29,7 @@ fn ended_at_every_step() {
     for step in 0.. {
         folder.write("disk.img", &old);
         let mut command = folder.command();
-        command.args(["put", "disk.img", "file", "--as", "added"]);
+        command.args(["put", "disk.img", "file", "added"]);
         let status = command.env(END_AT, step.to_string()).status().unwrap();
         let found = folder.read("disk.img");
         match found {
@@ -53,7 +53,7 @@ fn ended_at_every_step() {
     let left = folder.names().len();
     assert!(left > 2, "ended saves leave their temporary files");
     folder.write("disk.img", &old);
-    folder.done("put disk.img file --as added");
+    folder.done("put disk.img file added");
     assert_eq!(folder.read("disk.img"), new);
     assert_eq!(folder.names().len(), left, "a whole save leaves none");
 }
@@ -154,7 +154,7 @@ fn files_that_may_not_be_written_to_stay_as_they_were() {
     let folder = Folder::new();
     folder.done("new disk.img");
     folder.write("file", b"x");
-    folder.done("put disk.img file --as there");
+    folder.done("put disk.img file there");
     let old = folder.read("disk.img");
     folder.write("file", b"y");
     folder.write("there", b"of the host");
@@ -162,12 +162,12 @@ fn files_that_may_not_be_written_to_stay_as_they_were() {
     folder.set_mode("there", 0o400);
     for line in [
         "put disk.img file",
-        "put -f disk.img file --as there",
+        "put -f disk.img file there",
         "rm disk.img there",
         "mv disk.img there here",
         "call --lift disk.img 22 --name new",
         "new -f disk.img",
-        "get -f disk.img there --as there",
+        "get -f disk.img there there",
         "map -f --svg there disk.img",
         "call --state there disk.img 13",
     ] {
@@ -186,11 +186,7 @@ fn files_that_may_not_be_written_to_stay_as_they_were() {
         assert_eq!(folder.names(), ["disk.img", "file", "there"], "{line}");
     }
     // What changes nothing is no save.
-    for line in [
-        "ls disk.img",
-        "call disk.img 46",
-        "get disk.img there --as copy",
-    ] {
+    for line in ["ls disk.img", "call disk.img 46", "get disk.img there copy"] {
         let Some(mut command) = folder.command_by_anybody() else {
             return;
         };
@@ -211,7 +207,7 @@ fn pipes_and_devices_are_neither_read_nor_replaced() {
     let disk = folder.read("disk.img");
     for line in [
         "ls IT",
-        "get IT file --as -",
+        "get IT file -",
         "put IT file",
         "rm IT file",
         "mv IT file other",
@@ -221,7 +217,7 @@ fn pipes_and_devices_are_neither_read_nor_replaced() {
         "call IT 13",
         "call -n IT 13",
         "new -f IT",
-        "get -f disk.img file --as IT",
+        "get -f disk.img file IT",
         "map -f --svg IT disk.img",
         "check --state IT disk.img",
         "call --state IT disk.img 13",
@@ -253,17 +249,17 @@ fn a_write_that_fails_leaves_everything_as_it_was() {
     folder.write("big", &bytes(50_000, 1));
     folder.write("small", b"x");
     folder.done("put disk.img big");
-    folder.done("put disk.img small --as a");
+    folder.done("put disk.img small a");
     fs::create_dir(folder.at("out")).unwrap();
     folder.write("out/BIG", b"old");
     let (disk, names) = (folder.read("disk.img"), folder.names());
     for line in [
-        "put disk.img small --as b",
+        "put disk.img small b",
         "new -f disk.img",
         "new other.img",
-        "get disk.img big --as copy",
-        "get -f disk.img big --as out/BIG",
-        "get -f disk.img *.* --as out",
+        "get disk.img big copy",
+        "get -f disk.img big out/BIG",
+        "get -f disk.img *.* out",
         "map --svg map.svg disk.img",
     ] {
         let mut command = folder.command_with_little_room();
@@ -331,7 +327,7 @@ fn changes_at_the_same_time_are_not_lost() {
     let begin = |number: usize| {
         let image = ["disk.img", "link.img"][number % 2];
         let mut command = folder.command();
-        command.args(["put", image, "file", "--as", &format!("f{number}")]);
+        command.args(["put", image, "file", &format!("f{number}")]);
         command.spawn().expect("the program can be run")
     };
     let runs: Vec<_> = (0..24).map(begin).collect();
@@ -368,8 +364,8 @@ fn two_files_that_are_one_by_links_do_not_wait_for_each_other() {
     let folder = Folder::new();
     folder.done("new disk.img");
     folder.write("file", b"1");
-    folder.done("put disk.img file --as one");
-    folder.done("put disk.img file --as two");
+    folder.done("put disk.img file one");
+    folder.done("put disk.img file two");
     symlink("file", folder.at("ONE")).unwrap();
     symlink("file", folder.at("TWO")).unwrap();
     let ran = ran_soon(folder.command().args(["get", "-f", "disk.img", "*.*"]));
@@ -384,8 +380,7 @@ fn an_image_is_not_held_while_standard_input_is_read() {
     let folder = Folder::new();
     folder.done("new disk.img");
     folder.write("file", b"x");
-    let line =
-        "{ \"$0\" put disk.img file --as inner; echo text; } | \"$0\" put disk.img - --as outer";
+    let line = "{ \"$0\" put disk.img file inner; echo text; } | \"$0\" put disk.img - outer";
     let mut shell = Command::new("sh");
     shell.args(["-c", line, env!("CARGO_BIN_EXE_benzokamuri")]);
     let ran = ran_soon(shell.current_dir(folder.path()));

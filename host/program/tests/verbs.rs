@@ -23,7 +23,7 @@ fn with_files() -> Folder {
     folder.write("empty", b"");
     folder.done("put disk.img one.txt");
     folder.done("put disk.img -u 5 two.dat");
-    folder.done("-u 5 put disk.img empty --as nothing");
+    folder.done("-u 5 put disk.img empty nothing");
     folder
 }
 
@@ -46,19 +46,19 @@ fn a_new_image_is_erased_and_replaces_nothing() {
 #[test]
 fn files_go_on_and_come_off() {
     let folder = with_files();
-    folder.done("get disk.img one.txt --as back");
+    folder.done("get disk.img one.txt back");
     let mut filled = b"first\nfile\n".to_vec();
     filled.resize(128, 0x1A);
     assert_eq!(folder.read("back"), filled);
-    folder.done("get -f -t disk.img ONE.TXT --as back");
+    folder.done("get -f -t disk.img ONE.TXT back");
     assert_eq!(folder.read("back"), b"first\nfile\n");
     folder.done("get -u5 disk.img two.dat");
     let mut filled = bytes(20_000, 7);
     filled.resize(20_096, 0x1A);
     assert_eq!(folder.read("TWO.DAT"), filled);
-    assert_eq!(folder.run("get -u 5 disk.img nothing --as -").out, b"");
+    assert_eq!(folder.run("get -u 5 disk.img nothing -").out, b"");
     assert_eq!(
-        folder.run("get disk.img one.txt --as - -t").out,
+        folder.run("get disk.img one.txt - -t").out,
         b"first\nfile\n"
     );
     let said = folder.refused("get disk.img two.dat");
@@ -66,7 +66,7 @@ fn files_go_on_and_come_off() {
         said,
         "benzokamuri: disk.img: TWO.DAT: 255, 0: This user has no such file.\n"
     );
-    let said = folder.refused("get disk.img one.txt --as back");
+    let said = folder.refused("get disk.img one.txt back");
     assert_eq!(said, "benzokamuri: back is there already; -f replaces it\n");
 }
 
@@ -74,12 +74,12 @@ fn files_go_on_and_come_off() {
 fn several_files_come_off_into_a_folder() {
     let folder = with_files();
     std::fs::create_dir(folder.at("out")).unwrap();
-    folder.done("get -u 5 disk.img *.* --as out");
+    folder.done("get -u 5 disk.img *.* out");
     assert_eq!(folder.read("out/NOTHING"), b"");
     assert_eq!(folder.read("out/TWO.DAT").len(), 20_096);
-    let said = folder.refused("get -u 5 disk.img *.* --as elsewhere");
+    let said = folder.refused("get -u 5 disk.img *.* elsewhere");
     assert!(said.contains("elsewhere is no folder"), "{said}");
-    folder.done("get disk.img one.txt --as out");
+    folder.done("get disk.img one.txt out");
     assert_eq!(folder.read("out/ONE.TXT").len(), 128);
 }
 
@@ -90,14 +90,14 @@ fn names_with_a_slash_stay_in_the_folder() {
     folder.write("x", b"x");
     let names = ["%2FX", "I%2FO.ASM", "%2E%2E", "%2E%2E%2FX", "-", "A.%2FB"];
     for name in names {
-        folder.done(&format!("put disk.img x --as {name}"));
+        folder.done(&format!("put disk.img x -- {name}"));
     }
     let listed = folder.done("ls disk.img");
     for name in names {
         assert!(listed.contains(&format!("  {name} ")), "{name}: {listed}");
     }
     std::fs::create_dir(folder.at("out")).unwrap();
-    folder.done("get disk.img *.* --as out");
+    folder.done("get disk.img *.* out");
     assert_eq!(folder.names(), ["disk.img", "out", "x"]);
     let mut there: Vec<String> = std::fs::read_dir(folder.at("out"))
         .unwrap()
@@ -115,7 +115,7 @@ fn names_with_a_slash_stay_in_the_folder() {
     assert_eq!(folder.done("ls disk.img"), listed);
     folder.done("get disk.img %2fx");
     assert_eq!(folder.read("%2FX").len(), 128);
-    let said = folder.refused("put disk.img x --as i/o.asm");
+    let said = folder.refused("put disk.img x i/o.asm");
     assert!(said.contains("'/' may not stand in a name"), "{said}");
 }
 
@@ -124,14 +124,14 @@ fn of_several_files_none_is_written_where_one_is_there() {
     let folder = with_files();
     std::fs::create_dir(folder.at("out")).unwrap();
     folder.write("out/TWO.DAT", b"old");
-    let said = folder.refused("get -u 5 disk.img *.* --as out");
+    let said = folder.refused("get -u 5 disk.img *.* out");
     assert_eq!(
         said,
         "benzokamuri: out/TWO.DAT is there already; -f replaces it\n"
     );
     assert!(!folder.at("out/NOTHING").exists());
     assert_eq!(folder.read("out/TWO.DAT"), b"old");
-    folder.done("get -fr -u 5 disk.img *.* --as out");
+    folder.done("get -fr -u 5 disk.img *.* out");
     assert!(folder.at("out/NOTHING").exists());
     assert_eq!(folder.read("out/TWO.DAT").len(), 20_096);
 }
@@ -202,7 +202,7 @@ user  name          attributes  records      size
 
     // 157 records were written, three more stand in the last block, and the
     // rest of the second extent has no blocks.
-    let got = folder.run("get -u 5 disk.img two.dat --as -");
+    let got = folder.run("get -u 5 disk.img two.dat -");
     assert_eq!(got.status, Some(0));
     assert_eq!(got.out[..20_000], bytes(20_000, 7));
     assert_eq!(got.out.len(), 32_768);
@@ -250,8 +250,8 @@ fn names_are_checked_and_made_capitals() {
     folder.write("mixed.Case", b"x");
     let said = folder.refused("put disk.img mixed.Case");
     assert!(said.contains("at most three"), "{said}");
-    folder.done("put disk.img mixed.Case --as Mixed.Cas");
-    folder.done("put disk.img mixed.Case --as %61%20b.%2e");
+    folder.done("put disk.img mixed.Case Mixed.Cas");
+    folder.done("put disk.img mixed.Case %61%20b.%2e");
     let listed = folder.done("ls disk.img");
     assert!(listed.contains("  MIXED.CAS "), "{listed}");
     assert!(listed.contains("  %61%20B.%2E "), "{listed}");
@@ -271,7 +271,7 @@ fn a_file_that_is_there_is_replaced_on_request_only() {
     );
     assert_eq!(folder.read("disk.img"), before);
     folder.done("put -f disk.img one.txt");
-    assert_eq!(folder.run("get -t disk.img one.txt --as -").out, b"other\n");
+    assert_eq!(folder.run("get -t disk.img one.txt -").out, b"other\n");
 }
 
 #[test]
@@ -279,7 +279,7 @@ fn standard_input_can_be_put() {
     let folder = with_disk();
     let mut child = folder
         .command()
-        .args(["put", "disk.img", "-", "--as", "piped"])
+        .args(["put", "disk.img", "-", "piped"])
         .stdin(Stdio::piped())
         .spawn()
         .unwrap();
@@ -290,10 +290,7 @@ fn standard_input_can_be_put() {
         .write_all(b"from a pipe")
         .unwrap();
     assert!(child.wait().unwrap().success());
-    assert_eq!(
-        folder.run("get -t disk.img piped --as -").out,
-        b"from a pipe"
-    );
+    assert_eq!(folder.run("get -t disk.img piped -").out, b"from a pipe");
     assert_eq!(folder.run("put disk.img -").status, Some(2));
 }
 
@@ -362,10 +359,7 @@ fn a_full_disk_leaves_the_image_as_it_was() {
     );
     assert_eq!(folder.read("disk.img"), empty);
     folder.done("put disk.img big");
-    assert_eq!(
-        folder.run("get disk.img big --as -").out,
-        bytes(241 * 1_024, 1)
-    );
+    assert_eq!(folder.run("get disk.img big -").out, bytes(241 * 1_024, 1));
     let full = folder.read("disk.img");
     folder.write("small", b"x");
     assert!(folder.refused("put disk.img small").contains(": 2, 0: "));
@@ -380,10 +374,7 @@ fn a_full_directory_leaves_the_image_as_it_was() {
     let folder = with_disk();
     folder.write("small", b"x");
     for number in 0..63 {
-        folder.done(&format!(
-            "put disk.img small --as f{number} -u {}",
-            number % 16
-        ));
+        folder.done(&format!("put disk.img small f{number} -u {}", number % 16));
     }
     let nearly = folder.read("disk.img");
     folder.write("two", &bytes(16_385, 2));
@@ -393,9 +384,9 @@ fn a_full_directory_leaves_the_image_as_it_was() {
         "{said}"
     );
     assert_eq!(folder.read("disk.img"), nearly);
-    folder.done("put disk.img small --as last");
+    folder.done("put disk.img small last");
     let full = folder.read("disk.img");
-    let said = folder.refused("put disk.img small --as onemore");
+    let said = folder.refused("put disk.img small onemore");
     assert!(said.contains(": 255, 0: The directory is full"), "{said}");
     assert_eq!(folder.read("disk.img"), full);
     assert!(folder
@@ -413,8 +404,8 @@ fn wrong_lengths_are_refused_with_both_named() {
         folder.write("wrong.img", &wrong);
         for verb in [
             "ls IMAGE",
-            "get IMAGE one.txt --as -",
-            "put IMAGE one.txt --as x",
+            "get IMAGE one.txt -",
+            "put IMAGE one.txt x",
             "rm IMAGE one.txt",
             "mv IMAGE one.txt x",
             "free IMAGE",
@@ -441,7 +432,7 @@ fn an_image_without_its_last_sectors_is_filled_up() {
     let image = folder.read("disk.img");
     folder.write("short.img", &image[..128_000]);
     assert_eq!(
-        folder.run("get -t short.img one.txt --as -").out,
+        folder.run("get -t short.img one.txt -").out,
         b"first\nfile\n"
     );
     assert_eq!(
@@ -818,7 +809,7 @@ fn nobody_listening_is_no_reason_to_complain() {
         "help",
         "demo",
         "ls -l disk.img",
-        "get -u 5 disk.img two.dat --as -",
+        "get -u 5 disk.img two.dat -",
         "free disk.img",
         "check disk.img",
         "map disk.img",

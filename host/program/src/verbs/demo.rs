@@ -9,7 +9,6 @@ use crate::files;
 use crate::layout::Stamp;
 use crate::looking::Looking;
 use crate::picture::Picture;
-use crate::texts;
 use crate::trouble::{Doing, Trouble};
 use crate::words::{Shape, Words};
 use crate::{Desk, Verb};
@@ -305,7 +304,7 @@ fn double_job(user: u8, colours: bool, desk: &mut Desk) -> Result<(), Trouble> {
 fn words_of_a_year() -> Vec<u8> {
     let record = |day: usize| {
         let mut word = format!("the word of day {day}").into_bytes();
-        word.resize(BUFFER_LEN, texts::FILLING);
+        word.resize(BUFFER_LEN, files::FILLING);
         word
     };
     (0..366).flat_map(record).collect()
@@ -352,7 +351,7 @@ fn clocks_go_back(user: u8, desk: &mut Desk) -> Result<(), Trouble> {
 fn shown_run(number: u8, clock: &str, picked: &Picked, desk: &mut Desk) -> Result<(), Trouble> {
     let Picked { answer, word } = picked;
     let told = answer.number();
-    let word = word.as_ref().map_or(&[][..], |word| texts::unfilled(word));
+    let word = word.as_ref().map_or(&[][..], |word| files::text(word));
     let word = String::from_utf8_lossy(word);
     writeln!(
         desk.out,

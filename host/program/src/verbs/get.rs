@@ -5,7 +5,6 @@ use crate::files::{self, File};
 use crate::looking::Looking;
 use crate::saving::{already_there, Held, Ready};
 use crate::store::ImageFile;
-use crate::texts;
 use crate::trouble::{Doing, Trouble};
 use crate::words::{Shape, Words};
 use crate::{Desk, Verb};
@@ -16,10 +15,10 @@ use std::path::{Path, PathBuf};
 pub const VERB: Verb = Verb {
     name: "get",
     purpose: "Copy a file from the disk.",
-    usage: "[-u USER] [-f] [-t | -r] [--stamp [--time TIME]] [--as FILE] IMAGE NAME",
+    usage: "[-u USER] [-f] [-t | -r] [--stamp [--time TIME]] IMAGE NAME [FILE]",
     help: "\
 FILE is the file to be written, the folder to write to, or - for standard
-output. Where --as is left out, the file gets its name on the disk as `ls` shows
+output. Where it is left out, the file gets its name on the disk as `ls` shows
 it, in the present folder. NAME may be a pattern; FILE is then a folder. Where
 one of several files can't be written, none is.
 
@@ -30,7 +29,6 @@ out as zeros, and their number is told.
 
 The image stays as it is, and no access stamp is left on it, but with --stamp.
 
-  --as FILE     where to write to
   -f            replace a file that is there already
   -t            a text: end it before the first 1AH
   -r            whole records, whatever the entry says
@@ -41,7 +39,7 @@ The image stays as it is, and no access stamp is left on it, but with --stamp.
                 it is left out",
     shape: Shape {
         flags: &["-f", "-t", "-r", "--stamp"],
-        valued: &["--as"],
+        valued: &[],
     },
     run,
 };
@@ -50,7 +48,7 @@ fn run(mut words: Words, desk: &mut Desk) -> Result<(), Trouble> {
     let stamps = words.has("--stamp");
     let (image, held) = image_or_held(&mut words, stamps)?;
     let word = words.next("the name of a file")?;
-    let target = words.value("--as").map(PathBuf::from);
+    let target = words.next_if_any().map(PathBuf::from);
     words.end()?;
     if words.has("-t") && words.has("-r") {
         return Err(Trouble::usage("-t and -r do not go together"));
@@ -196,7 +194,7 @@ fn copied(
         ));
     }
     if words.has("-t") {
-        contents.bytes = texts::from_disk(&contents.bytes);
+        contents.bytes.truncate(files::text(&contents.bytes).len());
     } else if !words.has("-r") {
         contents.bytes.truncate(file.bytes() as usize);
     }

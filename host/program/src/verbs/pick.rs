@@ -1,9 +1,9 @@
 //! `pick`: the word of a day, and the day into the log.
 
 use super::{held, named, time};
+use crate::files::text;
 use crate::looking::Looking;
 use crate::store::ImageFile;
-use crate::texts;
 use crate::trouble::Trouble;
 use crate::words::{Shape, Words};
 use crate::{Desk, Verb};
@@ -114,7 +114,7 @@ fn tell(doing: &str, picked: &Picked, desk: &mut Desk) -> Result<(), Trouble> {
 
 /// Prints a word: a text up to its first 1AH, as a line, or all of it.
 fn print(word: &Buffer, raw: bool, desk: &mut Desk) -> Result<(), Trouble> {
-    let text = texts::unfilled(word);
+    let text = text(word);
     match raw {
         true => desk.out.write_all(word)?,
         false => desk.out.write_all(text)?,

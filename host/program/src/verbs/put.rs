@@ -15,22 +15,21 @@ use std::path::Path;
 pub const VERB: Verb = Verb {
     name: "put",
     purpose: "Copy a file onto the disk.",
-    usage: "[-u USER] [--time TIME] [-f] [--as NAME] IMAGE FILE",
+    usage: "[-u USER] [--time TIME] [-f] IMAGE FILE [NAME]",
     help: "\
-FILE is the file to be read, or - for standard input. Where --as is left out,
+FILE is the file to be read, or - for standard input. Where NAME is left out,
 the file gets its own name, in capitals. Its last record is filled up with 1AH.
 
 The image is saved only if all of the file has found room; otherwise it stays as
 it was. On a disk with date entries the file gets the stamps that the label asks
 for; one that replaces another is made anew, and so is its create stamp.
 
-  --as NAME     the name on the disk
   -f            replace a file that is there already
   --time TIME   the time of the stamps, as \"2026-11-15 06:00\"; the clock's where
                 it is left out",
     shape: Shape {
         flags: &["-f"],
-        valued: &["--as"],
+        valued: &[],
     },
     run,
 };
@@ -41,8 +40,9 @@ const LARGEST: usize = BUFFER_LEN * BLOCK_RECORDS * (BLOCKS - AREA);
 fn run(mut words: Words, desk: &mut Desk) -> Result<(), Trouble> {
     let image = words.next("the image")?;
     let source = words.next("the file to be copied")?;
+    let name = words.next_if_any();
     words.end()?;
-    let name: Name = match (words.value("--as"), Path::new(&source).file_name()) {
+    let name: Name = match (&name, Path::new(&source).file_name()) {
         (Some(name), _) => named(name)?,
         (None, Some(own)) if source != "-" => named(own)?,
         _ => return Err(Trouble::usage("the name on the disk is missing")),

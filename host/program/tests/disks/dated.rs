@@ -93,7 +93,7 @@ fn put_by_cpmtools(folder: &Folder, files: &[Dated]) {
 /// Puts a file on a disk by our verb, when it says, and gives the remarks.
 fn put_by_ours(folder: &Folder, Dated { file, changed, .. }: &Dated) -> String {
     folder.write("file", &file.bytes());
-    let line = format!("put -u {} disk.img file --as {}", file.user, file.name);
+    let line = format!("put -u {} disk.img file {}", file.user, file.name);
     let put = folder.run_words(["--time", changed].into_iter().chain(line.split(' ')));
     assert_eq!(put.status, Some(0), "{}", put.err);
     put.err
@@ -119,7 +119,7 @@ fn shown_by_ours(folder: &Folder, file: &OnDisk) -> String {
     let mut lines = listed.lines();
     let line = lines.find(|line| line.starts_with(&begins));
     let line = line.unwrap_or_else(|| panic!("{name}: {listed}"));
-    let got = folder.run(&format!("get -u {user} disk.img {name} --as -"));
+    let got = folder.run(&format!("get -u {user} disk.img {name} -"));
     assert_eq!((got.status, got.err.as_str()), (Some(0), ""), "{name}");
     assert!(got.out == file.bytes(), "{name}");
     line.to_string()
@@ -242,7 +242,7 @@ fn live_disks_dated_by_ours() {
         for dated in &FILES {
             put_by_ours(&folder, dated);
         }
-        folder.done_at(MORE.changed, "get --stamp -u 7 disk.img *.* --as -");
+        folder.done_at(MORE.changed, "get --stamp -u 7 disk.img *.* -");
         for Dated { file, shown, .. } in &FILES {
             // What it makes of the first stamp: it knows the label's bit for
             // create, and shows nothing where another is set.
