@@ -31,7 +31,7 @@ fn main() {
 }
 
 /// Where the archive is: named by the environment, or the newer of the one
-/// that `make lib` wrote and the one that `rt staticlib benzokamuri` wrote.
+/// that `make lib` wrote and the one that `rt lib` wrote in the crate's folder.
 fn archive() -> PathBuf {
     if let Some(path) = env::var_os(ELSEWHERE) {
         return PathBuf::from(path);
@@ -39,8 +39,11 @@ fn archive() -> PathBuf {
     let here = env::var_os("CARGO_MANIFEST_DIR").expect("cargo names the crate's folder");
     let repository = Path::new(&here).join("../..");
     let repository = repository.canonicalize().unwrap_or(repository);
-    let [proved, made] = ["target/staticlib", "build/lib"]
-        .map(|folder| repository.join(folder).join("libbenzokamuri.a"));
+    let [proved, made] = [
+        "crates/benzokamuri_c/out/libbenzokamuri_c.a",
+        "build/lib/libbenzokamuri.a",
+    ]
+    .map(|archive| repository.join(archive));
     let written = |path: &Path| path.metadata().and_then(|file| file.modified()).ok();
     // One that is not there counts as the oldest, and build/lib is named where
     // neither is.
