@@ -21,7 +21,8 @@ use Rattle.model.specs.Kinds.{kind_of, same}
 use Rattle.model.specs.declared.Kind.TheVariants.{Write}
 use Rattle.model.specs.Step.{refused, stamped, step}
 use Rattle.table.specs.Own.{calling, same_is}
-use Rattle.table.specs.Total.{RefusedBy, CarriedOut, eight_total}
+use Rattle.table.specs.Total.{RefusedBy, CarriedOut}
+use Rattle.table.proofs.Total.{eight_total}
 use Rattle.effects.specs.Where.{Frame}
 use Rattle.effects.specs.Book.{Book, nothing_held}
 use Rattle.demands.specs.Runs.{Request, Disk, lent_to, outcome_of, left, accepts, after, Act, protected_disk, run, book_run}
@@ -30,7 +31,8 @@ use Rattle.demands.specs.StepOk.{MayWrite}
 use Rattle.demands.specs.Stamped.{step_ok}
 use Rattle.demands.specs.Reading.{Gives, at_record_rule}
 use Rattle.demands.specs.ReadBack.{AllLeaveAlone, read_fcb, wrote}
-use Rattle.table.specs.Accepted.{accepted_answer, accepted_carried}
+use Rattle.table.specs.Accepted.{accepted_answer}
+use Rattle.table.proofs.Accepted.{accepted_carried}
 use Rattle.demands.specs.Protected.{NeverLifted, NeverSettled}
 use Rattle.demands.specs.Eight.{eight_nothing_lost, eight_read_back, eight_protected_image, eight_protected_map}
 use Rattle.targets.specs.declared.Target.{Target}

@@ -39,13 +39,15 @@ use Rattle.fields.specs.Erased.{ErasedDisk, erased_empty, erased_unused, erased_
 use Rattle.table.specs.Own.{calling}
 use Rattle.table.specs.Protection.{lifted_spared}
 use Rattle.table.specs.Facts.{Fits, Writes, Makes}
-use Rattle.table.specs.Accept.{passes, makes_of, makes_right, writes_right}
+use Rattle.table.specs.Accept.{makes_of, makes_right, writes_right}
+use Rattle.table.proofs.Accept.{passes}
 use Rattle.table.specs.Present.{stays_within, target_present, numbers_extent}
-use Rattle.table.specs.Total.{InRange, range_lifted, CarriedOut, total_accepted}
+use Rattle.table.specs.Total.{InRange, range_lifted, CarriedOut}
+use Rattle.table.proofs.Total.{total_accepted}
 use Rattle.invariant.specs.Good.{Good, good_consistent, good_right}
 use Rattle.effects.specs.View.{view_of}
 use Rattle.effects.specs.Cur.{Cur, cur_current}
-use Rattle.table.specs.Accepted.{carried_says, accepted_carried}
+use Rattle.table.proofs.Accepted.{carried_says, accepted_carried}
 use Rattle.demands.specs.StepOk.{ready_good}
 use Rattle.demands.specs.Stamped.{stamped_as, stamped_as_law, cur_on, row_on, step_accepted}
 use Rattle.demands.specs.StillCurrent.{created_cur}

@@ -36,9 +36,10 @@ use Rattle.table.specs.Own.{calling, at_kind, same_is, ready_rows, verdict_rows}
 use Rattle.table.specs.Protection.{lifted_spared, stopped_succeeds, succeeds_none}
 use Rattle.table.specs.Facts.{fits_lifted, Ready}
 use Rattle.table.specs.Reflect.{ready_of}
-use Rattle.table.specs.Accept.{passes}
-use Rattle.table.specs.Total.{CarriedOut, total_refused, total_accepted}
-use Rattle.table.specs.Accepted.{carried_says}
+use Rattle.table.proofs.Accept.{passes}
+use Rattle.table.specs.Total.{CarriedOut}
+use Rattle.table.proofs.Total.{total_refused, total_accepted}
+use Rattle.table.proofs.Accepted.{carried_says}
 use Rattle.table.specs.Stamping.{where_undated, record_stamps}
 use Rattle.demands.specs.Stamped.{stamped_as, stamped_as_law}
 use Rattle.demands.specs.Runs.{Request, Disk, lent_to, outcome_of, accepts, lifted_by}

@@ -10,9 +10,10 @@ use Rattle.model.specs.Kinds.{kind_of, is_call}
 use Rattle.table.specs.Protection.{other_spared}
 use Rattle.table.specs.Facts.{Fits}
 use Rattle.table.specs.Reflect.{login_ready}
-use Rattle.table.specs.Accept.{passes}
-use Rattle.table.specs.Total.{InRange, total_accepted}
-use Rattle.table.specs.Accepted.{carried_says}
+use Rattle.table.proofs.Accept.{passes}
+use Rattle.table.specs.Total.{InRange}
+use Rattle.table.proofs.Total.{total_accepted}
+use Rattle.table.proofs.Accepted.{carried_says}
 use Rattle.demands.specs.Runs.{Request, Disk, lent_to, outcome_of, accepts}
 
 pub erased_accepted : {G : Geometry} (S : Sound G) (d : Disk) (q : Request) → ErasedDisk G d.drive.image → length d.drive.map ≡ G.blocks → InRange G d.session

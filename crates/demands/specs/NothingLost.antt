@@ -19,12 +19,13 @@ use Rattle.model.specs.Naming.{names}
 use Rattle.model.specs.Step.{settled, effect, stamped}
 use Rattle.table.specs.Own.{calling}
 use Rattle.model.specs.Kinds.{kind_of}
-use Rattle.table.specs.Total.{InRange, range_lifted, step_range}
+use Rattle.table.specs.Total.{InRange, range_lifted}
+use Rattle.table.proofs.Total.{step_range}
 use Rattle.invariant.specs.Good.{Good, good_consistent, good_right}
 use Rattle.effects.specs.Where.{InEntry, InRecord, Where, in_entry, in_new, in_record, by_rule, in_stamp, stamp_entry, Frame}
 use Rattle.effects.specs.Book.{Book, nothing_held}
 use Rattle.effects.specs.Tracks.{Tracks, overlaid, InBook, book_map, book_has, book_settled}
-use Rattle.table.specs.Accepted.{accepted_carried}
+use Rattle.table.proofs.Accepted.{accepted_carried}
 use Rattle.demands.specs.StepOk.{MayWrite, logged_in_tracks}
 use Rattle.demands.specs.Stamped.{step_ok, step_accepted, step_good, good_never_one}
 use Rattle.demands.specs.Runs.{Request, Disk, lent_to, outcome_of, accepts, after, Act, one_call, lifts, protects, after_act, run, book_after, book_act, book_run}

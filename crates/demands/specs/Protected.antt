@@ -34,13 +34,17 @@ use Rattle.model.specs.Step.{refused, told, pattern, place, settled, does, effec
 use Rattle.model.specs.Table.{changers, parameters_right_rule, disk_right_rule, when, first_row, own_rows, move_changes, protection_holds, table, verdict}
 use Rattle.fields.specs.Closing.{map_kept}
 use Rattle.table.specs.Own.{same_is, not_unlisted}
-use Rattle.table.specs.Protection.{changes_kind, by_kind, reads_listed, plan_changes, lifted_spared, changer_stopped, spared_unchanged, plan_changes_law, stopped_succeeds, succeeds_none}
+use Rattle.table.specs.Protection.{changes_kind, by_kind, reads_listed, plan_changes, lifted_spared, changer_stopped, spared_unchanged, stopped_succeeds, succeeds_none}
+use Rattle.table.proofs.Protection.{plan_changes_law}
 use Rattle.table.specs.Facts.{Reads, Ready, ready_lifted}
-use Rattle.table.specs.Accept.{reads_of, passes}
-use Rattle.table.specs.Accepted.{accepted_answer, carried_says}
+use Rattle.table.specs.Accept.{reads_of}
+use Rattle.table.proofs.Accept.{passes}
+use Rattle.table.specs.Accepted.{accepted_answer}
+use Rattle.table.proofs.Accepted.{carried_says}
 use Rattle.table.specs.Plans.{There, Planned, stay, move, make, planned_read}
 use Rattle.table.specs.Carried.{Leaves, over, on, sets}
-use Rattle.table.specs.Total.{CarriedOut, total}
+use Rattle.table.specs.Total.{CarriedOut}
+use Rattle.table.proofs.Total.{total}
 use Rattle.demands.specs.Stamped.{stamped_as_law}
 use Rattle.demands.specs.Dates.{settles_image}
 use Rattle.demands.specs.Runs.{Request, Disk, lent_to, outcome_of, accepts, after, Act, one_call, lifts, protects, after_act, run}

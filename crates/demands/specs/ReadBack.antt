@@ -26,13 +26,14 @@ use Rattle.table.specs.Accept.{writes_by}
 use Rattle.table.specs.First.{◌&◌}
 use Rattle.table.specs.Plans.{entry_of}
 use Rattle.table.specs.Carried.{Leaves, over, on, sets}
-use Rattle.table.specs.Total.{InRange, range_lifted, total, step_range}
+use Rattle.table.specs.Total.{InRange, range_lifted}
+use Rattle.table.proofs.Total.{total, step_range}
 use Rattle.invariant.specs.Good.{Good}
 use Rattle.effects.specs.View.{view_of, Names}
 use Rattle.effects.specs.Effect.{Effect, Keeps}
 use Rattle.effects.specs.Cur.{Holds, holds_kept}
 use Rattle.effects.specs.Write.{HandedBack, written_ok}
-use Rattle.table.specs.Accepted.{accepted_carried}
+use Rattle.table.proofs.Accepted.{accepted_carried}
 use Rattle.demands.specs.StepOk.{ready_good}
 use Rattle.demands.specs.Stamped.{stamped_as, stamped_as_law, holds_on, step_ok, step_accepted, step_good}
 use Rattle.demands.specs.Runs.{Request, Disk, lent_to, outcome_of, accepts, after, Act, one_call, lifts, protects, after_act, run}

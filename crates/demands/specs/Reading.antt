@@ -35,7 +35,7 @@ use Rattle.table.specs.Accept.{reads_right}
 use Rattle.table.specs.Present.{stays_within, target_present, stay_block}
 use Rattle.table.specs.Plans.{There, Planned, stay, move, make, planned_read}
 use Rattle.table.specs.Carried.{read_answered}
-use Rattle.table.specs.Total.{step_carried}
+use Rattle.table.proofs.Total.{step_carried}
 use Rattle.invariant.specs.Good.{Good, good_consistent, good_right}
 use Rattle.effects.specs.View.{View, view_of}
 use Rattle.effects.specs.Cur.{Cur, cur_current, Holds, rec_slot}

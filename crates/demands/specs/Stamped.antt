@@ -37,11 +37,13 @@ use Rattle.fields.specs.Making.{length_made_row, user_made, name_made}
 use Rattle.fields.specs.Stamps.{StampOk}
 use Rattle.table.specs.Own.{calling, same_is}
 use Rattle.table.specs.First.{NoneHolds, decides_refused}
-use Rattle.table.specs.Refuse.{never_bad_disk}
+use Rattle.table.proofs.Refuse.{never_bad_disk}
 use Rattle.table.specs.Facts.{Fits, Makes, AcceptedCall}
 use Rattle.table.specs.Plans.{entry_of, Block, There, Planned, planned_read, planned_write}
-use Rattle.table.specs.Accept.{passes, opens_of, closes_of, makes_of, reads_of, writes_by}
-use Rattle.table.specs.Total.{CarriedOut, total, total_accepted}
+use Rattle.table.specs.Accept.{opens_of, closes_of, makes_of, reads_of, writes_by}
+use Rattle.table.proofs.Accept.{passes}
+use Rattle.table.specs.Total.{CarriedOut}
+use Rattle.table.proofs.Total.{total, total_accepted}
 use Rattle.invariant.specs.Good.{Good, good_consistent, good_right}
 use Rattle.invariant.specs.Updates.{dates_beside}
 use Rattle.invariant.specs.Stamps.{Each, Placed, Stamped, where_cases, stamped_all, close_each, access_each, create_each, move_each, placed}
@@ -56,7 +58,8 @@ use Rattle.effects.specs.Came.{present_cur}
 use Rattle.effects.specs.Write.{written_ok, reads_ok}
 use Rattle.effects.specs.Alike.{Alike, alike_same, used_row, file_same, alike_stay, alike_none, alike_effect, cur_alike, holds_alike}
 use Rattle.effects.specs.Stamps.{Lies, lies, stamps_bytes, stamped_alike}
-use Rattle.table.specs.Accepted.{accepted_answer, refused_says, carried_says}
+use Rattle.table.specs.Accepted.{accepted_answer}
+use Rattle.table.proofs.Accepted.{refused_says, carried_says}
 use Rattle.demands.specs.StepOk.{MayWrite, StepOk, GoodOutcome, CarriedOk, Carries, carries_ok, refused_ok, names_plain, Named, named_close, named_create, named_read, named_write, carried, settles, ready_good}
 
 -- the outcome of a kind, stamped

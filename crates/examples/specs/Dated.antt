@@ -28,7 +28,8 @@ use Rattle.model.specs.Entering.{three_bytes}
 use Rattle.model.specs.Table.{time_right_rule, parameters_right_rule, first_row, verdict}
 use Rattle.model.specs.Step.{step}
 use Rattle.table.specs.Own.{verdict_rows}
-use Rattle.table.specs.Total.{RefusedBy, total_refused}
+use Rattle.table.specs.Total.{RefusedBy}
+use Rattle.table.proofs.Total.{total_refused}
 use Rattle.examples.specs.Erased.{Fitting, fresh_count, SpaceIs, space_is}
 use Rattle.examples.specs.Dates.{new_dates, dates}
 

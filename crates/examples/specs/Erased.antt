@@ -29,7 +29,7 @@ use Rattle.model.specs.Step.{step, effect, stamped, settled, told}
 use Rattle.table.specs.Protection.{other_spared}
 use Rattle.table.specs.Facts.{Fits, Ready}
 use Rattle.table.specs.Reflect.{login_ready}
-use Rattle.table.specs.Total.{step_carried}
+use Rattle.table.proofs.Total.{step_carried}
 
 -- ---- the free blocks of a fresh map
 module _ (G : Geometry) (d : Rows) (b : ℕ) (below : b < G.blocks) where

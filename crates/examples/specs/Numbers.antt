@@ -25,7 +25,7 @@ use Rattle.fields.specs.Size.{size_covers, size_high, end_high}
 use Rattle.table.specs.Present.{user_numbers}
 use Rattle.table.specs.Protection.{other_spared}
 use Rattle.table.specs.Facts.{Ready, Sizes, Positions}
-use Rattle.table.specs.Total.{step_carried}
+use Rattle.table.proofs.Total.{step_carried}
 
 -- the call answers 0, 0, and r0 to r2 of the FCB that it leaves are these bytes
 pub record Gives (G : Geometry) (asked : Asked) (l : Lent) (s : Session) (bytes : Bytes) : Type 0 where

@@ -17,8 +17,8 @@ use Rattle.table.specs.Own.{calling, at_one}
 use Rattle.table.specs.Protection.{lifted_spared, failing_spared}
 use Rattle.table.specs.Facts.{Ready}
 use Rattle.fields.specs.Target.{extent_random, record_random}
-use Rattle.table.specs.Refuse.{random_over}
-use Rattle.table.specs.Total.{step_refused}
+use Rattle.table.proofs.Refuse.{random_over}
+use Rattle.table.proofs.Total.{step_refused}
 
 -- the FCB's r0, r1 and r2 are these
 pub record RandomIs (fcb : Bytes) (r0 r1 r2 : ℕ) : Type 0 where

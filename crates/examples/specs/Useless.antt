@@ -28,7 +28,7 @@ use Rattle.model.specs.Step.{effect, stamped, step}
 use Rattle.fields.specs.Entering.{length_copied}
 use Rattle.fields.specs.Making.{length_made_row}
 use Rattle.fields.specs.Erased.{ErasedDisk, all_erased, erased_consistent}
-use Rattle.table.specs.Total.{total, total_refused}
+use Rattle.table.proofs.Total.{total, total_refused}
 use Rattle.table.specs.Accepted.{accepted_answer}
 use Rattle.demands.specs.Runs.{Request, Disk, lent_to, outcome_of, left, accepts, after, lifted_disk, run}
 use Rattle.demands.specs.Reading.{Gives, at_record_rule, record_number}

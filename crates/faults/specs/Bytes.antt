@@ -1,10 +1,9 @@
--- The bytes of a head, each by itself: the tables of what it may be, and that a fault shows exactly where it is not.
-use Rattle.std.specs.Prelude.{◌≡◌, refl, Bool, true, false, not, cond, List, [], ◌∷◌, ℕ, ◌<◌, eqb, leb, ltb, get_or}
+-- The bytes of a head, each by itself: the tables of what it may be, and what is wrong with one that is not.
+use Rattle.std.specs.Prelude.{Bool, true, false, not, cond, List, [], ◌∷◌, ℕ, eqb, leb, ltb, get_or}
 use Rattle.std.specs.Int.Bits.{bit_and}
-use Rattle.lists.specs.Tests.{◌and◌, ◌or◌, agree, agree_same}
-use Rattle.lists.specs.Below.{all_below, all_at}
+use Rattle.lists.specs.Tests.{◌and◌}
 use Rattle.format.specs.Names.{seven_bits, name_byte_rule}
-use Rattle.faults.specs.Faults.{head_bytes, fault_of}
+use Rattle.faults.specs.Faults.{fault_of}
 
 -- ---- the tables, one number a byte: the bits that count, the lowest and the highest that they may make, and one between that they
 -- may not. 255 is barred where none is: it is too high anyway, or nothing counts
@@ -29,15 +28,3 @@ unfoldable pub byte_ok : ℕ → ℕ → Bool
 byte_ok i b =
     cond (eqb i 0) (leb b 15) (cond (ltb i 12) (name_byte_rule false b and not (eqb i 1 and eqb (seven_bits b) 32))
     (cond (eqb i 12) (leb b 31) (cond (eqb i 14) (leb b 63) true)))
-
-told : ℕ → ℕ → Bool
-told i b = agree (eqb (byte_fault i b) 0) (byte_ok i b)
-
--- one test that the checker computes, for all bytes at all places
-all_told : all_below (λ (i : ℕ). all_below (told i) 256) head_bytes ≡ true
-unfolding all_below told agree byte_fault fault_of counted lowest highest barred byte_ok name_byte_rule ◌and◌ ◌or◌
-all_told = refl
-
-pub fault_tells : (i b : ℕ) → i < head_bytes → b < 256 → eqb (byte_fault i b) 0 ≡ byte_ok i b
-unfolding told
-fault_tells i b h l = agree_same _ _ (all_at (told i) 256 (all_at (λ (k : ℕ). all_below (told k) 256) head_bytes all_told i h) b l)

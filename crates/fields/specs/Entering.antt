@@ -87,14 +87,15 @@ as_extent_own row ext q = rw (eq-eqb ext (extent_of row) q)
 
 module _ (row : Bytes) (ext : ℕ) where
   -- another one: the row with that extent's numbers
-  as_extent_other : (ext ≡ extent_of row → ⊥) → as_extent row ext ≡ with_numbers row (ext % 32) (ext / 32) (count_in row ext)
+  pub as_extent_other : (ext ≡ extent_of row → ⊥) → as_extent row ext ≡ with_numbers row (ext % 32) (ext / 32) (count_in row ext)
   unfolding as_extent
   as_extent_other n = rw (ne_eqb ext (extent_of row) n)
 
   byte_as_extent : (i : ℕ) → (i ≡ 12 → ⊥) → (i ≡ 14 → ⊥) → (i ≡ 15 → ⊥) → get_or (as_extent row ext) i 0 ≡ get_or row i 0
+  unfolding as_extent
   byte_as_extent i a b c =
-      split (eq_or_ne ext (extent_of row)) (λ q. rw (as_extent_own row ext q))
-      (λ n. rw (as_extent_other n) (byte_with_numbers row (ext % 32) (ext / 32) (count_in row ext) i a b c))
+      split (eq_or_ne ext (extent_of row)) (λ q. rw (eq-eqb ext (extent_of row) q))
+      (λ n. rw (ne_eqb ext (extent_of row) n) (byte_with_numbers row (ext % 32) (ext / 32) (count_in row ext) i a b c))
 
   module _ (hr : 32 ≤ length row) where
     ex_other : ex_of (with_numbers row (ext % 32) (ext / 32) (count_in row ext)) ≡ ext % 32
@@ -108,19 +109,21 @@ module _ (row : Bytes) (ext : ℕ) where
 
     -- it speaks of that extent
     extent_as_extent : extent_of (as_extent row ext) ≡ ext
-    unfolding extent_of
+    unfolding as_extent extent_of
     extent_as_extent =
-        split (eq_or_ne ext (extent_of row)) (λ q. rw (as_extent_own row ext q) (sym q)) (λ n. rw (as_extent_other n, ex_other, s2_other) (omega arith))
+        split (eq_or_ne ext (extent_of row)) (λ q. rw (eq-eqb ext (extent_of row) q) (sym q)) (λ n. rw (ne_eqb ext (extent_of row) n, ex_other, s2_other) (omega arith))
 
     count_as_extent : count_of (as_extent row ext) ≡ count_in row ext
+    unfolding as_extent
     count_as_extent =
-        split (eq_or_ne ext (extent_of row)) (λ q. rw (as_extent_own row ext q) (sym (count_there_law row ext q))) (λ n. rw (as_extent_other n) count_other)
+        split (eq_or_ne ext (extent_of row)) (λ q. rw (eq-eqb ext (extent_of row) q) (sym (count_there_law row ext q))) (λ n. rw (ne_eqb ext (extent_of row) n) count_other)
 
     -- and its ex and s2 are in range, where the row's are
     numbers_as_extent : Numbers row → ext < extents → Numbers (as_extent row ext)
+    unfolding as_extent
     numbers_as_extent m x =
-        split (eq_or_ne ext (extent_of row)) (λ q. rw (as_extent_own row ext q) m)
-        (λ n. rw (as_extent_other n) record { ex = rw ex_other (omega arith); s2 = rw s2_other (omega arith) })
+        split (eq_or_ne ext (extent_of row)) (λ q. rw (eq-eqb ext (extent_of row) q) m)
+        (λ n. rw (ne_eqb ext (extent_of row) n) record { ex = rw ex_other (omega arith); s2 = rw s2_other (omega arith) })
 
 -- ---- an FCB that takes an entry, as of an extent
 module _ (fcb row : Bytes) (ext : ℕ) (hf : 32 ≤ length fcb) where

@@ -18,7 +18,8 @@ use Rattle.format.specs.Entries.{used}
 use Rattle.format.specs.Consistent.{extent_right_rule}
 use Rattle.facts.specs.Names.{Named, right_elim, right_intro}
 use Rattle.faults.specs.Faults.{head_bytes}
-use Rattle.faults.specs.Bytes.{byte_fault, byte_ok, fault_tells}
+use Rattle.faults.specs.Bytes.{byte_fault, byte_ok}
+use Rattle.faults.proofs.Bytes.{fault_tells}
 
 -- the name, ex and s2 of a row or an FCB
 unfoldable pub fields_right_rule : Bytes → Bool

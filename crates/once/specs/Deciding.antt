@@ -12,8 +12,9 @@ use Rattle.table.specs.First.{NoneHolds, Decides, here, later, none_passed, deci
 use Rattle.table.specs.Own.{rows_for, verdict_rows}
 use Rattle.table.specs.Facts.{Ready}
 use Rattle.table.specs.Reflect.{parameters_right_law, disk_right_law}
-use Rattle.table.specs.Accepted.{refused_says, carried_says}
-use Rattle.table.specs.Total.{RefusedBy, total_refused, total_accepted}
+use Rattle.table.proofs.Accepted.{refused_says, carried_says}
+use Rattle.table.specs.Total.{RefusedBy}
+use Rattle.table.proofs.Total.{total_refused, total_accepted}
 use Rattle.demands.specs.Runs.{Request, Disk, lent_to, outcome_of, accepts}
 
 -- by the first row that holds

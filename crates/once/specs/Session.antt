@@ -15,9 +15,9 @@ use Rattle.model.specs.declared.Asked.{Asked}
 use Rattle.model.specs.Lent.{Drive, Lent, Outcome, ended, with_lifted}
 use Rattle.table.specs.Own.{kinds_apart}
 use Rattle.table.specs.Carried.{Leaves, over, on, sets}
-use Rattle.table.specs.Total.{total}
+use Rattle.table.proofs.Total.{total}
 use Rattle.table.specs.Refuse.{SearchEnds, ends17, ends18}
-use Rattle.table.specs.Accepted.{carried_says}
+use Rattle.table.proofs.Accepted.{carried_says}
 use Rattle.demands.specs.Runs.{Request, Disk, lent_to, outcome_of, left, accepts}
 use Rattle.stored.specs.Closed.{Sane}
 use Rattle.stored.specs.Quiet.{quiet_ended, sane_accepted}

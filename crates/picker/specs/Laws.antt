@@ -6,8 +6,9 @@ use Rattle.format.specs.Diskette.{Bytes, Geometry}
 use Rattle.format.specs.Fcb.{random_of_rule}
 use Rattle.model.specs.declared.Session.{Session}
 use Rattle.model.specs.Lent.{Outcome}
-use Rattle.table.specs.Accepted.{accepted_answer, carried_says}
-use Rattle.table.specs.Total.{total}
+use Rattle.table.specs.Accepted.{accepted_answer}
+use Rattle.table.proofs.Accepted.{carried_says}
+use Rattle.table.proofs.Total.{total}
 use Rattle.demands.specs.Runs.{Request, Disk, disk_of, outcome_of, left, lent_to}
 use Rattle.picking.specs.declared.Wanted.{Wanted}
 use Rattle.picking.specs.declared.Time.{Time}

@@ -18,7 +18,8 @@ use Rattle.model.specs.Target.{plan}
 use Rattle.model.specs.Table.{readers, first_row, own_rows, move_changes, protection_holds}
 use Rattle.table.specs.First.{◌&◌, passed_none, refused_decides}
 use Rattle.table.specs.Own.{calling, at_kind}
-use Rattle.table.specs.Protection.{reads_listed, plan_changes, lifted_spared, read_stopped, none_succeeds, unchanged_spared, failing_spared, plan_changes_law}
+use Rattle.table.specs.Protection.{reads_listed, plan_changes, lifted_spared, read_stopped, none_succeeds, unchanged_spared, failing_spared}
+use Rattle.table.proofs.Protection.{plan_changes_law}
 use Rattle.rulings.specs.declared.Ruling.TheVariants.{Refuse, Follow}
 use Rattle.rulings.specs.Ruling.{ruling_of, ruling_rows, ruling}
 use Rattle.rulings.specs.Own.{rows_20, rows_33}

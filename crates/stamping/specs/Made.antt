@@ -20,9 +20,11 @@ use Rattle.table.specs.First.{NoneHolds, none_passed}
 use Rattle.table.specs.Stamping.{where_dated_law, where_undated}
 use Rattle.table.specs.Own.{calling, ready_rows}
 use Rattle.table.specs.Facts.{Ready, AcceptedCall}
-use Rattle.table.specs.Total.{total_accepted}
-use Rattle.table.specs.OwnStep.{ready_step, verdict_ready, step_ready}
-use Rattle.table.specs.Accepted.{accepted_answer, carried_says, accepted_carried}
+use Rattle.table.proofs.Total.{total_accepted}
+use Rattle.table.specs.OwnStep.{ready_step}
+use Rattle.table.proofs.OwnStep.{verdict_ready, step_ready}
+use Rattle.table.specs.Accepted.{accepted_answer}
+use Rattle.table.proofs.Accepted.{carried_says, accepted_carried}
 use Rattle.stamps.specs.declared.Due.{Due}
 use Rattle.stamps.specs.Due.{due_stamps, accepted_stamps}
 

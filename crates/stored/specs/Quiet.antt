@@ -31,14 +31,16 @@ use Rattle.model.specs.Table.{time_right_rule, asked_entry, own_rows, move_chang
 use Rattle.fields.specs.Agree.{count_cong}
 use Rattle.fields.specs.Closing.{nothing_to_close, unchanged_end}
 use Rattle.fields.specs.Entering.{length_entered, first_entered, slot_entered}
-use Rattle.fields.specs.OpenClose.{opened_keeps}
+use Rattle.fields.proofs.OpenClose.{opened_keeps}
 use Rattle.table.specs.Own.{kinds_apart}
 use Rattle.table.specs.Facts.{Fits, Opens, Ready}
 use Rattle.table.specs.First.{NoneHolds}
-use Rattle.table.specs.Accept.{own_at, passes}
-use Rattle.table.specs.Accepted.{carried_says, accepted_carried}
+use Rattle.table.specs.Accept.{own_at}
+use Rattle.table.proofs.Accept.{passes}
+use Rattle.table.proofs.Accepted.{carried_says, accepted_carried}
 use Rattle.table.specs.Carried.{read_answered}
-use Rattle.table.specs.Total.{CarriedOut, InRange, total, total_accepted, step_range}
+use Rattle.table.specs.Total.{CarriedOut, InRange}
+use Rattle.table.proofs.Total.{total, total_accepted, step_range}
 use Rattle.invariant.specs.Good.{good_consistent, good_right}
 use Rattle.invariant.specs.Stamps.{Each, Placed, placed, where_cases}
 use Rattle.invariant.specs.Updates.{dates_beside}

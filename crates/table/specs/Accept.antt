@@ -1,4 +1,4 @@
--- A table passes a listed call that is ready exactly when none of its own rows holds, and what that says of the call: its facts, by its kind.
+-- What it says of a call that none of its own rows holds: its facts, by its kind; and back: such facts leave no row that holds.
 use Rattle.std.specs.Prelude.{◌≡◌, ◌⊎◌, true, false, ℕ, ◌/◌, ◌≤◌, ◌<◌, eqb, ltb}
 use Rattle.std.proofs.Math.Path.{refl, ap}
 use Rattle.std.proofs.Common.{sym, subst, ◌∙◌, arith}
@@ -24,12 +24,12 @@ use Rattle.model.specs.declared.Kind.TheVariants.{Unlisted, Quiet, Search, User,
 use Rattle.model.specs.Kinds.{Listed, calls, kind_of, same, numbers_in, is_call, is_random_rule}
 use Rattle.model.specs.Search.{find_hit_rule}
 use Rattle.model.specs.Step.{pattern, place}
-use Rattle.model.specs.Table.{parameters_right_rule, disk_right_rule, own_rows, protection_holds, verdict}
-use Rattle.table.specs.First.{◌&◌, NoneHolds, passed_none, none_passed, passed_refused}
-use Rattle.table.specs.Own.{calling, AtEach, at_kind, not_unlisted, rows_for, verdict_rows, verdict_unlisted}
+use Rattle.model.specs.Table.{own_rows, verdict}
+use Rattle.table.specs.First.{◌&◌, NoneHolds, passed_refused}
+use Rattle.table.specs.Own.{calling, AtEach, at_kind, not_unlisted, verdict_unlisted}
 use Rattle.table.specs.Present.{there_target, file_extent_below}
 use Rattle.table.specs.Facts.{Opens, Closes, Deletes, Makes, Renames, Sizes, Positions, Reads, Writes, Own, Ready, AcceptedCall}
-use Rattle.table.specs.Reflect.{found, missed, either_found, either_missed, pattern_of_law, argument_of, parameters_right_law, disk_right_law, ready_of, some_of, some_right, none_of, writable_of, positions_of, positions_right}
+use Rattle.table.specs.Reflect.{found, missed, either_found, either_missed, pattern_of_law, argument_of, some_of, some_right, none_of, writable_of, positions_of, positions_right}
 
 -- the target's extent of 33 and 34 is below 2,048 exactly where the random record is at most 262,143
 pub random_below : (n : ℕ) (fcb : Bytes) → is_random_rule n ≡ true → ltb last_record (random_of_rule fcb) ≡ false → target_extent n fcb < extents
@@ -136,7 +136,7 @@ module _ (G : Geometry) (asked : Asked) (l : Lent) (s : Session) (none : NoneHol
       by_rows (λ (n : ℕ). Deletes G l s) Delete refl
       ((λ h. record { name = not-false _ h.0; files = record { some = some_of G l s true 1 h.1.0; writable = writable_of G l s true h.1.1.0 } }) & tt)
 
-  own_of : is_call asked.number ≡ true → Ready G asked l s → (k : Kind) → kind_of asked.number ≡ k → Own G asked l s k
+  pub own_of : is_call asked.number ≡ true → Ready G asked l s → (k : Kind) → kind_of asked.number ≡ k → Own G asked l s k
   own_of t r Unlisted q = not_unlisted asked.number t q
   own_of t r Quiet q = (
     λ n. opens_of G asked l s (at_number 15 n),
@@ -190,22 +190,6 @@ module _ (G : Geometry) (asked : Asked) (l : Lent) (s : Session) where
   passed_call q =
       split (bool_cases (is_call asked.number)) (λ t. t) (λ f. passed_refused NotListed (sym q ∙ verdict_unlisted G asked l s f))
 
-  -- a passed table taken apart
-  pub accepted : verdict G asked l s ≡ Passed → AcceptedCall G asked l s
-  accepted q =
-      let t = passed_call q in
-      let none = passed_none (rows_for G asked l s) (sym (verdict_rows G asked l s t) ∙ q) in
-      let ready = ready_of G asked l s (not-false (parameters_right_rule G l asked s) none.0) (not-false (disk_right_rule G l asked) none.1.0) in
-      let own = none.1.1.1 in
-      record { listed = t; ready = ready; spared = none.1.1.0; none = own; own = own_of G asked l s own t ready (kind_of asked.number) refl }
-
   -- its own facts, where its kind is known
   pub own_at : {k : Kind} → AcceptedCall G asked l s → kind_of asked.number ≡ k → Own G asked l s k
   own_at c q = subst (Own G asked l s) q c.own
-
-  -- a call none of whose rows holds is passed
-  pub passes : is_call asked.number ≡ true → Ready G asked l s → protection_holds G asked l s ≡ false → NoneHolds (own_rows G asked l s) → verdict G asked l s ≡ Passed
-  passes t r p o =
-      verdict_rows G asked l s t
-      ∙ none_passed (rows_for G asked l s)
-      (ap not (parameters_right_law G asked l s r.fits r.time r.drive) & ap not (disk_right_law G asked l s r.image_right r.map_right_law) & p & o)

@@ -1,19 +1,18 @@
 -- What an accepted call answers, and the session that it leaves.
 use Rattle.std.specs.Prelude.{◌≡◌, cond, [], ◌∷◌, ℕ, ◌+◌}
-use Rattle.std.proofs.Math.Path.{refl, ap}
+use Rattle.std.proofs.Math.Path.{refl}
 use Rattle.std.proofs.Math.Bool.{true, false}
 use Rattle.std.proofs.Math.Dec.{eqb}
 use borrow.Author.Tests.{eq-eqb, ne_eqb}
-use Rattle.lists.specs.Cases.{split, eq_or_ne, bool_cases}
+use Rattle.lists.specs.Cases.{split, eq_or_ne}
 use Rattle.format.specs.Diskette.{Bytes, Geometry}
 use Rattle.format.specs.Entries.{find_empty_rule}
-use Rattle.facts.specs.Found.{FoundAt}
 use Rattle.format.specs.declared.Found.{Found}
 use Rattle.format.specs.declared.Found.TheVariants.{At}
 use Rattle.model.specs.declared.Session.{Session}
 use Rattle.model.specs.declared.Plan.{Plan}
 use Rattle.model.specs.declared.Plan.TheVariants.{Stay, Move, Make}
-use Rattle.model.specs.Kinds.{kind_of, same, one_of}
+use Rattle.model.specs.Kinds.{same, one_of}
 use Rattle.model.specs.declared.Asked.{Asked}
 use Rattle.model.specs.declared.Kind.{Kind}
 use Rattle.model.specs.declared.Kind.TheVariants.{Unlisted, Quiet, Search, User, Settle, Close, Delete, Create, Rename, Read, Write}
@@ -21,12 +20,8 @@ use Rattle.model.specs.Lent.{Lent, Outcome, rows_of, ended, searching, with_user
 use Rattle.model.specs.Target.{present_entry, plan}
 use Rattle.model.specs.Search.{find_hit_rule}
 use Rattle.model.specs.Table.{asked_entry}
-use Rattle.model.specs.Calls.{entry_number, logged_in, freed, user_set, opened_at, opened, closed_at, closed, found_at, searched, deleted, created_at, created, renamed, sized, positioned, space, read_at, reading, read, written_at, writing, written}
-use Rattle.model.specs.Step.{told, pattern, place, settled, does}
-use Rattle.table.specs.First.{◌&◌}
-use Rattle.table.specs.Own.{at_one, calling, not_unlisted}
-use Rattle.table.specs.Facts.{Opens, AcceptedCall}
-use Rattle.table.specs.Accept.{own_at, hits_of}
+use Rattle.model.specs.Calls.{entry_number, user_set, read_at, reading, read, written_at, writing, written}
+use Rattle.model.specs.Step.{told, pattern, place}
 
 -- the entry that was looked for was found, and A is its number mod 4
 pub record AnswersEntry (r : Found) (a : ℕ) : Type 0 where
@@ -95,59 +90,8 @@ module _ (G : Geometry) (asked : Asked) (l : Lent) (s : Session) where
       (λ q. let t : eqb asked.argument 255 ≡ true = eq-eqb _ _ q in rw t record { is_a = refl; is_h = refl; is_session = refl })
       (λ q. let t : eqb asked.argument 255 ≡ false = ne_eqb _ _ q in rw t record { is_a = refl; is_h = refl; is_session = refl })
 
-  settled_answered : Answered (settled G asked l s) 0 (ended s)
-  unfolding settled logged_in freed
-  settled_answered =
-      split (bool_cases (eqb asked.number 13))
-      (λ t. rw t record { is_a = refl; is_h = refl; is_session = refl }) (λ t. rw t record { is_a = refl; is_h = refl; is_session = refl })
-
   -- what an accepted call answers and leaves
   pub record Done (k : Kind) (o : Outcome) : Type 0 where
     pub answers : Answers k o.answer.a
     pub no_error : o.answer.h ≡ 0
     pub leaves : Leaves k o.answer.session
-
-  zero_done : (k : Kind) (o : Outcome) → same k Search ≡ false → same k User ≡ false → (o.answer.a ≡ 0 → Answers k o.answer.a) → Answered o 0 (ended s) → Done k o
-  zero_done k o p q f h = record { answers = f h.is_a; no_error = h.is_h; leaves = over p q h.is_session }
-
-  hit_done : FoundAt (find_hit_rule G (rows_of G l) s.user (pattern G asked l s) (place G asked l s)) → Done Search (does G asked l s Search)
-  unfolding searched found_at
-  hit_done f = record {
-    answers = record { entry = f.place; found = f.is; mod_four = rw f.is };
-    no_error = refl;
-    leaves = on refl record { entry = f.place; found = f.is; on = rw f.is };
-  }
-
-  -- 15 tells the entry that it opened; 35, 36 and 46 tell none
-  opened_entry : asked.number ≡ 15 → Opens G l s → AnswersEntry (asked_entry G l s.user) (entry_number (told G asked l s).entry)
-  unfolding told opened opened_at
-  opened_entry n o =
-      let t : eqb asked.number 15 ≡ true = eq-eqb _ _ n in
-      record { entry = o.entry.place; found = o.entry.is; mod_four = rw (t, o.entry.is) }
-
-  no_entry : one_of asked.number (35 ∷ 36 ∷ 46 ∷ []) ≡ true → (told G asked l s).entry ≡ 0
-  unfolding told sized positioned space
-  no_entry w = at_one (λ (n : ℕ). (told G (calling n asked) l s).entry ≡ 0) asked.number (35 ∷ 36 ∷ 46 ∷ []) w (refl & refl & refl & tt)
-
-  pub carried_done : AcceptedCall G asked l s → (k : Kind) → kind_of asked.number ≡ k → Done k (does G asked l s k)
-  unfolding closed closed_at deleted created created_at renamed
-  carried_done c Unlisted q = not_unlisted asked.number c.listed q
-  carried_done c Quiet q =
-      record {
-        answers = (refl, λ n. opened_entry n ((own_at G asked l s c q).0 n), λ w. ap entry_number (no_entry w));
-        no_error = refl;
-        leaves = over refl refl refl;
-      }
-  carried_done c Search q = hit_done (hits_of G asked l s c.none q)
-  carried_done c User q = let h = user_answered in record { answers = h.is_a; no_error = h.is_h; leaves = sets refl h.is_session }
-  carried_done c Settle q = zero_done Settle _ refl refl (λ z. z) settled_answered
-  carried_done c Close q =
-      let e = (own_at G asked l s c q).entry in
-      record { answers = record { entry = e.place; found = e.is; mod_four = rw e.is }; no_error = refl; leaves = over refl refl refl }
-  carried_done c Delete q = record { answers = refl; no_error = refl; leaves = over refl refl refl }
-  carried_done c Create q =
-      let e = (own_at G asked l s c q).entry in
-      record { answers = record { entry = e.place; found = e.is; mod_four = rw e.is }; no_error = refl; leaves = over refl refl refl }
-  carried_done c Rename q = record { answers = refl; no_error = refl; leaves = over refl refl refl }
-  carried_done c Read q = zero_done Read _ refl refl (λ z. z) (read_answered asked.number)
-  carried_done c Write q = zero_done Write _ refl refl (λ z. z) (written_answered asked.number)

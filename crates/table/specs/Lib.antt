@@ -10,6 +10,5 @@ pub mod Carried
 pub mod Total
 pub mod Plans
 pub mod OwnStep
-pub mod Early
 pub mod Accepted
 pub mod Stamping

@@ -1,6 +1,6 @@
 -- One call once the first three rows have passed it: the protection and its own rows decide, and then it is carried out. What a call's own function
 -- does; but for the record calls, which ask for the protection themselves, the protection has been asked for before.
-use Rattle.std.specs.Prelude.{◌≡◌, true, false, not, ℕ}
+use Rattle.std.specs.Prelude.{◌≡◌, true, false, ℕ}
 use Rattle.std.proofs.Math.Path.{refl, ap}
 use Rattle.std.proofs.Common.{sym, ◌∙◌}
 use Rattle.format.specs.Diskette.{Geometry}
@@ -10,18 +10,14 @@ use Rattle.model.specs.declared.Kind.{Kind}
 use Rattle.model.specs.declared.Kind.TheVariants.{Unlisted, Quiet, Search, User, Settle, Close, Delete, Create, Rename, Read, Write}
 use Rattle.model.specs.declared.Answer.{Answer}
 use Rattle.model.specs.declared.Code.{Code}
-use Rattle.model.specs.declared.Code.TheVariants.{BadParameter, BadDisk, Protected}
-use Rattle.model.specs.declared.Verdict.TheVariants.{Refused}
-use Rattle.model.specs.Kinds.{kind_of, is_call}
+use Rattle.model.specs.declared.Code.TheVariants.{Protected}
+use Rattle.model.specs.Kinds.{kind_of}
 use Rattle.model.specs.Lent.{Lent, Outcome, outcome, answer_of}
-use Rattle.model.specs.Table.{parameters_right_rule, disk_right_rule, when, first_row, own_rows, protection_holds, verdict}
+use Rattle.model.specs.Table.{first_row, own_rows, protection_holds}
 use Rattle.model.specs.Calls.{quietly}
-use Rattle.model.specs.Step.{refused_session, refused, told, pattern, place, settled, does, effect, carried_out, stamps_made, step}
-use Rattle.model.specs.Stamps.{stamped_outcome}
+use Rattle.model.specs.Step.{refused_session, refused, told, pattern, place, settled, does, effect, carried_out}
 use Rattle.table.specs.First.{NoneHolds, Decides, first_passes, none_passed, decides_refused, first_holds}
-use Rattle.table.specs.Own.{calling, ready_rows, verdict_rows}
-use Rattle.table.specs.Facts.{Ready}
-use Rattle.table.specs.Reflect.{parameters_right_law, disk_right_law}
+use Rattle.table.specs.Own.{calling, ready_rows}
 
 module _ (G : Geometry) (asked : Asked) (l : Lent) (s : Session) where
   -- refused by the call's own rows, or carried out
@@ -63,21 +59,6 @@ module _ (G : Geometry) (asked : Asked) (l : Lent) (s : Session) where
   pub ready_own : protection_holds G asked l s ≡ false → ready_step ≡ own_step
   unfolding ready_step own_step
   ready_own f = ap (carried_out G asked l s) (first_passes _ _ f)
-
-  -- ---- the table decides a call that the first three rows have passed as these do
-  pub verdict_ready : is_call asked.number ≡ true → Ready G asked l s → verdict G asked l s ≡ first_row (ready_rows G asked l s)
-  verdict_ready t r =
-      verdict_rows G asked l s t
-      ∙ first_passes (when (not (parameters_right_rule G l asked s)) BadParameter) _ (ap not (parameters_right_law G asked l s r.fits r.time r.drive))
-      ∙ first_passes (when (not (disk_right_rule G l asked)) BadDisk) _ (ap not (disk_right_law G asked l s r.image_right r.map_right_law))
-
-  pub verdict_stopped : is_call asked.number ≡ true → Ready G asked l s → protection_holds G asked l s ≡ true → verdict G asked l s ≡ Refused Protected
-  verdict_stopped t r h = verdict_ready t r ∙ first_holds _ _ h
-
-  -- the step of a call is what they leave, stamped
-  pub step_ready : is_call asked.number ≡ true → Ready G asked l s → step G asked l s ≡ stamped_outcome G (stamps_made G asked l s (first_row (ready_rows G asked l s))) ready_step
-  unfolding step ready_step
-  step_ready t r = rw (verdict_ready t r)
 
 -- ---- what a call does goes by its number and its argument, whatever the time
 module _ (G : Geometry) (asked other : Asked) (l : Lent) (s : Session) (number : other.number ≡ asked.number) (argument : other.argument ≡ asked.argument) where

@@ -4,11 +4,8 @@ use Rattle.std.proofs.Math.Path.{refl, sym, ap}
 use Rattle.std.proofs.Common.{subst, ◌∙◌}
 use Rattle.std.proofs.Math.Bool.{not}
 use Rattle.lists.specs.Cases.{split, bool_cases, clash, not_both, refute, bool_ext}
-use Rattle.lists.specs.Tests.{◌and◌, and_left, and_right, and_both, and_fails_left, and_fails_right, and_then, or_left, or_right, or_then, or_cases}
+use Rattle.lists.specs.Tests.{◌and◌, and_left, and_right, and_both, and_fails_left, and_fails_right, or_left, or_right, or_then, or_cases}
 use Rattle.format.specs.Diskette.{Geometry}
-use Rattle.format.specs.Found.{number_of}
-use Rattle.format.specs.declared.Found.{Found}
-use Rattle.format.specs.declared.Found.TheVariants.{At, Nothing}
 use Rattle.model.specs.declared.Asked.{Asked}
 use Rattle.model.specs.declared.Session.{Session}
 use Rattle.model.specs.declared.Plan.{Plan}
@@ -21,7 +18,7 @@ use Rattle.model.specs.declared.Kind.TheVariants.{Unlisted, Quiet, Search, User,
 use Rattle.model.specs.Kinds.{kind_of, same, of_record, one_of}
 use Rattle.model.specs.Lent.{Lent, rows_of, protected}
 use Rattle.model.specs.Closing.{close_changes_rule}
-use Rattle.model.specs.Target.{present_entry, stays, target_entry, plan_to, plan_from, plan}
+use Rattle.model.specs.Target.{stays}
 use Rattle.model.specs.Table.{changers, readers, own_rows, is_passed, would_succeed, move_changes, protection_holds}
 use Rattle.table.specs.First.{◌&◌, NoneHolds, Decides, passed_none, none_passed, decides_refused}
 use Rattle.table.specs.Own.{at_one, at_kind, same_is, kinds_apart}
@@ -167,14 +164,3 @@ module _ (G : Geometry) (asked : Asked) (l : Lent) (s : Session) where
   pub stay_unchanged : stays asked.number l.fcb ≡ true → move_changes G asked l s ≡ false
   unfolding move_changes
   stay_unchanged t = and_fails_left _ _ (ap not t)
-
-  -- ---- the move is that of the call's plan
-  planned_to : (e : ℕ) (r : Found) → plan_changes G l (plan_to G asked.number s.user l e r) ≡ close_changes_rule G (rows_of G l e) l.fcb
-  planned_to e (At t) = refl
-  planned_to e Nothing = refl
-
-  pub plan_changes_law : move_changes G asked l s ≡ plan_changes G l (plan G asked.number s.user l)
-  unfolding move_changes plan plan_from
-  plan_changes_law =
-      split (bool_cases (stays asked.number l.fcb)) (λ t. rw t (and_fails_left _ _ refl))
-      (λ f. rw f (and_then _ _ refl ∙ sym (planned_to (number_of G.entries (present_entry G s.user l)) (target_entry G asked.number s.user l))))

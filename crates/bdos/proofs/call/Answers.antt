@@ -12,7 +12,7 @@ use Rattle.table.specs.Facts.{Ready}
 use Rattle.table.specs.Reflect.{fits_of, ready_of}
 use Rattle.table.specs.OwnStep.{ready_own, own_at}
 use Rattle.table.specs.Protection.{stopped_calls, other_spared}
-use Rattle.table.specs.Early.{unlisted_step, parameter_step, disk_step}
+use Rattle.table.proofs.Early.{unlisted_step, parameter_step, disk_step}
 use Rattle.stamping.specs.Made.{made_at_law, step_plain, log_in_made}
 use Rattle.bdos.proofs.call.Goals as goal
 

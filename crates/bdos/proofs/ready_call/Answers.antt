@@ -4,7 +4,7 @@ use mathlib.Core.Path.{sym, ◌∙◌}
 use borrow.Author.Rules.{rules}
 use Rattle.lists.specs.Tests.{and_left, and_right, second_fails}
 use Rattle.format.specs.Diskette.{eight_inch}
-use Rattle.table.specs.Early.{stopped_step}
+use Rattle.table.proofs.Early.{stopped_step}
 use Rattle.table.specs.Protection.{changer_stopped}
 use Rattle.bdos.proofs.ready_call.Goals as goal
 

@@ -15,7 +15,7 @@ use Rattle.model.specs.Step.{refused_session, step}
 use Rattle.table.specs.First.{first_holds, first_passes}
 use Rattle.table.specs.Own.{verdict_rows, verdict_unlisted}
 use Rattle.table.specs.Facts.{Ready}
-use Rattle.table.specs.OwnStep.{verdict_stopped}
+use Rattle.table.proofs.OwnStep.{verdict_stopped}
 
 module _ (G : Geometry) (asked : Asked) (l : Lent) (s : Session) where
   -- an answer that changed nothing
