@@ -13,8 +13,15 @@ use Rattle.model.specs.Lent.{Lent, protected, with_lifted}
 use Rattle.model.specs.Step.{step}
 use Rattle.model.specs.Table.{protection_holds, verdict}
 use Rattle.table.specs.Total.{total}
+use Rattle.format.specs.Dates.{dated}
+use Rattle.model.specs.declared.Verdict.{Verdict}
+use Rattle.model.specs.declared.Verdict.TheVariants.{Passed, Refused}
+use Rattle.model.specs.Kinds.{kind_of}
+use Rattle.model.specs.Lent.{rows_of}
+use Rattle.model.specs.Stamps.{where_dated}
+use Rattle.model.specs.Step.{stamps_made}
 use Rattle.demands.specs.Runs.{Disk, lent_to, outcome_of, after, Act, one_call, lifts, protects, after_act, run}
-use Rattle.demands.specs.Protected.{Unchanged, NeverLifted, NeverSettled, relifted, nothing_changed, carried_leaves, stays_protected, same_verdict, same_carried, same_made}
+use Rattle.demands.specs.Protected.{Unchanged, NeverLifted, NeverSettled, relifted, nothing_changed, carried_leaves, stays_protected, same_verdict, same_carried, same_stamps}
 
 -- ---- one call
 pub protected_step : (G : Geometry) (asked : Asked) (l : Lent) (s : Session) → protected s ≡ true → Unchanged l asked.number (step G asked l s)
@@ -41,6 +48,11 @@ module _ (G : Geometry) where
   protected_map d p (protects ∷ acts) n m = protected_map (after_act G d protects) refl acts n m
 
 -- ---- a call that the protection does not refuse
+module _ (G : Geometry) (asked : Asked) (l : Lent) (s : Session) (b : ℕ) (nonzero : b ≡ 0 → ⊥) where
+  same_made : (asked.number ≡ 15 → ⊥) → (v : Verdict) → stamps_made G asked l (with_lifted s b) v ≡ stamps_made G asked l s v
+  same_made n Passed = ap (where_dated (dated (rows_of G l))) (same_stamps G asked l s b nonzero n (kind_of asked.number))
+  same_made n (Refused c) = refl
+
 module _ (G : Geometry) (asked : Asked) (l : Lent) (s : Session) (b : ℕ) (nonzero : b ≡ 0 → ⊥)
     (f : protection_holds G asked l s ≡ false) where
   -- the whole of any but an open

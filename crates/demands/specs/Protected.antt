@@ -218,23 +218,19 @@ module _ (G : Geometry) (asked : Asked) (l : Lent) (s : Session) (b : ℕ) (nonz
   same_moves (Move e t k) = refl
   same_moves (Make e t k) = refl
 
-  pub same_made : (asked.number ≡ 15 → ⊥) → (v : Verdict) → stamps_made G asked l (with_lifted s b) v ≡ stamps_made G asked l s v
+  pub same_stamps : (asked.number ≡ 15 → ⊥) → (k : Kind) → stamps_by G asked l (with_lifted s b) k ≡ stamps_by G asked l s k
   unfolding close_stamps new_stamps create_stamps
-  same_made n Passed = ap (where_dated (dated (rows_of G l))) (same_stamps n (kind_of asked.number))
-    where
-      same_stamps : (asked.number ≡ 15 → ⊥) → (k : Kind) → stamps_by G asked l (with_lifted s b) k ≡ stamps_by G asked l s k
-      same_stamps n Unlisted = refl
-      same_stamps n Quiet = let z : eqb asked.number 15 ≡ false = ne_eqb _ _ n in rw z
-      same_stamps n Search = refl
-      same_stamps n User = refl
-      same_stamps n Settle = refl
-      same_stamps n Close = refl
-      same_stamps n Delete = refl
-      same_stamps n Create = refl
-      same_stamps n Rename = refl
-      same_stamps n Read = same_moves (plan G asked.number s.user l)
-      same_stamps n Write = same_moves (plan G asked.number s.user l)
-  same_made n (Refused c) = refl
+  same_stamps n Unlisted = refl
+  same_stamps n Quiet = let z : eqb asked.number 15 ≡ false = ne_eqb _ _ n in rw z
+  same_stamps n Search = refl
+  same_stamps n User = refl
+  same_stamps n Settle = refl
+  same_stamps n Close = refl
+  same_stamps n Delete = refl
+  same_stamps n Create = refl
+  same_stamps n Rename = refl
+  same_stamps n Read = same_moves (plan G asked.number s.user l)
+  same_stamps n Write = same_moves (plan G asked.number s.user l)
 
   module _ (f : protection_holds G asked l s ≡ false) where
     -- the answer, the map, the FCB and the buffer of any call

@@ -1,22 +1,24 @@
 -- For those who build above the calls: the FCB handed back by an accepted 16, 20, 21, 33 or 34 is current under the session handed back,
--- and so is that of an accepted 15 or 22 whose cr is at most 128. Here after the own rule of the call; proofs/StillCurrent adds its stamps.
+-- and so is that of an accepted 15 or 22 whose cr is at most 128. Here after the own rule of each call; proofs/StillCurrent adds its stamps.
 use Rattle.std.specs.Prelude.{◌≡◌, true, false, List, [], ◌∷◌}
-use Rattle.std.proofs.Math.Path.{refl}
-use Rattle.std.proofs.Common.{arith}
+use Rattle.std.proofs.Math.Path.{refl, subst}
+use Rattle.std.proofs.Common.{sym, arith}
 use Prim.Native.Nat.{ℕ, ◌≤◌}
 use Rattle.format.specs.Diskette.{Bytes, Geometry, Sound}
-use Rattle.format.specs.Entries.{ex_of}
-use Rattle.format.specs.Fcb.{cr_of}
+use Rattle.format.specs.Entries.{entry_at, ex_of}
+use Rattle.format.specs.Fcb.{cr_of, current}
+use Rattle.facts.specs.Found.{FoundAt}
+use Rattle.format.specs.declared.Found.TheVariants.{At}
 use Rattle.rows.specs.Entries.{entry_stored, length_entry_at}
 use Rattle.facts.specs.Find.{file_says, empty_says}
 use Rattle.model.specs.declared.Asked.{Asked}
 use Rattle.model.specs.declared.Session.{Session}
-use Rattle.model.specs.Lent.{Lent, rows_of}
+use Rattle.model.specs.Lent.{Lent, rows_of, Outcome}
 use Rattle.model.specs.Entering.{made_row_rule}
-use Rattle.model.specs.Target.{plan}
+use Rattle.model.specs.Target.{present_entry, plan}
 use Rattle.model.specs.Kinds.{one_of, kind_of, same}
 use Rattle.model.specs.declared.Kind.{Kind}
-use Rattle.model.specs.declared.Kind.TheVariants.{User, Settle}
+use Rattle.model.specs.declared.Kind.TheVariants.{Quiet, User, Settle, Close, Create, Read, Write}
 use Rattle.model.specs.Table.{asked_entry}
 use Rattle.model.specs.Calls.{quietly, opened_at, opened, closed_at, closed, created_at, created, read, written}
 use Rattle.fields.specs.Fine.{fine_made}
@@ -28,17 +30,19 @@ use Rattle.table.specs.Plans.{entry_of}
 use Rattle.table.specs.Own.{calling, at_one, told_apart, kinds_apart}
 use Rattle.table.specs.Accept.{opens_of, closes_of, makes_of, reads_of, writes_by}
 use Rattle.table.specs.Facts.{Fits, Opens, Closes, Makes, Reads, Writes, AcceptedCall}
-use Rattle.model.specs.Step.{told, does}
+use Rattle.model.specs.Step.{told, does, stamped}
 use Rattle.invariant.specs.Good.{Good}
 use Rattle.effects.specs.View.{view_of}
-use Rattle.effects.specs.Cur.{Cur}
+use Rattle.effects.specs.Cur.{Cur, cur_current}
 use Rattle.effects.specs.Where.{WritesNone}
 use Rattle.effects.specs.Entered.{entered_cur, copied_cur, closed_cur}
 use Rattle.effects.specs.Came.{present_cur}
 use Rattle.effects.specs.Write.{written_ok, reads_ok}
 use Rattle.table.specs.Accepted.{accepted_carried}
 use Rattle.demands.specs.StepOk.{ready_good}
-use Rattle.demands.specs.Runs.{Request, Disk, lent_to, outcome_of, accepts}
+use Rattle.demands.specs.Stamped.{stamped_as_law}
+use Rattle.demands.specs.Runs.{Request, Disk, lent_to, outcome_of, accepts, after}
+use Rattle.demands.specs.ReadBack.{user_stays}
 
 -- the calls that may hand back a current FCB
 abbrev pub current_calls : List ℕ
@@ -51,7 +55,7 @@ pub record CurrentIn (G : Geometry) (user : ℕ) (l : Lent) : Type 0 where
 
 module _ {G : Geometry} (S : Sound G) (asked : Asked) (l : Lent) (s : Session) (f : Fits G l s) (g : Good G l.drive.image l.drive.map) where
   -- 15
-  opened_current : cr_of l.fcb ≤ 128 → Opens G l s → CurrentIn G s.user (quietly (opened G s l) s l).lent
+  pub opened_current : cr_of l.fcb ≤ 128 → Opens G l s → CurrentIn G s.user (quietly (opened G s l) s l).lent
   unfolding opened opened_at asked_entry
   opened_current cr o =
       let e : ℕ = o.entry.place in
@@ -66,7 +70,7 @@ module _ {G : Geometry} (S : Sound G) (asked : Asked) (l : Lent) (s : Session) (
       }
 
   -- 16
-  closed_current : Closes G l s → CurrentIn G s.user (closed G s l).lent
+  pub closed_current : Closes G l s → CurrentIn G s.user (closed G s l).lent
   unfolding closed closed_at
   closed_current c =
       let e : ℕ = c.entry.place in
@@ -88,51 +92,14 @@ module _ {G : Geometry} (S : Sound G) (asked : Asked) (l : Lent) (s : Session) (
       (entry_stored S l.drive.image g.image_long t found.below row (length_made_row s.user l.fcb)) (user_made s.user l.fcb) f.fcb_long
       (length_made_row s.user l.fcb) (fine_made G s.user l.fcb f.user_low m.name m.ex) cr
 
-  created_current : cr_of l.fcb ≤ 128 → Makes G l s → CurrentIn G s.user (created G s l).lent
+  pub created_current : cr_of l.fcb ≤ 128 → Makes G l s → CurrentIn G s.user (created G s l).lent
   unfolding created created_at
   created_current cr m = rw m.entry.is record { entry = m.entry.place; cur = created_cur cr m }
 
   -- 20 and 33
-  read_current : (n : ℕ) → Reads G l s n → CurrentIn G s.user (read G s l n).lent
+  pub read_current : (n : ℕ) → Reads G l s n → CurrentIn G s.user (read G s l n).lent
   read_current n o = record { entry = entry_of (plan G n s.user l); cur = (reads_ok S n l s g f o).cur }
 
   -- 21 and 34
-  written_current : (n : ℕ) → Writes G l s n → CurrentIn G s.user (written G s l n).lent
+  pub written_current : (n : ℕ) → Writes G l s n → CurrentIn G s.user (written G s l n).lent
   written_current n o = record { entry = entry_of (plan G n s.user l); cur = (written_ok S n l s g f o).holds.cur }
-
-  -- by the number of the call, before its stamps
-  abbrev RuleCurrent : ℕ → Type 0
-  RuleCurrent n =
-      (one_of n (15 ∷ 22 ∷ []) ≡ true → cr_of l.fcb ≤ 128) → AcceptedCall G (calling n asked) l s → CurrentIn G s.user (does G (calling n asked) l s (kind_of n)).lent
-
-  rule_current : (n : ℕ) → one_of n current_calls ≡ true → RuleCurrent n
-  unfolding kind_of told
-  rule_current n z =
-      at_one RuleCurrent n current_calls z
-      ((λ cr o. opened_current (cr refl) (opens_of G asked l s o.none))
-      & (λ cr o. closed_current (closes_of G (calling 16 asked) l s o.none refl))
-      & (λ cr o. read_current 20 (reads_of G (calling 20 asked) l s o.none o.ready.image_right f.user_low refl))
-      & (λ cr o. written_current 21 (writes_by G (calling 21 asked) l s o.none refl))
-      & (λ cr o. created_current (cr refl) (makes_of G (calling 22 asked) l s o.none refl))
-      & (λ cr o. read_current 33 (reads_of G (calling 33 asked) l s o.none o.ready.image_right f.user_low refl))
-      & (λ cr o. written_current 34 (writes_by G (calling 34 asked) l s o.none refl)) & tt)
-
-pub no_user : (k : Kind) → same k User ≡ false → k ≡ User → ⊥
-no_user k f q = kinds_apart k User f q
-
--- these calls settle nothing
-pub unsettled_call : (n : ℕ) → one_of n current_calls ≡ true → same (kind_of n) Settle ≡ false
-unfolding kind_of
-unsettled_call n z = at_one (λ (m : ℕ). same (kind_of m) Settle ≡ false) n current_calls z (refl & refl & refl & refl & refl & refl & refl & tt)
-
--- ---- any disk and call
-module _ {G : Geometry} (S : Sound G) (d : Disk) (q : Request) (accepted : accepts G d q ≡ true)
-    (call : one_of q.asked.number current_calls ≡ true)
-    (cr : one_of q.asked.number (15 ∷ 22 ∷ []) ≡ true → cr_of q.fcb ≤ 128) where
-  -- the FCB of an accepted call is current after its own rule, before its stamps
-  pub rule_leaves_current : CurrentIn G d.session.user (does G q.asked (lent_to d q) d.session (kind_of q.asked.number)).lent
-  unfolding outcome_of kind_of
-  rule_leaves_current =
-      let c = accepted_carried G q.asked (lent_to d q) d.session accepted in
-      rule_current S q.asked (lent_to d q) d.session c.facts.ready.fits
-      (ready_good c.facts.ready (told_apart _ 13 current_calls call refl)) q.asked.number call cr c.facts
