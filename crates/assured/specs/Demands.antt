@@ -28,13 +28,14 @@ use Rattle.effects.specs.Book.{Book, nothing_held}
 use Rattle.demands.specs.Runs.{Request, Disk, lent_to, outcome_of, left, accepts, after, Act, protected_disk, run, book_run}
 use Rattle.demands.specs.NothingLost.{NothingLost}
 use Rattle.demands.specs.StepOk.{MayWrite}
-use Rattle.demands.specs.Stamped.{step_ok}
+use Rattle.demands.proofs.Stamped.{step_ok}
 use Rattle.demands.specs.Reading.{Gives, at_record_rule}
-use Rattle.demands.specs.ReadBack.{AllLeaveAlone, read_fcb, wrote}
+use Rattle.demands.specs.ReadBack.{AllLeaveAlone, read_fcb}
+use Rattle.demands.proofs.ReadBack.{wrote}
 use Rattle.table.specs.Accepted.{accepted_answer}
 use Rattle.table.proofs.Accepted.{accepted_carried}
 use Rattle.demands.specs.Protected.{NeverLifted, NeverSettled}
-use Rattle.demands.specs.Eight.{eight_nothing_lost, eight_read_back, eight_protected_image, eight_protected_map}
+use Rattle.demands.proofs.Eight.{eight_nothing_lost, eight_read_back, eight_protected_image, eight_protected_map}
 use Rattle.targets.specs.declared.Target.{Target}
 use Rattle.targets.specs.Target.{TargetOf}
 use Rattle.script.specs.Script.{request}

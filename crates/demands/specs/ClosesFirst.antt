@@ -2,9 +2,10 @@
 -- that are tested up to and with "FCB not current" (a wrong parameter, a damaged disk, of a write the protection, a random record that is too large,
 -- an FCB that is not current), whatever else it answers, call 16 on the same disk, with the same FCB and the protection lifted, is accepted; the disk
 -- that its rule leaves is the one on which a move goes on, and its stamps are those with which the move's begin.
+-- The theorem itself, `closes_first`, is in proofs/ClosesFirst; here stands what it says, and what it rests on.
 use Rattle.std.specs.Prelude.{◌≡◌, ◌⊎◌, Bool, true, not, List, ◌∷◌, ◌++◌, ℕ}
 use Rattle.std.proofs.Math.Path.{refl}
-use Rattle.std.proofs.Common.{ap, sym, subst, ◌∙◌, inl, inr, ne_eqb}
+use Rattle.std.proofs.Common.{ap, subst, ◌∙◌, inl, inr, ne_eqb}
 use Rattle.std.proofs.Math.Bool.{false}
 use Rattle.std.proofs.lemmas.Bool.{not-false}
 use Rattle.lists.specs.Cases.{split, bool_cases, not_both, cond_either}
@@ -19,29 +20,27 @@ use Rattle.model.specs.declared.Session.{Session}
 use Rattle.model.specs.declared.Answer.{Answer}
 use Rattle.model.specs.declared.Code.{Code}
 use Rattle.model.specs.declared.Code.TheVariants.{BadParameter, BadDisk, Protected, BadRecord, NotCurrent}
-use Rattle.model.specs.declared.Kind.TheVariants.{Close, Read, Write}
+use Rattle.model.specs.declared.Kind.TheVariants.{Close, Write}
 use Rattle.model.specs.declared.Plan.{Plan}
 use Rattle.model.specs.declared.Plan.TheVariants.{Stay, Move, Make}
 use Rattle.model.specs.Codes.{a_of, h_of}
-use Rattle.model.specs.Kinds.{kind_of, uses_fcb_rule, is_call, same, of_record, one_of}
-use Rattle.model.specs.Lent.{Lent, Drive, Outcome, with_lifted, protected}
+use Rattle.model.specs.Kinds.{kind_of, uses_fcb_rule, is_call, one_of}
+use Rattle.model.specs.Lent.{Lent, Drive, with_lifted, protected}
 use Rattle.model.specs.Entering.{next_row_rule}
 use Rattle.model.specs.Target.{target_extent, present_entry, stays, target_entry, plan_to, plan_from, plan, moved, made}
 use Rattle.model.specs.Table.{time_right_rule, Row, when, first_row, changers, own_rows, protection_holds, verdict}
-use Rattle.model.specs.Calls.{closed_at, closed}
-use Rattle.model.specs.Stamps.{Stamp, time_stamp_rule, close_stamps, new_stamps, move_stamps, stamps_by, stamped_outcome}
+use Rattle.model.specs.Calls.{closed}
+use Rattle.model.specs.Stamps.{Stamp, time_stamp_rule, close_stamps, new_stamps, stamps_by}
 use Rattle.model.specs.Step.{step}
 use Rattle.table.specs.First.{◌&◌, NoneHolds, first_holds, first_passes}
-use Rattle.table.specs.Own.{calling, at_kind, same_is, ready_rows, verdict_rows}
+use Rattle.table.specs.Own.{calling, ready_rows, verdict_rows}
 use Rattle.table.specs.Protection.{lifted_spared, stopped_succeeds, succeeds_none}
 use Rattle.table.specs.Facts.{fits_lifted, Ready}
 use Rattle.table.specs.Reflect.{ready_of}
 use Rattle.table.proofs.Accept.{passes}
 use Rattle.table.specs.Total.{CarriedOut}
 use Rattle.table.proofs.Total.{total_refused, total_accepted}
-use Rattle.table.proofs.Accepted.{carried_says}
-use Rattle.table.specs.Stamping.{where_undated, record_stamps}
-use Rattle.demands.specs.Stamped.{stamped_as, stamped_as_law}
+use Rattle.demands.specs.Stamped.{stamped_as}
 use Rattle.demands.specs.Runs.{Request, Disk, lent_to, outcome_of, accepts, lifted_by}
 
 -- an answer with this A and H
@@ -124,7 +123,7 @@ module _ (G : Geometry) (asked : Asked) (l : Lent) (s : Session) where
       }
 
 module _ (G : Geometry) (asked : Asked) (l : Lent) (s : Session) (b : ℕ) (nonzero : b ≡ 0 → ⊥) where
-  abbrev CloseFollows : ℕ → Type 0
+  abbrev pub CloseFollows : ℕ → Type 0
   CloseFollows n = PastCurrent n (step G (calling n asked) l s).answer → CarriedOut G (calling 16 asked) l (with_lifted s b)
 
   -- 16 is ready where any call that uses the FCB is
@@ -146,7 +145,7 @@ module _ (G : Geometry) (asked : Asked) (l : Lent) (s : Session) (b : ℕ) (nonz
       (passes G (calling 16 asked) l (with_lifted s b) refl r (lifted_spared G (calling 16 asked) l (with_lifted s b) (ne_eqb b 0 nonzero)) (f & tt))
 
   -- 20 and 21 test the FCB first
-  after_sequential : (n : ℕ) (rs : List Row) → is_call n ≡ true → uses_fcb_rule n ≡ true → (one_of n changers ≡ false) ⊎ (kind_of n ≡ Write)
+  pub after_sequential : (n : ℕ) (rs : List Row) → is_call n ≡ true → uses_fcb_rule n ≡ true → (one_of n changers ≡ false) ⊎ (kind_of n ≡ Write)
       → own_rows G (calling n asked) l s ≡ when (not (is_found (present_entry G s.user l))) NotCurrent ∷ rs → CloseFollows n
   after_sequential n rs t u k own w =
       let o = by_own G (calling n asked) l s t k w in
@@ -155,7 +154,7 @@ module _ (G : Geometry) (asked : Asked) (l : Lent) (s : Session) (b : ℕ) (nonz
       (λ r. (past G (calling n asked) l s _ NotCurrent rs (r ∙ ap first_row own) w.current).0))
 
   -- 33 and 34 test the random record before it
-  after_random : (n : ℕ) (test : Bool) (rs : List Row) → is_call n ≡ true → uses_fcb_rule n ≡ true → (one_of n changers ≡ false) ⊎ (kind_of n ≡ Write)
+  pub after_random : (n : ℕ) (test : Bool) (rs : List Row) → is_call n ≡ true → uses_fcb_rule n ≡ true → (one_of n changers ≡ false) ⊎ (kind_of n ≡ Write)
       → own_rows G (calling n asked) l s ≡ when test BadRecord ∷ when (not (is_found (present_entry G s.user l))) NotCurrent ∷ rs → CloseFollows n
   after_random n test rs t u k own w =
       let o = by_own G (calling n asked) l s t k w in
@@ -164,16 +163,8 @@ module _ (G : Geometry) (asked : Asked) (l : Lent) (s : Session) (b : ℕ) (nonz
       (λ v. let r = past G (calling n asked) l s test BadRecord _ (v ∙ ap first_row own) w.random in
       (past G (calling n asked) l s _ NotCurrent rs r.1 w.current).0))
 
-  close_follows : of_record (kind_of asked.number) ≡ true → CloseFollows asked.number
-  unfolding is_call uses_fcb_rule kind_of
-  close_follows h =
-      split (bool_cases (same (kind_of asked.number) Read))
-      (λ t. at_kind CloseFollows Read asked.number refl (after_sequential 20 _ refl refl (inl refl) refl & after_random 33 _ _ refl refl (inl refl) refl & tt) (same_is _ _ t))
-      (λ f. at_kind CloseFollows Write asked.number refl (after_sequential 21 _ refl refl (inr refl) refl & after_random 34 _ _ refl refl (inr refl) refl & tt)
-      (same_is (kind_of asked.number) Write (rw f at h)))
-
 -- ---- a plan closes the FCB's own entry
-abbrev closed_by : Plan → ℕ
+abbrev pub closed_by : Plan → ℕ
 closed_by (Stay e b) = e
 closed_by (Move e t b) = e
 closed_by (Make e t b) = e
@@ -183,38 +174,11 @@ module _ (G : Geometry) (n user : ℕ) (l : Lent) where
   to_closes e (At t) = refl
   to_closes e Nothing = refl
 
-  plan_closes : closed_by (plan G n user l) ≡ number_of G.entries (present_entry G user l)
+  pub plan_closes : closed_by (plan G n user l) ≡ number_of G.entries (present_entry G user l)
   unfolding plan plan_from
   plan_closes = cond_either (λ (p : Plan). closed_by p ≡ number_of G.entries (present_entry G user l)) (stays n l.fcb) (λ t. refl) (λ f. to_closes _ (target_entry G n user l))
 
 -- the stamps of a close go by the time, not by the number of the call, nor by the protection
-close_stamps_law : (G : Geometry) (asked : Asked) (l : Lent) (s : Session) (b e : ℕ) → close_stamps G asked l s e ≡ close_stamps G (calling 16 asked) l (with_lifted s b) e
+pub close_stamps_law : (G : Geometry) (asked : Asked) (l : Lent) (s : Session) (b e : ℕ) → close_stamps G asked l s e ≡ close_stamps G (calling 16 asked) l (with_lifted s b) e
 unfolding close_stamps time_stamp_rule
 close_stamps_law G asked l s b e = refl
-
--- ---- the theorem, on every disk
-pub closes_first : (G : Geometry) (d : Disk) (q : Request) → of_record (kind_of q.asked.number) ≡ true → PastCurrent q.asked.number (outcome_of G d q).answer
-    → (b : ℕ) → (b ≡ 0 → ⊥) → ClosesFirst G d q b
-unfolding outcome_of kind_of closed closed_at moved made
-closes_first G d q k w b nonzero =
-    let c = close_follows G q.asked (lent_to d q) d.session b nonzero k w in
-    let by = record_stamps G q.asked (lent_to d q) d.session (kind_of q.asked.number) k in
-    let own : (p : Plan) → plan_of G d q ≡ p → number_of G.entries (present_entry G d.session.user (lent_to d q)) ≡ closed_by p =
-    λ p z. sym (plan_closes G q.asked.number d.session.user (lent_to d q)) ∙ ap closed_by z in
-    let closes : (e : ℕ) → number_of G.entries (present_entry G d.session.user (lent_to d q)) ≡ e
-    → close_stamps G q.asked (lent_to d q) d.session e ≡ stamps_of G (lifted_by b d) (to_close q) =
-    λ e z. close_stamps_law G q.asked (lent_to d q) d.session b e ∙ ap (close_stamps G (calling 16 q.asked) (lent_to d q) (with_lifted d.session b)) (sym z) in
-    let as-close = c.is ∙ stamped_as_law G (calling 16 q.asked) (lent_to d q) (with_lifted d.session b) Close refl in
-    record {
-      accepted = carried_says G (calling 16 q.asked) (lent_to d q) (with_lifted d.session b) c;
-      is = as-close;
-      undated = λ n. ap (λ (o : Outcome). o.lent.drive) as-close
-          ∙ ap (λ (xs : List Stamp). (stamped_outcome G xs (closed G (with_lifted d.session b) (lent_to d q))).lent.drive)
-          (where_undated (dated (entry_at G d.drive.image)) (stamps_by G (calling 16 q.asked) (lent_to d q) (with_lifted d.session b) Close) n);
-      moves = λ e t x z. (rw (own _ z), by ∙ ap (move_stamps G q.asked (lent_to d q) d.session) z ∙ closes e (own _ z));
-      makes = λ e t x z. (
-        rw (own _ z),
-        by ∙ ap (move_stamps G q.asked (lent_to d q) d.session) z
-            ∙ ap (λ (xs : List Stamp). xs ++ new_stamps G q.asked (lent_to d q) d.session t) (closes e (own _ z)),
-      );
-    }

@@ -11,4 +11,3 @@ pub mod StillCurrent
 pub mod ClosesFirst
 pub mod Erased
 pub mod Begins
-pub mod Eight

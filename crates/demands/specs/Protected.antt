@@ -1,6 +1,6 @@
 -- Document 02, [12]. On a protected session no call changes a byte of the image, and none but 13 and 98 one of the map; no call changes the
 -- protection, on any session; so nothing changes over any run in which it is never lifted. A read that it refuses succeeds once it is lifted, and a
--- call that it does not refuse does the same then, the stamp of an open aside.
+-- call that it does not refuse does the same then, the stamp of an open aside. The theorems of every call and of runs are in proofs/Protected.
 use Rattle.std.specs.Prelude.{◌≡◌, true, ℕ}
 use Rattle.std.proofs.Math.Path.{refl, ap, sym}
 use Rattle.std.proofs.Common.{◌∙◌}
@@ -47,7 +47,7 @@ use Rattle.table.specs.Total.{CarriedOut}
 use Rattle.table.proofs.Total.{total}
 use Rattle.demands.specs.Stamped.{stamped_as_law}
 use Rattle.demands.specs.Dates.{settles_image}
-use Rattle.demands.specs.Runs.{Request, Disk, lent_to, outcome_of, accepts, after, Act, one_call, lifts, protects, after_act, run}
+use Rattle.demands.specs.Runs.{Request, Disk, lent_to, outcome_of, accepts, after, Act, one_call, lifts, protects, after_act}
 
 -- ---- no call changes the protection, on any session
 module _ (G : Geometry) (asked : Asked) (l : Lent) (s : Session) where
@@ -69,7 +69,7 @@ pub record Unchanged (l : Lent) (n : ℕ) (o : Outcome) : Type 0 where
   pub image : o.lent.drive.image ≡ l.drive.image
   pub map : (accepted_answer n o.answer ≡ true → kind_of n ≡ Settle → ⊥) → o.lent.drive.map ≡ l.drive.map
 
-nothing_changed : (l : Lent) (n : ℕ) (o : Outcome) → o.lent.drive ≡ l.drive → Unchanged l n o
+pub nothing_changed : (l : Lent) (n : ℕ) (o : Outcome) → o.lent.drive ≡ l.drive → Unchanged l n o
 nothing_changed l n o q = record { image = ap (λ (d : Drive). d.image) q; map = λ z. ap (λ (d : Drive). d.map) q }
 
 -- a read whose move changes no entry leaves the drive, and makes no stamp
@@ -126,7 +126,7 @@ module _ (G : Geometry) (asked : Asked) (l : Lent) (s : Session) (p : protected 
       (ap (λ (o : Outcome). o.lent.drive) (c.is ∙ stamped_as_law G asked l s k q
       ∙ ap (λ (xs : List Stamp). stamped_outcome G (where_dated (dated (rows_of G l)) xs) (does G asked l s k)) w.1) ∙ w.0)
 
-  carried_leaves : Unchanged l asked.number (step G asked l s)
+  pub carried_leaves : Unchanged l asked.number (step G asked l s)
   carried_leaves =
       split (bool_cases (same (kind_of asked.number) Settle))
       (λ t. let q = same_is (kind_of asked.number) Settle t in record {
@@ -134,11 +134,6 @@ module _ (G : Geometry) (asked : Asked) (l : Lent) (s : Session) (p : protected 
         map = λ z. absurd (z (carried_says G asked l s c) q);
       })
       (λ f. unsettled_leaves (kind_of asked.number) refl f)
-
-pub protected_step : (G : Geometry) (asked : Asked) (l : Lent) (s : Session) → protected s ≡ true → Unchanged l asked.number (step G asked l s)
-protected_step G asked l s p =
-    split (total G asked l s) (λ r. nothing_changed l asked.number (step G asked l s) (ap (λ (x : Lent). x.drive) r.1.kept))
-    (λ c. carried_leaves G asked l s p c)
 
 -- ---- any run in which the protection is never lifted
 abbrev pub NeverLifted : List Act → Type 0
@@ -156,25 +151,9 @@ NeverSettled G d (protects ∷ acts) = NeverSettled G (after_act G d protects) a
 
 module _ (G : Geometry) where
   -- the disk stays protected
-  stays_protected : (d : Disk) (q : Request) → protected d.session ≡ true → protected (after G d q).session ≡ true
+  pub stays_protected : (d : Disk) (q : Request) → protected d.session ≡ true → protected (after G d q).session ≡ true
   unfolding protected after outcome_of
   stays_protected d q p = ap (λ (x : ℕ). eqb x 0) (lifted_stays G q.asked (lent_to d q) d.session) ∙ p
-
-  pub protected_image : (d : Disk) → protected d.session ≡ true → (acts : List Act) → NeverLifted acts → (run G d acts).drive.image ≡ d.drive.image
-  unfolding run after outcome_of protected
-  protected_image d p [] n = refl
-  protected_image d p (one_call q ∷ acts) n =
-      protected_image (after G d q) (stays_protected d q p) acts n ∙ (protected_step G q.asked (lent_to d q) d.session p).image
-  protected_image d p (lifts ∷ acts) n = absurd n
-  protected_image d p (protects ∷ acts) n = protected_image (after_act G d protects) refl acts n
-
-  pub protected_map : (d : Disk) → protected d.session ≡ true → (acts : List Act) → NeverLifted acts → NeverSettled G d acts → (run G d acts).drive.map ≡ d.drive.map
-  unfolding run after outcome_of protected
-  protected_map d p [] n m = refl
-  protected_map d p (one_call q ∷ acts) n m =
-      protected_map (after G d q) (stays_protected d q p) acts n m.1 ∙ (protected_step G q.asked (lent_to d q) d.session p).map m.0
-  protected_map d p (lifts ∷ acts) n m = absurd n
-  protected_map d p (protects ∷ acts) n m = protected_map (after_act G d protects) refl acts n m
 
 -- ---- where the row of 255, 2 does not hold the table is that of before, so it is once the protection is lifted
 pub spared_table : (G : Geometry) (asked : Asked) (l : Lent) (s : Session) → protection_holds G asked l s ≡ false
@@ -198,7 +177,7 @@ module _ (G : Geometry) (asked : Asked) (l : Lent) (s : Session) (b : ℕ) (nonz
   stopped_passes t r h f = passes G asked l (with_lifted s b) t (ready_lifted b r) spared_lifted (succeeds_none G asked l s (stopped_succeeds G asked l s h f))
 
   -- ---- a call that it does not refuse does the same once it is lifted, the stamp of an open aside
-  same_verdict : protection_holds G asked l s ≡ false → verdict G asked l (with_lifted s b) ≡ verdict G asked l s
+  pub same_verdict : protection_holds G asked l s ≡ false → verdict G asked l (with_lifted s b) ≡ verdict G asked l s
   unfolding parameters_right_rule
   same_verdict f = spared_table G asked l (with_lifted s b) spared_lifted ∙ sym (spared_table G asked l s f)
 
@@ -232,7 +211,7 @@ module _ (G : Geometry) (asked : Asked) (l : Lent) (s : Session) (b : ℕ) (nonz
   same_rule Read = same_reading (plan G asked.number s.user l)
   same_rule Write = same_writing (plan G asked.number s.user l)
 
-  same_carried : (v : Verdict) → carried_out G asked l (with_lifted s b) v ≡ relifted b (carried_out G asked l s v)
+  pub same_carried : (v : Verdict) → carried_out G asked l (with_lifted s b) v ≡ relifted b (carried_out G asked l s v)
   unfolding effect
   same_carried Passed = same_rule (kind_of asked.number)
   same_carried (Refused c) = same_refusal c
@@ -243,7 +222,7 @@ module _ (G : Geometry) (asked : Asked) (l : Lent) (s : Session) (b : ℕ) (nonz
   same_moves (Move e t k) = refl
   same_moves (Make e t k) = refl
 
-  same_stamps : (asked.number ≡ 15 → ⊥) → (k : Kind) → stamps_by G asked l (with_lifted s b) k ≡ stamps_by G asked l s k
+  pub same_stamps : (asked.number ≡ 15 → ⊥) → (k : Kind) → stamps_by G asked l (with_lifted s b) k ≡ stamps_by G asked l s k
   unfolding close_stamps new_stamps create_stamps
   same_stamps n Unlisted = refl
   same_stamps n Quiet = let z : eqb asked.number 15 ≡ false = ne_eqb _ _ n in rw z
@@ -257,10 +236,6 @@ module _ (G : Geometry) (asked : Asked) (l : Lent) (s : Session) (b : ℕ) (nonz
   same_stamps n Read = same_moves (plan G asked.number s.user l)
   same_stamps n Write = same_moves (plan G asked.number s.user l)
 
-  same_made : (asked.number ≡ 15 → ⊥) → (v : Verdict) → stamps_made G asked l (with_lifted s b) v ≡ stamps_made G asked l s v
-  same_made n Passed = ap (where_dated (dated (rows_of G l))) (same_stamps n (kind_of asked.number))
-  same_made n (Refused c) = refl
-
   module _ (f : protection_holds G asked l s ≡ false) where
     -- the answer, the map, the FCB and the buffer of any call
     pub lifted_tells : ((step G asked l (with_lifted s b)).answer ≡ (relifted b (step G asked l s)).answer)
@@ -271,8 +246,3 @@ module _ (G : Geometry) (asked : Asked) (l : Lent) (s : Session) (b : ℕ) (nonz
         let q : carried_out G asked l (with_lifted s b) (verdict G asked l (with_lifted s b)) ≡ relifted b (carried_out G asked l s (verdict G asked l s)) =
         ap (carried_out G asked l (with_lifted s b)) (same_verdict f) ∙ same_carried (verdict G asked l s) in
         (ap (λ (o : Outcome). o.answer) q, ap (λ (o : Outcome). o.lent.drive.map) q, ap (λ (o : Outcome). o.lent.fcb) q, ap (λ (o : Outcome). o.lent.buffer) q)
-
-    -- and the whole of any but an open
-    pub lifted_same : (asked.number ≡ 15 → ⊥) → step G asked l (with_lifted s b) ≡ relifted b (step G asked l s)
-    unfolding step
-    lifted_same n = rw (same_verdict f, same_made n (verdict G asked l s), same_carried (verdict G asked l s))

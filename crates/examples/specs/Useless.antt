@@ -34,7 +34,7 @@ use Rattle.demands.specs.Runs.{Request, Disk, lent_to, outcome_of, left, accepts
 use Rattle.demands.specs.Reading.{Gives, at_record_rule, record_number}
 use Rattle.demands.specs.ReadBack.{read_fcb}
 use Rattle.demands.specs.Begins.{Asks}
-use Rattle.demands.specs.Eight.{eight_read_back, eight_begins}
+use Rattle.demands.proofs.Eight.{eight_read_back, eight_begins}
 use Rattle.examples.specs.Erased.{ask_right, start, blank, notes, fitting, space_step, erased_count}
 use Rattle.examples.specs.OneFile.{one_file_rule, file_fcb, length_file_fcb, file_count, InRange, Entry, entry_of, drive_low, fcb_name, one_long, one_consistent, one_count, one_sized}
 

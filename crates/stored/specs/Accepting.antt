@@ -54,9 +54,11 @@ use Rattle.effects.specs.Effect.{RecsStay}
 use Rattle.effects.specs.Cur.{Cur, cur_current}
 use Rattle.effects.specs.Alike.{Alike, dates_alike, used_row}
 use Rattle.demands.specs.Runs.{Request, Disk, lent_to, outcome_of, left, accepts}
-use Rattle.demands.specs.Stamped.{stamped_as, stamps_alike, cur_on}
+use Rattle.demands.specs.Stamped.{stamped_as}
+use Rattle.demands.proofs.Stamped.{stamps_alike, cur_on}
 use Rattle.demands.specs.StillCurrent.{created_cur}
-use Rattle.demands.specs.ReadBack.{Wrote, wrote}
+use Rattle.demands.specs.ReadBack.{Wrote}
+use Rattle.demands.proofs.ReadBack.{wrote}
 use Rattle.demands.specs.Reading.{at_record_rule}
 use Rattle.stored.specs.Closed.{asks, Sane, seen_on, Begins, Fresh}
 use Rattle.stored.specs.Quiet.{lifted_left, range_left, sane_left, user_left, passed_accepts, sane_ready, carried, carried_is, sane_accepted, fresh_record, fresh_ready}

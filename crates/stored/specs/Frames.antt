@@ -37,7 +37,7 @@ use Rattle.effects.specs.Alike.{used_row, used_alike, alike_none}
 use Rattle.effects.specs.Closed.{by_name}
 use Rattle.effects.specs.Stamps.{Lies, lies, stamps_bytes}
 use Rattle.demands.specs.StepOk.{MayWrite}
-use Rattle.demands.specs.Stamped.{step_ok}
+use Rattle.demands.proofs.Stamped.{step_ok}
 use Rattle.demands.specs.Runs.{Request, Disk, lent_to, outcome_of, left, accepts}
 use Rattle.demands.specs.Reading.{rest_at_record}
 use Rattle.stored.specs.Closed.{Sane, seen_on, Begins, Fresh, Access, Restamped}

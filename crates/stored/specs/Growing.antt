@@ -37,8 +37,9 @@ use Rattle.effects.specs.Closed.{by_name}
 use Rattle.effects.specs.Alike.{Alike}
 use Rattle.current.specs.Current.{fcb_says}
 use Rattle.demands.specs.Runs.{Request, Disk, lent_to, outcome_of, left, accepts}
-use Rattle.demands.specs.Stamped.{stamped_as, stamps_alike, cur_on}
-use Rattle.demands.specs.ReadBack.{wrote}
+use Rattle.demands.specs.Stamped.{stamped_as}
+use Rattle.demands.proofs.Stamped.{stamps_alike, cur_on}
+use Rattle.demands.proofs.ReadBack.{wrote}
 use Rattle.demands.specs.Reading.{at_record_rule, rest_at_record}
 use Rattle.stored.specs.Closed.{asks, Sane, seen_on, Fresh}
 use Rattle.stored.specs.Quiet.{sane_left, user_left, carried, carried_is, fresh_record}

@@ -47,7 +47,8 @@ use Rattle.invariant.specs.Updates.{dates_beside}
 use Rattle.effects.specs.Cur.{cur_current}
 use Rattle.effects.specs.Entered.{entered_cur}
 use Rattle.demands.specs.StepOk.{ready_good}
-use Rattle.demands.specs.Stamped.{stamped_as_law, step_good}
+use Rattle.demands.specs.Stamped.{stamped_as_law}
+use Rattle.demands.proofs.Stamped.{step_good}
 use Rattle.demands.specs.Protected.{lifted_stays, read_unchanged}
 use Rattle.demands.specs.Runs.{Request, Disk, lent_to, outcome_of, left, accepts, after}
 use Rattle.demands.specs.ReadBack.{user_stays}

@@ -24,15 +24,21 @@ use Rattle.table.specs.Total.{CarriedOut, InRange}
 use Rattle.invariant.specs.Stamps.{newest}
 use Rattle.effects.specs.Book.{nothing_held}
 use Rattle.demands.specs.Runs.{Request, Disk, outcome_of, accepts, after, Act, lifted_disk, run, book_run}
-use Rattle.demands.specs.NothingLost.{NothingLost, Stays, nothing_lost, bytes_stay, system_stays}
+use Rattle.demands.specs.NothingLost.{NothingLost, Stays}
+use Rattle.demands.proofs.NothingLost.{nothing_lost, bytes_stay, system_stays}
 use Rattle.demands.specs.Reading.{Gives}
-use Rattle.demands.specs.ReadBack.{AllLeaveAlone, read_fcb, read_back}
-use Rattle.demands.specs.StillCurrent.{current_calls, still_current}
-use Rattle.demands.specs.ClosesFirst.{PastCurrent, ClosesFirst, closes_first}
-use Rattle.demands.specs.Dates.{stamp_after}
+use Rattle.demands.specs.ReadBack.{AllLeaveAlone, read_fcb}
+use Rattle.demands.proofs.ReadBack.{read_back}
+use Rattle.demands.specs.StillCurrent.{current_calls}
+use Rattle.demands.proofs.StillCurrent.{still_current}
+use Rattle.demands.specs.ClosesFirst.{PastCurrent, ClosesFirst}
+use Rattle.demands.proofs.ClosesFirst.{closes_first}
+use Rattle.demands.proofs.Dates.{stamp_after}
 use Rattle.demands.specs.Undated.{Plain, three_tests, plain_consistent}
-use Rattle.demands.specs.Protected.{NeverLifted, NeverSettled, protected_image, protected_map}
-use Rattle.demands.specs.Begins.{Asks, erased_begins}
+use Rattle.demands.specs.Protected.{NeverLifted, NeverSettled}
+use Rattle.demands.proofs.Protected.{protected_image, protected_map}
+use Rattle.demands.specs.Begins.{Asks}
+use Rattle.demands.proofs.Begins.{erased_begins}
 
 -- demand 2
 pub eight_read_back : (d : Disk) (w : Request) → kind_of w.asked.number ≡ Write → accepts eight_inch d w ≡ true

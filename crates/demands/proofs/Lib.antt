@@ -1,0 +1,10 @@
+pub mod StepOk
+pub mod Stamped
+pub mod Dates
+pub mod NothingLost
+pub mod ReadBack
+pub mod StillCurrent
+pub mod ClosesFirst
+pub mod Protected
+pub mod Begins
+pub mod Eight
