@@ -31,7 +31,8 @@ use Rattle.invariant.specs.Good.{Good}
 use Rattle.effects.specs.View.{view_of, Names}
 use Rattle.effects.specs.Effect.{Effect, Keeps}
 use Rattle.effects.specs.Cur.{Holds, holds_kept}
-use Rattle.effects.specs.Write.{HandedBack, written_ok}
+use Rattle.effects.specs.Write.{HandedBack}
+use Rattle.effects.proofs.Write.{written_ok}
 use Rattle.table.specs.Accepted.{accepted_carried}
 use Rattle.demands.specs.StepOk.{ready_good}
 use Rattle.demands.specs.Stamped.{stamped_as, stamped_as_law, holds_on, step_ok, step_accepted, step_good}

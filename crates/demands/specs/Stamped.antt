@@ -46,15 +46,17 @@ use Rattle.invariant.specs.Good.{Good, good_consistent, good_right}
 use Rattle.invariant.specs.Updates.{dates_beside}
 use Rattle.invariant.specs.Stamps.{Each, Placed, Stamped, where_cases, stamped_all, close_each, access_each, create_each, move_each, placed}
 use Rattle.effects.specs.View.{view_of}
-use Rattle.effects.specs.Effect.{NamesStay, notes_stay, then_effect, then_keeps}
+use Rattle.effects.specs.Effect.{NamesStay, notes_stay, then_keeps}
+use Rattle.effects.proofs.Effect.{then_effect}
 use Rattle.effects.specs.Cur.{Cur, cur_named, Holds}
 use Rattle.effects.specs.Where.{Where, by_rule, in_stamp, WritesNone, RuleBytes, Bytewise, rule_bytes, frame_more}
 use Rattle.effects.specs.Book.{Book, entry_after, written_book, book_by}
 use Rattle.effects.specs.Change.{where_after}
 use Rattle.effects.specs.Closed.{by_name}
 use Rattle.effects.specs.Came.{present_cur}
-use Rattle.effects.specs.Write.{written_ok, reads_ok}
-use Rattle.effects.specs.Alike.{Alike, alike_same, used_row, file_same, alike_stay, alike_none, alike_effect, cur_alike, holds_alike}
+use Rattle.effects.proofs.Write.{written_ok, reads_ok}
+use Rattle.effects.specs.Alike.{Alike, alike_same, used_row, file_same, alike_stay, alike_none}
+use Rattle.effects.proofs.Alike.{alike_effect, cur_alike, holds_alike}
 use Rattle.effects.specs.Stamps.{Lies, lies, stamps_bytes, stamped_alike}
 use Rattle.table.specs.Accepted.{accepted_answer, refused_says, carried_says}
 use Rattle.demands.specs.StepOk.{MayWrite, StepOk, GoodOutcome, CarriedOk, Carries, carries_ok, refused_ok, names_plain, Named, named_close, named_create, named_read, named_write, carried, settles, ready_good}

@@ -38,15 +38,20 @@ use Rattle.table.specs.Accepted.{accepted_answer}
 use Rattle.invariant.specs.Good.{Good, good_of}
 use Rattle.invariant.specs.Updates.{good_fresh, good_freed}
 use Rattle.effects.specs.View.{view_of}
-use Rattle.effects.specs.Effect.{Effect, Keeps, nothing_done, nothing_kept}
+use Rattle.effects.specs.Effect.{Effect, Keeps, nothing_kept}
+use Rattle.effects.proofs.Effect.{nothing_done}
 use Rattle.effects.specs.Where.{Bytewise, Frame, same_frame, WritesNone, OneRecord, one_more}
 use Rattle.effects.specs.Book.{Book, nothing_held, settled_by, closed_book, moved_book, deleted_book, written_book, book_by, book_step}
 use Rattle.effects.specs.Tracks.{Tracks, fresh_tracks, freed_tracks}
-use Rattle.effects.specs.Change.{Change, as_it_was, no_change, as_change}
-use Rattle.effects.specs.Closed.{by_name, closed_change}
-use Rattle.effects.specs.Picked.{erased_change, renamed_change, made_change}
+use Rattle.effects.specs.Change.{Change, as_it_was, as_change}
+use Rattle.effects.proofs.Change.{no_change}
+use Rattle.effects.specs.Closed.{by_name}
+use Rattle.effects.proofs.Closed.{closed_change}
+use Rattle.effects.specs.Picked.{made_change}
+use Rattle.effects.proofs.Picked.{erased_change, renamed_change}
 use Rattle.effects.specs.Came.{present_cur, present_before}
-use Rattle.effects.specs.Write.{OneOf, WriteOk, ReadOk, written_ok, reads_ok}
+use Rattle.effects.specs.Write.{OneOf, WriteOk, ReadOk}
+use Rattle.effects.proofs.Write.{written_ok, reads_ok}
 
 -- the disk records that a call may write: for an accepted 21 or 34 the one record of its target, in the block that the FCB handed back
 -- has for it, which was free before or belonged to an entry of the file; for any other call none

@@ -20,7 +20,8 @@ use Rattle.invariant.specs.Stamps.{Each, each_join, Placed, stamped_all}
 use Rattle.effects.specs.View.{View, view_of, Names}
 use Rattle.effects.specs.Effect.{Effect}
 use Rattle.effects.specs.Cur.{Cur, cur_uses}
-use Rattle.effects.specs.Alike.{Alike, alike_same, alike_back, dates_alike, asks_alike, used_row, empty_alike, empty_same, named_alike, file_alike, named_same, file_same, size_alike, alike_effect, cur_alike}
+use Rattle.effects.specs.Alike.{Alike, alike_same, alike_back, dates_alike, asks_alike, used_row, empty_alike, empty_same, named_alike, file_alike, named_same, file_same, size_alike}
+use Rattle.effects.proofs.Alike.{alike_effect, cur_alike}
 use Rattle.effects.specs.Stamps.{stamped_alike}
 use Rattle.demands.specs.Runs.{Disk}
 use Rattle.stored.specs.Closed.{Sane, seen_on, First, Stored, Fresh, Access, Restamped}
