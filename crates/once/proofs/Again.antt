@@ -19,9 +19,11 @@ use Rattle.model.specs.Stamps.{Stamp}
 use Rattle.model.specs.Table.{time_right_rule}
 use Rattle.demands.specs.Runs.{Disk, accepts}
 use Rattle.stored.specs.Closed.{seen_on, Begins, Stored, asks}
-use Rattle.stored.specs.Restamped.{sane_restamped, first_restamped, stored_restamped}
-use Rattle.stored.specs.Looking.{ReadsAs, blank_buffer, opening_of, reads_as, as_stored, as_first, size_small, size_accepted, size_told, stored_below}
-use Rattle.stored.specs.Told.{is_stored_law}
+use Rattle.stored.specs.Restamped.{sane_restamped, first_restamped}
+use Rattle.stored.proofs.Restamped.{stored_restamped}
+use Rattle.stored.specs.Looking.{ReadsAs, blank_buffer, opening_of, as_first, size_small, size_accepted, size_told, stored_below}
+use Rattle.stored.proofs.Looking.{reads_as, as_stored}
+use Rattle.stored.proofs.Told.{is_stored_law}
 use Rattle.picking.specs.declared.Wanted.{Wanted}
 use Rattle.picking.specs.declared.Time.{Time}
 use Rattle.picking.specs.declared.Pick.TheVariants.{Logged, Again, DayOver, NoBook, NoWord, OneFile, NoFirst, Other}

@@ -7,7 +7,8 @@ use Rattle.std.proofs.Math.Bool.{true, cond}
 use Rattle.format.specs.Diskette.{Bytes, Geometry, Sound, record_bytes}
 use Rattle.model.specs.Table.{time_right_rule}
 use Rattle.demands.specs.Runs.{Disk}
-use Rattle.stored.specs.Looking.{ReadsAs, reads_as, as_stored, opening_of}
+use Rattle.stored.specs.Looking.{ReadsAs, opening_of}
+use Rattle.stored.proofs.Looking.{reads_as, as_stored}
 use Rattle.picking.specs.declared.Wanted.{Wanted}
 use Rattle.picking.specs.declared.Time.{Time}
 use Rattle.picking.specs.Picker.{Picked, fcb_of_rule, last_day, call_at, picked}

@@ -21,10 +21,12 @@ use Rattle.model.specs.Stamps.{Stamp}
 use Rattle.effects.specs.Closed.{by_name}
 use Rattle.demands.specs.Runs.{Disk, outcome_of, accepts}
 use Rattle.stored.specs.Closed.{Sane, seen_on, First, Stored, Restamped, asks}
-use Rattle.stored.specs.Restamped.{sane_restamped, first_restamped, stored_restamped, size_restamped}
+use Rattle.stored.specs.Restamped.{sane_restamped, first_restamped, size_restamped}
+use Rattle.stored.proofs.Restamped.{stored_restamped}
 use Rattle.stored.specs.Kept.{first_kept, stored_kept}
 use Rattle.stored.specs.Looking.{ReadsAs, blank_buffer, stored_below}
-use Rattle.stored.specs.Grown.{Grown, grown_new, grown_stays, grown_size}
+use Rattle.stored.specs.Grown.{Grown, grown_new, grown_size}
+use Rattle.stored.proofs.Grown.{grown_stays}
 use Rattle.stored.specs.Elsewhere.{grown_effect}
 use Rattle.stored.specs.Told.{stored_is, stored_bytes}
 use Rattle.picking.specs.declared.Wanted.{Wanted}

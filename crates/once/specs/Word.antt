@@ -13,7 +13,8 @@ use Rattle.consistency.specs.Naming.{file_found}
 use Rattle.demands.specs.Runs.{Disk}
 use Rattle.stored.specs.Closed.{Sane, seen_on, First, Stored}
 use Rattle.stored.specs.Looking.{entry_name}
-use Rattle.stored.specs.Told.{stored_is, stored_bytes, is_stored_law}
+use Rattle.stored.specs.Told.{stored_is, stored_bytes}
+use Rattle.stored.proofs.Told.{is_stored_law}
 use Rattle.picking.specs.declared.Wanted.{Wanted}
 use Rattle.picking.specs.declared.Time.{Time}
 use Rattle.picking.specs.Picker.{fcb_of_rule, last_day}
