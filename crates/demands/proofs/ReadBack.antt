@@ -24,7 +24,8 @@ use Rattle.table.proofs.Total.{step_range}
 use Rattle.effects.specs.View.{view_of, Names}
 use Rattle.effects.specs.Effect.{Effect, Keeps}
 use Rattle.effects.specs.Cur.{Holds, holds_kept}
-use Rattle.effects.specs.Write.{HandedBack, written_ok}
+use Rattle.effects.specs.Write.{HandedBack}
+use Rattle.effects.proofs.Write.{written_ok}
 use Rattle.table.proofs.Accepted.{accepted_carried}
 use Rattle.demands.specs.StepOk.{ready_good}
 use Rattle.demands.specs.Stamped.{stamped_as, stamped_as_law}

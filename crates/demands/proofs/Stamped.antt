@@ -32,13 +32,15 @@ use Rattle.invariant.specs.Good.{Good}
 use Rattle.invariant.specs.Updates.{dates_beside}
 use Rattle.invariant.specs.Stamps.{Each, Placed, Stamped, where_cases, stamped_all, close_each, placed}
 use Rattle.effects.specs.View.{view_of}
-use Rattle.effects.specs.Effect.{NamesStay, notes_stay, then_effect, then_keeps}
+use Rattle.effects.specs.Effect.{NamesStay, notes_stay, then_keeps}
+use Rattle.effects.proofs.Effect.{then_effect}
 use Rattle.effects.specs.Cur.{Cur, Holds}
 use Rattle.effects.specs.Where.{Where, by_rule, in_stamp, RuleBytes, Bytewise, rule_bytes, frame_more}
 use Rattle.effects.specs.Book.{Book, entry_after, written_book, book_by}
 use Rattle.effects.specs.Change.{where_after}
-use Rattle.effects.specs.Write.{written_ok, reads_ok}
-use Rattle.effects.specs.Alike.{Alike, alike_same, used_row, file_same, alike_stay, alike_none, alike_effect, cur_alike, holds_alike}
+use Rattle.effects.proofs.Write.{written_ok, reads_ok}
+use Rattle.effects.specs.Alike.{Alike, alike_same, used_row, file_same, alike_stay, alike_none}
+use Rattle.effects.proofs.Alike.{alike_effect, cur_alike, holds_alike}
 use Rattle.effects.specs.Stamps.{Lies, lies, stamps_bytes, stamped_alike}
 use Rattle.table.proofs.Accepted.{refused_says}
 use Rattle.demands.specs.StepOk.{MayWrite, StepOk, GoodOutcome, CarriedOk, Carries, carries_ok, refused_ok, named_close, named_read, named_write, settles, ready_good}

@@ -18,7 +18,7 @@ use Rattle.table.specs.Accept.{closes_of, makes_of, renames_of, reads_of, writes
 use Rattle.table.specs.Accepted.{accepted_answer}
 use Rattle.invariant.specs.Good.{Good}
 use Rattle.effects.specs.Book.{book_by}
-use Rattle.effects.specs.Write.{written_ok, reads_ok}
+use Rattle.effects.proofs.Write.{written_ok, reads_ok}
 use Rattle.demands.specs.StepOk.{Carries, quiet, closed_carries, read_carries, written_carries, deleted_carries, created_carries, renamed_carries, user_lent}
 
 module _ {G : Geometry} (S : Sound G) (l : Lent) (s : Session) (f : Fits G l s) (g : Good G l.drive.image l.drive.map) where

@@ -37,7 +37,7 @@ use Rattle.effects.specs.Cur.{Cur, cur_current}
 use Rattle.effects.specs.Where.{WritesNone}
 use Rattle.effects.specs.Entered.{entered_cur, copied_cur, closed_cur}
 use Rattle.effects.specs.Came.{present_cur}
-use Rattle.effects.specs.Write.{written_ok, reads_ok}
+use Rattle.effects.proofs.Write.{written_ok, reads_ok}
 use Rattle.table.proofs.Accepted.{accepted_carried}
 use Rattle.demands.specs.StepOk.{ready_good}
 use Rattle.demands.specs.Stamped.{stamped_as_law}

@@ -2,13 +2,13 @@
 -- FCB the step from one to the other is a call that names no file.
 use Rattle.std.specs.Prelude.{◌≡◌, refl, Bool, true, false, ℕ, ◌≤◌, ◌<◌}
 use Rattle.std.proofs.Math.Path.{ap, sym}
-use Rattle.std.proofs.Common.{◌∙◌, inl}
+use Rattle.std.proofs.Common.{◌∙◌}
 use Rattle.std.proofs.Math.Dec.{eqb}
 use Rattle.lists.specs.Cases.{split, bool_cases, not_both, refute}
 use Rattle.lists.specs.Tests.{◌and◌, and_fails_left}
 use Rattle.lists.specs.Below.{any_cong}
 use Rattle.lists.specs.Fold.{fold_cong}
-use Rattle.format.specs.Diskette.{Bytes, Geometry, Sound, record_at}
+use Rattle.format.specs.Diskette.{Bytes, Geometry, record_at}
 use Rattle.format.specs.Entries.{entry_at, user_of, used, empty, named, is_file_rule, find_file_rule, find_named_rule, find_empty_rule}
 use Rattle.format.specs.Dates.{is_label, is_dates, asks}
 use Rattle.facts.specs.Found.{find_cong}
@@ -19,10 +19,8 @@ use Rattle.rows.specs.Entries.{area_records}
 use Rattle.model.specs.Calls.{larger_size_rule, file_size_rule}
 use Rattle.fields.specs.Agree.{used_cong, empty_cong}
 use Rattle.fields.specs.Size.{larger_miss}
-use Rattle.invariant.specs.Good.{Good}
 use Rattle.effects.specs.View.{View, view_of, Names}
-use Rattle.effects.specs.Effect.{Effect, NamesStay, NoneNew, none_one, notes_stay, recs_on}
-use Rattle.effects.specs.Cur.{Cur, Holds, cur_kept, holds_kept}
+use Rattle.effects.specs.Effect.{NamesStay, NoneNew}
 
 -- the same byte 0 in every row, the same rows but for date entries, and the same records past the directory
 pub record Alike (G : Geometry) (img img' : Bytes) : Type 0 where
@@ -121,25 +119,3 @@ module _ (G : Geometry) (img img' : Bytes) (a : Alike G img img') where
 
     pub alike_none : NoneNew G s t
     alike_none e l z = a.row e l (empty_no_dates (entry_at G img e) z)
-
-    module _ (good : Good G img map) where
-      pub alike_effect : (N : Names) → Effect G s t N
-      alike_effect N = record {
-        row = λ e f. used_row e f.low f.uses;
-        new = λ e l z. inl (alike_none e l z);
-        one_new = none_one G s t alike_none;
-        dat = λ b k e l m f. recs_on G s good.inv b k e l m t a.recs;
-      }
-
-      -- what is current or holds stays so
-      nobody : Names
-      nobody r = false
-
-      module _ (S : Sound G) (user : ℕ) (hu : user ≤ 15) (f : Bytes) (e : ℕ) where
-        pub cur_alike : Cur G (view_of G img map) user f e → Cur G (view_of G img' map) user f e
-        unfolding nobody
-        cur_alike c = cur_kept S s t nobody user hu f (alike_effect nobody) (notes_stay G s t nobody (λ b h. refl)) (λ r h. refl) e c
-
-        pub holds_alike : (rec : ℕ) (v : Bytes) → Holds G (view_of G img map) user f e rec v → Holds G (view_of G img' map) user f e rec v
-        unfolding nobody
-        holds_alike rec v h = holds_kept S s t nobody user hu f (alike_effect nobody) (notes_stay G s t nobody (λ b h. refl)) (λ r h. refl) e rec v h

@@ -1,6 +1,6 @@
 -- One change of an image and a map by the own rule of a call that names N: what it may do, byte by byte too, that it leaves labels and date
 -- entries alone and both image and map good, and what the book becomes. Changes follow one another, where one of the two makes no entry.
-use Rattle.std.specs.Prelude.{◌≡◌, refl, ◌⊎◌, true, false, ℕ, ◌<◌}
+use Rattle.std.specs.Prelude.{◌≡◌, true, false, ℕ, ◌<◌}
 use Rattle.std.proofs.Common.{ap, sym, ◌∙◌, inl, inr}
 use Rattle.lists.specs.Cases.{split, bool_cases, not_both}
 use Rattle.format.specs.Diskette.{Bytes, Geometry}
@@ -8,7 +8,7 @@ use Rattle.format.specs.Entries.{entry_at, empty, used}
 use Rattle.format.specs.Notes.{note_at_rule}
 use Rattle.invariant.specs.Good.{Good}
 use Rattle.effects.specs.View.{view_of, Names}
-use Rattle.effects.specs.Effect.{Effect, Keeps, NamesStay, NoneNew, AsideStay, nothing_done, nothing_kept, then_effect, then_keeps, more_effect, more_keeps}
+use Rattle.effects.specs.Effect.{Effect, Keeps, NamesStay, AsideStay, more_effect, more_keeps}
 use Rattle.effects.specs.Where.{Ruled, in_entry, in_new, in_record, RuleBytes, frame_more}
 use Rattle.effects.specs.Book.{Book}
 use Rattle.effects.specs.Tracks.{Tracks}
@@ -24,16 +24,6 @@ pub record Change (G : Geometry) (N : Names) (W : ℕ → Type 0) (B : Book → 
 
 abbrev pub as_it_was : Book → Book
 as_it_was u = u
-
-pub no_change : (G : Geometry) (N : Names) (W : ℕ → Type 0) (img map : Bytes) → Good G img map → Change G N W as_it_was img map img map
-no_change G N W img map g = record {
-  effect = nothing_done G (view_of G img map) N;
-  keeps = nothing_kept G (view_of G img map) N;
-  frame = λ i. inl refl;
-  aside = λ e l u z. refl;
-  good = g;
-  book = λ u t. t;
-}
 
 -- ---- a byte that the first of two changes touched lies where it lay
 module _ (G : Geometry) (N : Names) (img mid img' : Bytes) (W : ℕ → Type 0)
@@ -79,20 +69,6 @@ module _ (G : Geometry) (N : Names) (img map mid mid_map img' : Bytes) (w : Effe
       → RuleBytes G img mid N W → RuleBytes G mid img' N W → RuleBytes G img img' N W
   then_frame W stay first second i =
       split (second i) (λ q. split (first i) (λ p. inl (q ∙ p)) (λ p. inr (where_after G N img mid img' W stay i p))) (λ p. inr (where_before W stay i p))
-
-module _ (G : Geometry) (N : Names) (W : ℕ → Type 0) (B C : Book → Book) (img map mid mid_map img' map' : Bytes) where
-  pub then_change : Change G N W B img map mid mid_map → Change G N W C mid mid_map img' map'
-      → NamesStay G (view_of G mid mid_map) (view_of G img' map') N
-      → NoneNew G (view_of G img map) (view_of G mid mid_map) ⊎ NoneNew G (view_of G mid mid_map) (view_of G img' map')
-      → Change G N W (λ (u : Book). C (B u)) img map img' map'
-  then_change a b stay made = record {
-    effect = then_effect G (view_of G img map) (view_of G mid mid_map) N a.effect a.keeps (view_of G img' map') b.effect stay made;
-    keeps = then_keeps G (view_of G img map) (view_of G mid mid_map) N a.effect a.keeps (view_of G img' map') b.keeps;
-    frame = then_frame G N img map mid mid_map img' a.effect a.aside W stay a.frame b.frame;
-    aside = λ e l u z. let q = a.aside e l u z in b.aside e l (ap used q ∙ u) (ap empty q ∙ z) ∙ q;
-    good = b.good;
-    book = λ u t. b.book (B u) (a.book u t);
-  }
 
 -- what names more, allows more records, and leaves an equal book
 module _ (G : Geometry) (M N : Names) (U W : ℕ → Type 0) (A B : Book → Book) (img map img' map' : Bytes) where

@@ -51,10 +51,7 @@ module _ (G : Geometry) (s t u : View) (e : ℕ) (c : NewRow G s.rows u.rows e) 
   pub new_earlier : NoneNew G t u → NewRow G s.rows t.rows e
   new_earlier none = record { low = c.low; was = c.was; changed = λ q. c.changed (none e c.low (ap empty q ∙ c.was) ∙ q) }
 
--- ---- nothing done
-pub nothing_done : (G : Geometry) (s : View) (N : Names) → Effect G s s N
-nothing_done G s N = record { row = λ e f. refl; new = λ e l z. inl refl; one_new = none_one G s s (λ e l z. refl); dat = λ b k e l m f. refl }
-
+-- ---- what is pending stays
 pub notes_stay : (G : Geometry) (s t : View) (N : Names) → ((b : ℕ) → b < G.blocks → t.notes b ≡ s.notes b) → Keeps G s t N
 unfolding Keeps
 notes_stay G s t N q b e j l h f p = q b l ∙ p
@@ -86,21 +83,6 @@ module _ (G : Geometry) (s t : View) (N : Names) (w : Effect G s t N) where
     pub then_keeps : (u : View) → Keeps G t u N → Keeps G s u N
     unfolding Keeps
     then_keeps u kq b e j l h f q = kq b e j l h (foreign_on e f) (kp b e j l h f q)
-
-    -- what changed from s to u did so in the one step of the two that makes an entry
-    then_new : (u : View) → Effect G t u N → NoneNew G s t ⊎ NoneNew G t u → (e k : ℕ) → NewRow G s.rows u.rows e → NewRow G s.rows u.rows k → e ≡ k
-    then_new u x (inl none) e k a b = x.one_new e k (new_later G s t u e a none) (new_later G s t u k b none)
-    then_new u x (inr none) e k a b = w.one_new e k (new_earlier G s t u e a none) (new_earlier G s t u k b none)
-
-    pub then_effect : (u : View) → Effect G t u N → NamesStay G t u N → NoneNew G s t ⊎ NoneNew G t u → Effect G s u N
-    then_effect u x stay made = record {
-      row = λ e f. x.row e (foreign_on e f) ∙ w.row e f;
-      new = λ e l z. split (w.new e l z)
-          (λ q. split (x.new e l (ap empty q ∙ z)) (λ p. inl (p ∙ q)) (λ p. inr p))
-          (λ q. inr (stay e l q));
-      one_new = then_new u x made;
-      dat = λ b k e l m f. x.dat b k e l (mine_on b e f m) (foreign_on e f) ∙ w.dat b k e l m f;
-    }
 
 -- a call that names more may do more
 module _ (G : Geometry) (s t : View) (M N : Names) (more : (r : Bytes) → M r ≡ true → N r ≡ true) where

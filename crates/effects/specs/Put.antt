@@ -1,7 +1,7 @@
 -- A record written through a current FCB, on bytes: one change, by any naming that has the FCB's entry; and what the FCB reads then.
 use Rattle.std.specs.Prelude.{◌≡◌, ◌⊎◌, true, cond, ℕ, ◌*◌, ◌%◌, ◌≤◌, ◌<◌, eqb, length}
 use Rattle.std.proofs.Math.Path.{ap, sym, subst}
-use Rattle.std.proofs.Common.{◌∙◌, mod-lt, arith, eq-eqb, ne_eqb}
+use Rattle.std.proofs.Common.{◌∙◌, arith}
 use Rattle.std.proofs.Math.Logic.{inl, inr}
 use Rattle.lists.specs.Cases.{split, eq_or_ne}
 use Rattle.format.specs.Diskette.{Bytes, Geometry, Sound, record_bytes, record_at, with_record, slot_count, slots_on, extent_records}
@@ -9,7 +9,7 @@ use Rattle.format.specs.Entries.{entry_at, slot_of, slot_for_rule, extent_of, is
 use Rattle.format.specs.Notes.{free_note, note_at_rule, pending_for}
 use Rattle.format.specs.Fcb.{fcb_bytes, fcb_right_rule}
 use Rattle.notes.specs.Numbers.{pending_not}
-use Rattle.disk.specs.Records.{record_written, record_left}
+use Rattle.disk.specs.Records.{record_written}
 use Rattle.rows.specs.Entries.{block_past, entry_kept}
 use Rattle.facts.specs.Slots.{slot_for_below, slots_on_high}
 use Rattle.model.specs.Target.{place_in, written_map, written_fcb}
@@ -17,15 +17,11 @@ use Rattle.fields.specs.Agree.{is_file_asked}
 use Rattle.fields.specs.Target.{place_below, name_written, extent_written, slot_written, slot_written_other, target_counted, map_written_kept, note_written, note_written_other}
 use Rattle.invariant.specs.Close.{Held}
 use Rattle.invariant.specs.Good.{Good}
-use Rattle.invariant.specs.Updates.{good_record, good_taken}
-use Rattle.effects.specs.View.{view_of, Names, Mine, mine_one, mine_low, mine_not_free, spare_free}
-use Rattle.effects.specs.Effect.{Foreign, NamesStay, not_entry, notes_stay}
-use Rattle.effects.specs.Steps.{rows_names_stay, put_effect, take_keeps}
-use Rattle.effects.specs.Cur.{Cur, cur_uses, cur_mine, cur_zero, Holds, rec_slot}
-use Rattle.effects.specs.Where.{in_record, record_or_same}
+use Rattle.effects.specs.View.{view_of, Names, Mine, mine_low, spare_free}
+use Rattle.effects.specs.Effect.{NamesStay}
+use Rattle.effects.specs.Steps.{rows_names_stay}
+use Rattle.effects.specs.Cur.{Cur, cur_mine, cur_zero, Holds, rec_slot}
 use Rattle.effects.specs.Book.{Book, entered_for}
-use Rattle.effects.specs.Tracks.{Tracks, same_tracks, taken_tracks}
-use Rattle.effects.specs.Change.{Change}
 
 -- the block b for a slot: a free one where the slot is 0, else the slot's own
 pub record ForSlot (G : Geometry) (map : Bytes) (slot b : ℕ) : Type 0 where
@@ -63,55 +59,16 @@ module _ {G : Geometry} (S : Sound G) (img map : Bytes) (g : Good G img map) (us
   put_rows e l = entry_kept S img g.image_long (place_in G b r) (block_past G b (r % G.per_block) put_low) place buf hb e l
 
   -- ---- the notes
-  same_notes : (slot_of G f j ≡ 0 → ⊥) → (x : ℕ) → note_at_rule (written_map G map f t j b) x ≡ note_at_rule map x
+  pub same_notes : (slot_of G f j ≡ 0 → ⊥) → (x : ℕ) → note_at_rule (written_map G map f t j b) x ≡ note_at_rule map x
   same_notes z x = ap (λ (m : Bytes). note_at_rule m x) (map_written_kept G map f t j b z)
 
   pub put_noted : slot_of G f j ≡ 0 → note_at_rule (written_map G map f t j b) b ≡ pending_for t j
   put_noted z = note_written G map f t j b z (let w = g.map_long in let l = k.below in omega arith)
 
-  put_good : Good G (with_record G img (place_in G b r) buf) (written_map G map f t j b)
-  unfolding written_map
-  put_good =
-      let m : Good G img (written_map G map f t j b) = split (eq_or_ne (slot_of G f j) 0)
-      (λ z. rw (eq-eqb (slot_of G f j) 0 z) (good_taken G img map g b t j k.below (k.free z) c.low put_real (cur_uses G (view_of G img map) user hu f t c)))
-      (λ z. rw (ne_eqb (slot_of G f j) 0 z) g) in
-      good_record S img (written_map G map f t j b) m b r put_low k.below buf hb
-
-  put_tracks : (u : Book) → Tracks G u (note_at_rule map) → Tracks G (put_book G f t j b u) (note_at_rule (written_map G map f t j b))
-  unfolding put_book
-  put_tracks u tr =
-      split (eq_or_ne (slot_of G f j) 0)
-      (λ z. rw (eq-eqb (slot_of G f j) 0 z)
-      (taken_tracks G u (note_at_rule map) (note_at_rule (written_map G map f t j b)) b t j (put_noted z) (λ x l n. note_written_other G map f t j b x n) tr))
-      (λ z. rw (ne_eqb (slot_of G f j) 0 z) (same_tracks G u (note_at_rule map) (note_at_rule (written_map G map f t j b)) (λ x l. same_notes z x) tr))
-
   -- ---- the change
   module _ (N : Names) (nm : N (entry_at G img t) ≡ true) where
-    -- the block is no other entry's
-    not_theirs : (e : ℕ) → Foreign G (view_of G img map) N e → Mine G (view_of G img map) b e → ⊥
-    not_theirs e o m =
-        split (eq_or_ne (slot_of G f j) 0) (λ z. mine_not_free G (view_of G img map) g.inv b e m (k.free z))
-        (λ z. not_entry (view_of G img map) N t e nm o.other (mine_one G (view_of G img map) g.inv b e t m (put_mine z)))
-
     pub put_stay : NamesStay G (view_of G img map) (view_of G (with_record G img (place_in G b r) buf) (written_map G map f t j b)) N
     put_stay = rows_names_stay G (view_of G img map) (view_of G (with_record G img (place_in G b r) buf) (written_map G map f t j b)) N put_rows
-
-    pub put_change : (W : ℕ → Type 0) → W (place_in G b r)
-        → Change G N W (put_book G f t j b) img map (with_record G img (place_in G b r) buf) (written_map G map f t j b)
-    unfolding place_in
-    put_change W w =
-        let s = view_of G img map in
-        let s' = view_of G (with_record G img (place_in G b r) buf) (written_map G map f t j b) in
-        record {
-          effect = put_effect G s s' N g.inv b (r % G.per_block) (mod-lt r S.some_record) put_rows
-              (λ d p l n. record_left S img g.image_long (place_in G b r) place buf hb d l (λ z. n (sym z))) not_theirs;
-          keeps = split (eq_or_ne (slot_of G f j) 0) (λ z. take_keeps G s s' N b (k.free z) (λ x l n. note_written_other G map f t j b x n))
-              (λ z. notes_stay G s s' N (λ x l. same_notes z x));
-          frame = λ i. split (record_or_same S img g.image_long (place_in G b r) place buf hb i) (λ q. inl q) (λ p. inr (in_record (place_in G b r) p w));
-          aside = λ e l u z. put_rows e l;
-          good = put_good;
-          book = put_tracks;
-        }
 
   -- ---- the FCB afterwards, with the entry's count and cr as they are given
   module _ (count cr : ℕ) (right : fcb_right_rule (written_fcb G f count j b r cr) ≡ true) where

@@ -1,17 +1,15 @@
 -- The effects of a change, by what it does to rows, notes and records: named entries change, an empty entry becomes theirs, a record is
 -- written; and when what is pending for others stays so.
-use Rattle.std.specs.Prelude.{◌≡◌, ◌⊎◌, true, false, ℕ, ◌≤◌, ◌<◌}
-use Rattle.std.proofs.Common.{ap, sym, ◌∙◌, subst, inl, inr, arith}
+use Rattle.std.specs.Prelude.{◌≡◌, ◌⊎◌, true, false, ℕ, ◌<◌}
+use Rattle.std.proofs.Common.{ap, sym, ◌∙◌, inl, inr, arith}
 use Rattle.lists.specs.Cases.{split, bool_cases, eq_or_ne, not_both}
-use Rattle.format.specs.Diskette.{Geometry, disk_record, slot_count}
+use Rattle.format.specs.Diskette.{Geometry, slot_count}
 use Rattle.format.specs.Entries.{empty, used}
 use Rattle.format.specs.Notes.{free_note, pending_for}
 use Rattle.consistency.specs.Reflect.{used_full, empty_elsewhere}
 use Rattle.notes.specs.Numbers.{pending_once, pending_not}
-use Rattle.disk.specs.Places.{block_records, block_once}
-use Rattle.rows.specs.Entries.{area_records}
-use Rattle.effects.specs.View.{View, Right, Names, NewRow, Mine}
-use Rattle.effects.specs.Effect.{Foreign, Effect, Keeps, NoneNew, none_one, NamesStay, AsideStay, RecsStay, not_entry, mine_past, mine_below, recs_on}
+use Rattle.effects.specs.View.{View, Right, Names, NewRow}
+use Rattle.effects.specs.Effect.{Effect, Keeps, NoneNew, NamesStay, AsideStay, RecsStay, recs_on}
 
 -- ---- rows
 -- no empty entry is named
@@ -32,19 +30,8 @@ pub made_aside : (G : Geometry) (s t : View) (e : ℕ) → empty (s.rows e) ≡ 
 made_aside G s t e void there k l u z = there k l (λ q. not_both (empty (s.rows k)) (ap (λ (x : ℕ). empty (s.rows x)) q ∙ void) z)
 
 module _ (G : Geometry) (s t : View) (N : Names) (v : Right G s) (recs : RecsStay G s t) where
-  pub named_effect : NamesUsed G s N → ((e : ℕ) → e < G.entries → N (s.rows e) ≡ false → t.rows e ≡ s.rows e) → Effect G s t N
-  named_effect sure kept = record {
-    row = λ e f. kept e f.low f.other;
-    new = λ e l z. inl (named_none G s t N sure kept e l z);
-    one_new = none_one G s t (named_none G s t N sure kept);
-    dat = λ b k e l m f. recs_on G s v b k e l m t recs;
-  }
-
   -- one entry
   module _ (e : ℕ) (there : (k : ℕ) → k < G.entries → (k ≡ e → ⊥) → t.rows k ≡ s.rows k) where
-    pub one_effect : NamesUsed G s N → N (s.rows e) ≡ true → Effect G s t N
-    one_effect sure nm = named_effect sure (λ k l n. there k l (not_entry s N e k nm n))
-
     -- an empty entry becomes a row that is named
     module _ (void : empty (s.rows e) ≡ true) (nm : N (t.rows e) ≡ true) where
       pub made_effect : Effect G s t N
@@ -68,19 +55,6 @@ RowsStay G s t = (e : ℕ) → e < G.entries → t.rows e ≡ s.rows e
 
 pub rows_names_stay : (G : Geometry) (s t : View) (N : Names) → RowsStay G s t → NamesStay G s t N
 rows_names_stay G s t N rows e l h = ap N (rows e l) ∙ h
-
--- record k of block b is written, and the block is no other entry's
-module _ (G : Geometry) (s t : View) (N : Names) (v : Right G s) (b k : ℕ) (hk : k < G.per_block) (rows : RowsStay G s t)
-    (recs : (d : ℕ) → area_records G ≤ d → d < block_records G → (d ≡ disk_record G b k → ⊥) → t.recs d ≡ s.recs d)
-    (own : (e : ℕ) → Foreign G s N e → Mine G s b e → ⊥) where
-  pub put_effect : Effect G s t N
-  put_effect = record {
-    row = λ e f. rows e f.low;
-    new = λ e l z. inl (rows e l);
-    one_new = none_one G s t (λ e l z. rows e l);
-    dat = λ c i e l m f. recs (disk_record G c i) (mine_past G s v c i e l m) (mine_below G s v c i e l m)
-        (λ q. own e f (subst (λ (y : ℕ). Mine G s y e) (block_once G c i b k l hk q).0 m));
-  }
 
 -- ---- notes
 -- a note that changes was not pending for an entry of others

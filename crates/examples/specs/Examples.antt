@@ -1,14 +1,12 @@
 -- Document 01's checked examples, as one table: each says what the definitions give at the example's input, and its `-met` that there is such an input.
-use Rattle.std.specs.Prelude.{◌≡◌, refl, true, false, [], ◌∷◌, ℕ, ◌≤◌, length, replicate}
-use Rattle.std.proofs.Common.{inl, inr, arith}
+use Rattle.std.specs.Prelude.{◌≡◌, true, false, [], ◌∷◌, ℕ, ◌≤◌, length}
 use Rattle.table.specs.Own.{calling}
-use Rattle.format.specs.Diskette.{Bytes, eight_inch, image_bytes, disk_record, offset_of, slots_on, LongBy}
+use Rattle.format.specs.Diskette.{Bytes, eight_inch, disk_record, offset_of}
 use Rattle.format.specs.Names.{name_right_rule}
 use Rattle.format.specs.Entries.{entry_at, user_of, ex_of, extent_of, named}
 use Rattle.format.specs.Consistent.{consistent}
 use Rattle.format.specs.Notes.{is_listed}
 use Rattle.format.specs.Fcb.{fcb_bytes, cr_of}
-use Rattle.disk.specs.Eight.{eight_sound}
 use Rattle.model.specs.declared.Asked.{Asked}
 use Rattle.model.specs.declared.Session.{Session}
 use Rattle.model.specs.Table.{time_right_rule}
@@ -17,15 +15,13 @@ use Rattle.model.specs.Search.{pattern_of, extent_hit_rule, hit}
 use Rattle.model.specs.Kinds.{one_of}
 use Rattle.model.specs.Entering.{three_bytes}
 use Rattle.table.specs.Facts.{Ready}
-use Rattle.fields.specs.Erased.{ErasedDisk, all_erased}
-use Rattle.examples.specs.Places.{place_a, place_b, place_c, place_d}
-use Rattle.examples.specs.Erased.{start, blank, notes, Fitting, fitting, SpaceIs, erased_space}
-use Rattle.examples.specs.Numbers.{Gives, HasEntry, size_largest, position_256}
-use Rattle.examples.specs.Random.{RandomIs, Six, Last, random_six, random_last}
-use Rattle.examples.specs.Pattern.{AllAny, any_named_law, any_hit}
-use Rattle.examples.specs.OneFile.{file_fcb, length_file_fcb}
-use Rattle.examples.specs.Met.{LentWith, Largest, SlotOf, any_met, random_met, position_met, largest_met, slot_met}
-use Rattle.examples.specs.Slots.{image_slot, slot_allowed, slot_refused}
+use Rattle.fields.specs.Erased.{ErasedDisk}
+use Rattle.examples.specs.Erased.{Fitting, SpaceIs}
+use Rattle.examples.specs.Numbers.{Gives, HasEntry}
+use Rattle.examples.specs.Random.{RandomIs, Six, Last}
+use Rattle.examples.specs.Pattern.{AllAny}
+use Rattle.examples.specs.Met.{LentWith, Largest, SlotOf}
+use Rattle.examples.specs.Slots.{image_slot}
 
 pub record Examples : Type 0 where
   -- block 0 record 0 at 6,656; block 0 record 1 at 7,424; block 3 record 2 at 9,984; block 242 record 7 at 254,336
@@ -65,37 +61,3 @@ pub record Examples : Type 0 where
   pub j_242 : (img : Bytes) (e j : ℕ) → SlotOf img e j → is_listed eight_inch (entry_at eight_inch img) 242 ≡ false
       → consistent eight_inch (image_slot eight_inch img e j 242) ≡ true
   pub j_met : (img : Bytes) × SlotOf img 0 0 × (is_listed eight_inch (entry_at eight_inch img) 2 ≡ false) × (is_listed eight_inch (entry_at eight_inch img) 242 ≡ false)
-
--- on disks made of one of E5H throughout. size is a number of its own, so that the image is never written out
-examples_on : (size : ℕ) → LongBy eight_inch size → Examples
-unfolding slots_on
-examples_on size is =
-    let img : Bytes = replicate size 229 in
-    let erased : ErasedDisk eight_inch img = all_erased eight_sound size is in
-    record {
-      a = place_a;
-      b = place_b;
-      c = place_c;
-      d = place_d;
-      e_number = refl;
-      e = erased_space;
-      e_met = (img, notes, file_fcb, blank, start, erased, fitting file_fcb length_file_fcb);
-      f_last = random_last eight_inch;
-      f_over = random_six eight_inch;
-      f_met = random_met img erased;
-      g = size_largest eight_inch;
-      g_met = largest_met img erased;
-      h = position_256 eight_inch;
-      h_met = position_met img erased;
-      i_name = any_named_law;
-      i_pattern = any_hit eight_inch;
-      i_met = any_met;
-      j_1 = λ img e j p. slot_refused eight_sound img p.long e j 1 p.entry p.slot p.uses (λ z. omega arith) (inl (omega arith));
-      j_243 = λ img e j p. slot_refused eight_sound img p.long e j 243 p.entry p.slot p.uses (λ z. omega arith) (inr (omega arith));
-      j_2 = λ img e j p free. slot_allowed eight_sound img p.long e j 2 p.entry p.slot p.uses p.right free (omega arith) (omega arith);
-      j_242 = λ img e j p free. slot_allowed eight_sound img p.long e j 242 p.entry p.slot p.uses p.right free (omega arith) (omega arith);
-      j_met = slot_met img erased;
-    }
-
-pub examples : Examples
-examples = examples_on (image_bytes eight_inch) refl

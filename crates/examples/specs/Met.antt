@@ -1,14 +1,14 @@
 -- The examples speak of something: disks, straight after a log-in, and FCBs on which what each of them asks for holds.
 use Rattle.std.specs.Prelude.{◌≡◌, true, false, [], ◌∷◌, ◌++◌, ℕ, ◌+◌, ◌≤◌, ◌<◌, eqb, length, get_or, replicate}
 use Rattle.std.proofs.Math.Path.{refl}
-use Rattle.std.proofs.Common.{ap, sym, ◌∙◌, subst, arith, eqb-true}
+use Rattle.std.proofs.Common.{arith, eqb-true}
 use Rattle.lists.specs.Tests.{◌and◌}
 use Rattle.lists.specs.Below.{all_below, all_at}
 use Rattle.format.specs.Diskette.{Bytes, eight_inch, slot_count, Long}
 use Rattle.format.specs.Names.{name_right_rule}
 use Rattle.format.specs.Entries.{entry_at, rc_of, used, extent_of}
 use Rattle.format.specs.Consistent.{consistent}
-use Rattle.format.specs.Notes.{is_listed, fresh_map}
+use Rattle.format.specs.Notes.{fresh_map}
 use Rattle.format.specs.Fcb.{fcb_bytes, cr_of}
 use Rattle.model.specs.declared.Asked.{Asked}
 use Rattle.model.specs.declared.Session.{Session}
@@ -19,10 +19,9 @@ use Rattle.disk.specs.Eight.{eight_sound}
 use Rattle.table.specs.Own.{calling}
 use Rattle.table.specs.Facts.{Ready}
 use Rattle.examples.specs.Erased.{start, blank, notes, fitting, fitting_lifted, logged_ready}
-use Rattle.examples.specs.Numbers.{Gives, HasEntry, size_largest}
+use Rattle.examples.specs.Numbers.{Gives, HasEntry}
 use Rattle.examples.specs.Random.{RandomIs}
 use Rattle.examples.specs.Pattern.{AllAny}
-use Rattle.examples.specs.OneFile.{InRange, entry_of, one_file_rule, file_fcb, length_file_fcb, file_full, fcb_name, one_long, one_rc, one_consistent, one_only, one_uses, rest_unlisted, one_lent, one_ready, one_entry}
 
 -- a disk of one entry, of extent 2,047 with this rc, on which 35 gives 00H 00H 04H
 pub record Largest (rc : ℕ) (asked : Asked) : Type 0 where
@@ -76,41 +75,3 @@ module _ (img : Bytes) (erased : ErasedDisk eight_inch img) where
   pub position_met : (asked : Asked) → time_right_rule asked ≡ true → LentWith asked (λ (f : Bytes). (extent_of f ≡ 1) × (cr_of f ≡ 128))
   unfolding extent_of
   position_met asked time = with_fcb _ asked time at_end refl (omega arith) (refl, refl)
-
-  pub largest_met : (rc : ℕ) → 128 ≤ rc → (asked : Asked) → time_right_rule asked ≡ true → Largest rc asked
-  largest_met rc high asked time =
-      let f = entry_of 2047 rc 2 in
-      let full = file_full f high in
-      let range : InRange f = record { extent = omega arith; low = omega arith; high = omega arith } in
-      let fit = fitting file_fcb length_file_fcb in
-      let ready = one_ready img erased f range notes blank start refl fit asked time in
-      let own = one_entry img erased f range notes blank start refl fit asked time in
-      let l = one_lent img erased f range notes blank start refl fit asked time in
-      let has = subst (HasEntry eight_inch l (ended start) 2047) full own in
-      record {
-        lent = l;
-        session = ended start;
-        ready = ready;
-        name = fcb_name;
-        has = has;
-        byte = λ e h u. ap (λ (x : ℕ). rc_of (entry_at eight_inch (one_file_rule img f) x)) (one_only img erased f range e h u) ∙ one_rc img erased f range;
-        only = λ e g h k u v. one_only img erased f range e h u ∙ sym (one_only img erased f range g k v);
-        gives = size_largest eight_inch asked _ (ended start) ready fcb_name has;
-      }
-
-  -- it lists block 3 alone
-  pub slot_met : (i : Bytes) × SlotOf i 0 0 × (is_listed eight_inch (entry_at eight_inch i) 2 ≡ false) × (is_listed eight_inch (entry_at eight_inch i) 242 ≡ false)
-  slot_met =
-      let f = entry_of 0 1 3 in
-      let range : InRange f = record { extent = omega arith; low = omega arith; high = omega arith } in (
-        one_file_rule img f,
-        record {
-          long = one_long img erased f range;
-          right = one_consistent img erased f range;
-          entry = omega arith;
-          slot = omega arith;
-          uses = one_uses img erased f range;
-        },
-        rest_unlisted img erased f range 2 (omega arith) (λ q. omega arith),
-        rest_unlisted img erased f range 242 (omega arith) (λ q. omega arith),
-      )

@@ -2,13 +2,13 @@
 -- or on one with a single file, straight after a log-in.
 use Rattle.std.proofs.Math.Path.{◌≡◌, refl, ap}
 use Rattle.std.proofs.Common.{sym, ◌∙◌, arith}
-use Rattle.std.specs.Prelude.{true, List, [], ◌∷◌, ℕ, zero, suc, ◌*◌, ◌%◌, ◌≤◌, length, replicate}
+use Rattle.std.specs.Prelude.{true, List, [], ◌∷◌, ℕ, zero, suc, ◌*◌, ◌%◌, length, replicate}
 use Rattle.std.proofs.Math.ListN.{get_or, length-replicate}
 use Rattle.lists.specs.Cases.{split, eq_or_ne}
 use Rattle.lists.specs.Tests.{◌and◌}
 use Rattle.lists.specs.Splice.{splice}
 use Rattle.table.specs.Own.{ask, verdict_unlisted}
-use Rattle.format.specs.Diskette.{Bytes, record_bytes, image_bytes, eight_inch, LongBy, Long}
+use Rattle.format.specs.Diskette.{Bytes, record_bytes, eight_inch, Long}
 use Rattle.format.specs.Entries.{entry_at}
 use Rattle.format.specs.Consistent.{consistent}
 use Rattle.format.specs.Fcb.{fcb_bytes}
@@ -27,7 +27,7 @@ use Rattle.model.specs.Table.{time_right_rule}
 use Rattle.model.specs.Step.{effect, stamped, step}
 use Rattle.fields.specs.Entering.{length_copied}
 use Rattle.fields.specs.Making.{length_made_row}
-use Rattle.fields.specs.Erased.{ErasedDisk, all_erased, erased_consistent}
+use Rattle.fields.specs.Erased.{ErasedDisk, erased_consistent}
 use Rattle.table.proofs.Total.{total, total_refused}
 use Rattle.table.specs.Accepted.{accepted_answer}
 use Rattle.demands.specs.Runs.{Request, Disk, lent_to, outcome_of, left, accepts, after, lifted_disk, run}
@@ -36,7 +36,7 @@ use Rattle.demands.specs.ReadBack.{read_fcb}
 use Rattle.demands.specs.Begins.{Asks}
 use Rattle.demands.proofs.Eight.{eight_read_back, eight_begins}
 use Rattle.examples.specs.Erased.{ask_right, start, blank, notes, fitting, space_step, erased_count}
-use Rattle.examples.specs.OneFile.{one_file_rule, file_fcb, length_file_fcb, file_count, InRange, Entry, entry_of, drive_low, fcb_name, one_long, one_consistent, one_count, one_sized}
+use Rattle.examples.specs.OneFile.{file_fcb, length_file_fcb, drive_low, fcb_name}
 
 -- a build answers a call by its place in a run, counted from 0, and by what is asked, lent and handed on
 abbrev pub Build : Type 0
@@ -106,34 +106,17 @@ module _ (img : Bytes) (long : Long eight_inch img) (right : consistent eight_in
   space_answers : ((on_logged 46 img).answer.a ≡ 0) × ((on_logged 46 img).answer.h ≡ 0)
   space_answers = let two = space_step eight_inch img long right notes file_fcb blank start (fitting file_fcb length_file_fcb) (ask 0) (ask_right 0) in (rw two, rw two)
 
-  space_byte : (count : ℕ) → free_count_rule eight_inch (fresh_map eight_inch (entry_at eight_inch img)) ≡ count → get_or (on_logged 46 img).lent.buffer 0 0 ≡ 8 * count % 256
+  pub space_byte : (count : ℕ) → free_count_rule eight_inch (fresh_map eight_inch (entry_at eight_inch img)) ≡ count → get_or (on_logged 46 img).lent.buffer 0 0 ≡ 8 * count % 256
   unfolding splice
   space_byte count q = let two = space_step eight_inch img long right notes file_fcb blank start (fitting file_fcb length_file_fcb) (ask 0) (ask_right 0) in rw (two, q)
-
--- a file of r records in block 2
-abbrev small : ℕ → Entry
-small r = entry_of 0 r 2
-
-in_range : (r : ℕ) → InRange (small r)
-in_range r = record { extent = omega arith; low = omega arith; high = omega arith }
 
 module _ (img : Bytes) (erased : ErasedDisk eight_inch img) where
   -- the erased disk: 46 answers 0, 0, and the first byte is 88H
   erased_answers : ((on_logged 46 img).answer.a ≡ 0) × ((on_logged 46 img).answer.h ≡ 0)
   erased_answers = space_answers img erased.long (erased_consistent eight_inch img erased eight_sound)
 
-  erased_byte : get_or (on_logged 46 img).lent.buffer 0 0 ≡ 136
+  pub erased_byte : get_or (on_logged 46 img).lent.buffer 0 0 ≡ 136
   erased_byte = space_byte img erased.long (erased_consistent eight_inch img erased eight_sound) 241 (erased_count eight_sound img erased)
-
-  -- with a file of r records: the first byte is 80H, and file A has r records
-  one_byte : (r : ℕ) → get_or (on_logged 46 (one_file_rule img (small r))).lent.buffer 0 0 ≡ 128
-  one_byte r =
-      space_byte (one_file_rule img (small r)) (one_long img erased (small r) (in_range r)) (one_consistent img erased (small r) (in_range r)) 240
-      (one_count img erased (small r) (in_range r) refl)
-
-  one_size : (r : ℕ) → r ≤ 128 → get_or (on_logged 35 (one_file_rule img (small r))).lent.fcb 33 0 ≡ r
-  unfolding splice file_fcb
-  one_size r h = let two = one_sized img erased (small r) (in_range r) notes blank start refl (fitting file_fcb length_file_fcb) (ask 0) (ask_right 0) in rw (two, file_count (small r) h) (omega arith)
 
 -- ---- a write that `step` accepts: the first one to a file made on an erased disk that is logged in, with the protection lifted
 abbrev asking : ℕ → Bytes → Bytes → Request
@@ -264,26 +247,6 @@ module _ (img : Bytes) (erased : ErasedDisk eight_inch img) where
     lost = λ g. let z : ◌≡◌ {A = ℕ} 0 1 = ap (λ (x : Bytes). get_or x 0 0) g.is_buffer in omega arith;
   }
 
-  -- an answer that does not go by the disk is wrong on one of two disks
-  one_of_two : (b : Build) (asked : Asked) (l m : Lent) (s : Session) (byte : Outcome → ℕ)
-      → byte (b 1 asked l s) ≡ byte (b 1 asked m s) → (byte (step eight_inch asked l s) ≡ byte (step eight_inch asked m s) → ⊥) → Falls b
-  one_of_two b asked l m s byte same differ =
-      split (eq_or_ne (byte (b 1 asked l s)) (byte (step eight_inch asked l s)))
-      (λ y. record { place = 1; asked = asked; lent = m; session = s; differs = λ q. differ (sym y ∙ same ∙ ap byte q) })
-      (λ n. record { place = 1; asked = asked; lent = l; session = s; differs = λ q. n (ap byte q) })
-
-  pub space_falls : (b : Build) → MakesUpSpace b → Falls b
-  space_falls b f =
-      one_of_two b (ask 46) (lent_after img) (lent_after (one_file_rule img (small 1))) (ended start) (λ (o : Outcome). get_or o.lent.buffer 0 0)
-      (ap (λ (l : Bytes). get_or l 0 0) (f 1 (lent_after img) (lent_after (one_file_rule img (small 1))) (ended start) record { same_fcb = refl; same_buffer = refl }))
-      (λ q. omega (arith, erased_byte img erased, one_byte img erased 1))
-
-  pub sizes_fall : (b : Build) → MakesUpSizes b → Falls b
-  sizes_fall b f =
-      one_of_two b (ask 35) (lent_after (one_file_rule img (small 1))) (lent_after (one_file_rule img (small 2))) (ended start) (λ (o : Outcome). get_or o.lent.fcb 33 0)
-      (ap (λ (l : Bytes). get_or l 33 0) (f 1 (lent_after (one_file_rule img (small 1))) (lent_after (one_file_rule img (small 2))) (ended start) record { same_fcb = refl; same_buffer = refl }))
-      (λ q. omega (arith, one_size img erased 1 (omega arith), one_size img erased 2 (omega arith)))
-
 -- ---- together, on a disk of E5H throughout
 -- a build that is none of these
 pub record Useful (b : Build) : Type 0 where
@@ -306,31 +269,3 @@ pub record Useless : Type 0 where
   -- and the right build does not fall, and is none of them
   pub right_stands : Falls right → ⊥
   pub right_useful : Useful right
-
-pub useless : (size : ℕ) → LongBy eight_inch size → Useless
-useless size is =
-    let img : Bytes = replicate size 229 in
-    let erased : ErasedDisk eight_inch img = all_erased eight_sound size is in
-    let stands : Falls right → ⊥ = λ f. f.differs refl in
-    record {
-      refuses_all = refuses_all_falls img erased;
-      fixed = fixed_falls img erased;
-      nothing = nothing_falls img erased;
-      first_only_law = first_only_falls img erased;
-      first_only_write = first_only_forgets img erased;
-      made_up_space = space_falls img erased;
-      made_up_sizes = sizes_fall img erased;
-      right_stands = stands;
-      right_useful = record {
-        not_refusing = λ f. stands (refuses_all_falls img erased right f);
-        not_fixed = λ a f. stands (fixed_falls img erased a right f);
-        not_idle = λ f. stands (nothing_falls img erased right f);
-        not_first_only = λ f. let x = first_only_falls img erased in x.differs (f x.place x.asked x.lent x.session);
-        not_forgetting = right_remembers;
-        not_space = λ f. stands (space_falls img erased right f);
-        not_sizes = λ f. stands (sizes_fall img erased right f);
-      };
-    }
-
-pub useless_builds : Useless
-useless_builds = useless (image_bytes eight_inch) refl

@@ -3,7 +3,6 @@ pub mod Begun
 pub mod Bytes
 pub mod Calls
 pub mod Deciding
-pub mod Eight
 pub mod Grew
 pub mod Growth
 pub mod Lifting

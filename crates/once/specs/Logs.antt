@@ -6,33 +6,31 @@ use Rattle.std.proofs.Math.Bool.{true, false, cond}
 use Rattle.std.proofs.Math.Dec.{eqb}
 use borrow.Author.Tests.{leb-false}
 use Rattle.lists.specs.Cases.{split, bool_cases, cond_either}
-use Rattle.lists.specs.Tests.{◌and◌, and_both, and_fails_right}
+use Rattle.lists.specs.Tests.{◌and◌}
 use Rattle.lists.specs.Below.{any_below, any_cong}
 use Rattle.format.specs.Diskette.{Bytes, Geometry, Sound}
 use Rattle.format.specs.Entries.{entry_at, find_file_rule}
-use Rattle.format.specs.Found.{is_found}
 use Rattle.format.specs.declared.Found.TheVariants.{At}
 use Rattle.facts.specs.Find.{file_says}
-use Rattle.model.specs.Lent.{Outcome, ended}
+use Rattle.model.specs.Lent.{ended}
 use Rattle.model.specs.Stamps.{Stamp}
 use Rattle.model.specs.Table.{asked_entry}
 use Rattle.fields.specs.Agree.{SameName}
-use Rattle.demands.specs.Runs.{Disk, lent_to, outcome_of, left, accepts}
+use Rattle.demands.specs.Runs.{Disk, lent_to, outcome_of, accepts}
 use Rattle.stored.specs.Closed.{Sane, seen_on, First, Fresh, Access, Restamped}
 use Rattle.stored.specs.Restamped.{restamped_none, restamped_more, restamped_then, access_before}
-use Rattle.stored.specs.Quiet.{opened_ended}
-use Rattle.stored.specs.Looking.{Opening, opening_of, opened_restamped, size_small}
+use Rattle.stored.specs.Looking.{size_small}
 use Rattle.stored.specs.Told.{extent_entry, bytes_stored, entry_named, told_named, bytes_named}
 use Rattle.picking.specs.declared.Wanted.{Wanted}
 use Rattle.picking.specs.declared.Time.{Time}
 use Rattle.picking.specs.declared.Pick.{Pick}
-use Rattle.picking.specs.declared.Pick.TheVariants.{Logged, Again, NoFirst, Other}
+use Rattle.picking.specs.declared.Pick.TheVariants.{Logged, Again}
 use Rattle.picking.specs.Numbers.{says_of}
-use Rattle.picking.specs.Picker.{Logging, fcb_of_rule, blank, has_stamp_rule, full_log, call_at, is_code, opening, writing, searched, added, written, extended}
-use Rattle.once.specs.Bytes.{Named, begins_fcb_of, ex_fcb_of}
-use Rattle.once.specs.Calls.{Timed, open_by, open_accepts}
+use Rattle.picking.specs.Picker.{Logging, fcb_of_rule, has_stamp_rule, full_log, call_at, opening, writing, searched, added, written}
+use Rattle.once.specs.Bytes.{Named, ex_fcb_of}
+use Rattle.once.specs.Calls.{Timed}
 use Rattle.once.specs.Growth.{LogGrew, grew_restamped, write_grew}
-use Rattle.once.specs.Same.{log_same, extent_same, size_same, entry_same}
+use Rattle.once.specs.Same.{log_same}
 use Rattle.once.specs.Search.{has_at, searched_is}
 use Rattle.once.specs.Table.{name_is, has_entry, extent_at, size_is, record_is, bytes_are, has_day, next_entry, log_locked, no_block, growing, log_answer}
 use Rattle.once.specs.Writing.{written_logged, written_trouble, written_by, lifted_refused, trouble_by}
@@ -83,7 +81,7 @@ module _ {G : Geometry} (S : Sound G) (t : Time) (timed : Timed t) (w : Wanted) 
   sizes_small d sane = size_small G d sane log
 
   -- the entry that an open asked for
-  asked_is : (d : Disk) (e : ℕ) → asked_entry G (lent_to d (opening t w.log)) d.session.user ≡ At e → extent_at G d w.log 0 ≡ At e
+  pub asked_is : (d : Disk) (e : ℕ) → asked_entry G (lent_to d (opening t w.log)) d.session.user ≡ At e → extent_at G d w.log 0 ≡ At e
   unfolding asked_entry extent_at
   asked_is d e q = ap (find_file_rule G (entry_at G d.drive.image) d.session.user log 1) (sym (ex_fcb_of w.log nm.log)) ∙ q
 
@@ -131,7 +129,7 @@ module _ {G : Geometry} (S : Sound G) (t : Time) (timed : Timed t) (w : Wanted) 
     unfolding has_day
     found_is = any_cong _ _ n (λ r h. has_is r)
 
-    searched_run : d.session ≡ ended d.session → LogRun G t w d (added G t w (searched G t w d f n) f n)
+    pub searched_run : d.session ≡ ended d.session → LogRun G t w d (added G t w (searched G t w d f n) f n)
     unfolding added growing
     searched_run over =
         let small : n ≤ 262144 = sizes_small d k.sane in
@@ -144,41 +142,3 @@ module _ {G : Geometry} (S : Sound G) (t : Time) (timed : Timed t) (w : Wanted) 
         (λ h. rw h (split (bool_cases (leb full_log n))
         (λ full. rw full (stayed (sym (answer_is ∙ rw (h, full))) refl still))
         (λ full. rw full (added_run full h)))))
-
-  -- ---- a log that has entries: it is opened
-  module _ (d : Disk) (sane : Sane G d) (name : name_is w.log ≡ true) (some : has_entry G d w.log ≡ true) where
-    abbrev o : Outcome
-    o = outcome_of G d (opening t w.log)
-
-    abbrev m : Disk
-    m = left o
-
-    restamped : Restamped G (LogAccess G t w d) d m
-    restamped = opened_restamped S (call_at t 0) d log blank
-
-    pub found_run : is_found (extent_at G d w.log 0) ≡ true → LogRun G t w d (extended G t w d (size_is G d w.log))
-    unfolding extended
-    found_run h =
-        let a : accepts G d (opening t w.log) ≡ true = open_accepts d sane t timed w.log nm.log ∙ and_both _ _ name h in
-        let op = opening_of S (call_at t 0) d log (begins_fcb_of w.log nm.log) blank a in
-        let size : size_is G m w.log ≡ size_is G d w.log = size_same S (LogAccess G t w d) d m sane restamped w.log in
-        rw (a, ← size)
-        (run_before d m sane restamped (added G t w (searched G t w m o.lent.fcb (size_is G m w.log)) o.lent.fcb (size_is G m w.log))
-        (searched_run m o.lent.fcb op.at.entry op.at.fresh op.same (at_entry a op) name
-        (entry_same S (LogAccess G t w d) d m sane restamped w.log ∙ some) (over a)))
-      where
-        at_entry : accepts G d (opening t w.log) ≡ true → (op : Opening G (call_at t 0) d log blank) → extent_at G m w.log 0 ≡ At op.at.entry
-        at_entry a op = extent_same S (LogAccess G t w d) d m sane restamped w.log 0 ∙ asked_is d op.at.entry op.at.asked
-
-        over : accepts G d (opening t w.log) ≡ true → m.session ≡ ended m.session
-        over a = let q = opened_ended S d (opening t w.log) refl a in q ∙ ap ended (sym q)
-
-    pub missed_run : is_found (extent_at G d w.log 0) ≡ false → (n : ℕ) → LogRun G t w d (extended G t w d n)
-    unfolding extended is_code log_answer ◌and◌
-    missed_run h n =
-        let a : accepts G d (opening t w.log) ≡ false =
-        open_accepts d sane t timed w.log nm.log ∙ and_fails_right (name_is w.log) (is_found (extent_at G d w.log 0)) h in
-        let p : cond (eqb o.answer.a 255 and eqb o.answer.h 0) NoFirst (Other o.answer.a o.answer.h) ≡ NoFirst =
-        ap (λ (b : Bool). cond b Logged (cond (eqb o.answer.a 255 and eqb o.answer.h 0) NoFirst (Other o.answer.a o.answer.h))) (sym a)
-        ∙ open_by d sane t timed w.log nm.log Logged (λ x y. cond (eqb x 255 and eqb y 0) NoFirst (Other x y)) ∙ rw (name, h) in
-        rw (a, p) (stayed (rw (name, some, h)) refl restamped)

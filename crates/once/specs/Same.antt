@@ -18,8 +18,10 @@ use Rattle.model.specs.Target.{read_only_in}
 use Rattle.effects.specs.Alike.{used_row}
 use Rattle.demands.specs.Runs.{Disk}
 use Rattle.stored.specs.Closed.{Sane, seen_on, Stored, Restamped}
-use Rattle.stored.specs.Restamped.{sane_restamped, restamped_alike, find_empty_restamped, find_named_restamped, find_file_restamped, size_restamped, stored_restamped, stored_before}
-use Rattle.stored.specs.Told.{block_in, stored_is, stored_bytes, is_stored_law}
+use Rattle.stored.specs.Restamped.{sane_restamped, restamped_alike, find_empty_restamped, find_named_restamped, find_file_restamped, size_restamped}
+use Rattle.stored.proofs.Restamped.{stored_restamped, stored_before}
+use Rattle.stored.specs.Told.{block_in, stored_is, stored_bytes}
+use Rattle.stored.proofs.Told.{is_stored_law}
 use Rattle.picking.specs.declared.Wanted.{Wanted}
 use Rattle.picking.specs.Picker.{fcb_of_rule, has_stamp_rule}
 use Rattle.once.specs.Table.{has_entry, extent_at, size_is, record_is, bytes_are, some_empty, some_free, has_day, next_entry, log_locked, no_block, growing, beginning, log_answer}

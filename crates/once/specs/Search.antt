@@ -12,7 +12,7 @@ use Rattle.model.specs.Table.{time_right_rule}
 use Rattle.demands.specs.Runs.{Disk, outcome_of, left, accepts}
 use Rattle.stored.specs.Closed.{Fresh, seen_on}
 use Rattle.stored.specs.Quiet.{fresh_record, fresh_read_disk}
-use Rattle.stored.specs.Reading as Reading
+use Rattle.stored.proofs.Reading as Reading
 use Rattle.stored.specs.Told.{is_stored, bytes_stored}
 use Rattle.picking.specs.declared.Wanted.{Wanted}
 use Rattle.picking.specs.declared.Time.{Time}

@@ -1,29 +1,26 @@
--- Theorem 1: the word is what call 33 gives for that record through a fresh open, on the disk as it came; it is handed out whenever it can be read,
--- and else the bytes lent stay.
-use Rattle.std.specs.Prelude.{◌≡◌, Bool, false, ◌*◌, ◌≤◌, ◌<◌, length}
-use Rattle.std.proofs.Math.Path.{ap, sym, subst}
-use Rattle.std.proofs.Common.{◌∙◌, arith}
-use Rattle.std.proofs.Math.Bool.{true, cond, not}
+-- What it says that the word can be read.
+use Rattle.std.specs.Prelude.{◌≡◌, ◌≤◌, length}
+use Rattle.std.proofs.Math.Path.{ap}
+use Rattle.std.proofs.Math.Bool.{true, not}
 use borrow.Author.Tests.{eqb-true, eq-eqb, ltb-false, le-ltb, not-true}
 use Rattle.lists.specs.Tests.{and_left, and_right, and_both}
-use Rattle.format.specs.Diskette.{Bytes, Geometry, Sound, record_bytes}
+use Rattle.format.specs.Diskette.{Bytes, Geometry, record_bytes}
 use Rattle.format.specs.Entries.{entry_at}
 use Rattle.format.specs.Found.{is_found}
 use Rattle.facts.specs.Found.{is_found_law}
 use Rattle.facts.specs.Naming.{file_named}
 use Rattle.consistency.specs.Naming.{file_found}
-use Rattle.model.specs.Table.{time_right_rule}
 use Rattle.demands.specs.Runs.{Disk}
 use Rattle.stored.specs.Closed.{Sane, seen_on, First, Stored}
-use Rattle.stored.specs.Looking.{entry_name, ReadsAs, reads_as, as_stored, opening_of}
-use Rattle.stored.specs.Told.{stored_is, stored_bytes, is_stored_law}
+use Rattle.stored.specs.Looking.{entry_name}
+use Rattle.stored.specs.Told.{stored_is, stored_bytes}
+use Rattle.stored.proofs.Told.{is_stored_law}
 use Rattle.picking.specs.declared.Wanted.{Wanted}
 use Rattle.picking.specs.declared.Time.{Time}
-use Rattle.picking.specs.Picker.{Picked, fcb_of_rule, last_day, call_at, picked}
-use Rattle.once.specs.Bytes.{Named, begins_fcb_of}
+use Rattle.picking.specs.Picker.{fcb_of_rule, last_day}
 use Rattle.once.specs.Calls.{Timed}
 use Rattle.once.specs.Logs.{first_at_law}
-use Rattle.once.specs.Picks.{has_word, pick_run}
+use Rattle.once.specs.Picks.{has_word}
 use Rattle.once.specs.Right.{timed_of, sane_of, parameters_of, disk_of_law}
 use Rattle.once.specs.Table.{name_is, extent_at, bytes_are}
 
@@ -76,35 +73,3 @@ module _ {G : Geometry} (t : Time) (w : Wanted) (d : Disk) (buffer : Bytes) wher
         (stored_is G (seen_on G d) d.session.user (fcb_of_rule w.book) w.day v sane.good.inv.dir sane.range.user k)))))),
     stored_bytes G (seen_on G d) d.session.user (fcb_of_rule w.book) w.day v sane.good.inv.dir sane.range.user k,
   )
-
--- ---- theorem 1
-module _ {G : Geometry} (S : Sound G) (countable : G.per_block * G.blocks < 16777216) (t : Time) (w : Wanted) (nm : Named w) (d : Disk) (buffer : Bytes) where
-  abbrev p : Picked
-  p = picked G t w d buffer
-
-  -- a word that is handed out is the day's record of the book
-  pub word_read : (picked G t w d buffer).given ≡ true → ReadsAs G (call_at t 0) d (fcb_of_rule w.book) w.day (picked G t w d buffer).word
-  unfolding time_right_rule
-  word_read g =
-      let x = pick_run S countable t w nm d buffer in
-      let h : has_word G t w d buffer ≡ true = sym x.given ∙ g in
-      let c = can_read t w d buffer h in
-      subst (ReadsAs G (call_at t 0) d (fcb_of_rule w.book) w.day) (sym (x.word ∙ rw h))
-      (reads_as S (call_at t 0) d (fcb_of_rule w.book) (begins_fcb_of w.book nm.book) w.day (bytes_are G d w.book w.day) c.sane c.timed c.first c.stored)
-
-  -- without a word the bytes lent stay
-  pub word_as_lent : (picked G t w d buffer).given ≡ false → (picked G t w d buffer).word ≡ buffer
-  word_as_lent g =
-      let x = pick_run S countable t w nm d buffer in
-      let h : has_word G t w d buffer ≡ false = sym x.given ∙ g in x.word ∙ rw h
-
-  -- whenever it can be read it is handed out, whatever the answer
-  pub word_handed_out : w.day ≤ last_day → length buffer ≡ record_bytes → (v : Bytes) → ReadsAs G (call_at t 0) d (fcb_of_rule w.book) w.day v
-      → ((picked G t w d buffer).given ≡ true) × ((picked G t w d buffer).word ≡ v)
-  unfolding time_right_rule
-  word_handed_out day long v k =
-      let x = pick_run S countable t w nm d buffer in
-      let op = opening_of S (call_at t 0) d (fcb_of_rule w.book) (begins_fcb_of w.book nm.book) _ k.opens in
-      let h = read_can t w d buffer v day op.time op.sane op.first long
-      (as_stored S (call_at t 0) d (fcb_of_rule w.book) (begins_fcb_of w.book nm.book) w.day v (omega arith) k) in
-      (x.given ∙ h.0, x.word ∙ ap (λ (b : Bool). cond b (bytes_are G d w.book w.day) buffer) h.0 ∙ h.1)

@@ -192,10 +192,10 @@ module _ {G : Geometry} (S : Sound G) (s t : View) (right : Right G s) (user : �
     block_r : ℕ
     block_r = slot_of G (s.rows h.entry) (slot_at_record G r)
 
-    uses_r : used (s.rows h.entry) ≡ true
+    pub uses_r : used (s.rows h.entry) ≡ true
     uses_r = file_used G user f 1 (r / 128) (s.rows h.entry) h.file hu
 
-    below_r : slot_at_record G r < slot_count
+    pub below_r : slot_at_record G r < slot_count
     below_r = slot_for_low S (r / 128) (r % 128) (omega arith)
 
     stands_r : Stands G s.rows block_r h.entry (slot_at_record G r)
@@ -241,7 +241,7 @@ module _ {G : Geometry} (S : Sound G) (s t : View) (right : Right G s) (user : �
         (place_below S block_r (r % 128) (stands_high G s right block_r h.entry (slot_at_record G r) stands_r)) apart
 
     -- an entry that has the slot still, and counts no fewer
-    stays_by : slot_of G (t.rows h.entry) (slot_at_record G r) ≡ slot_of G (s.rows h.entry) (slot_at_record G r)
+    pub stays_by : slot_of G (t.rows h.entry) (slot_at_record G r) ≡ slot_of G (s.rows h.entry) (slot_at_record G r)
         → end_of (s.rows h.entry) ≤ end_of (t.rows h.entry) → Stored G t user f r u
     unfolding block_r
     stays_by slot end = record {
@@ -252,21 +252,6 @@ module _ {G : Geometry} (S : Sound G) (s t : View) (right : Right G s) (user : �
       real = λ z. h.real (sym slot ∙ z);
       dat = ap (λ (b : ℕ). t.recs (place_in G b (r % 128))) slot ∙ recs_r ∙ h.dat;
     }
-
-    pub grown_stays : Stored G t user f r u
-    grown_stays =
-        split (eq_or_ne h.entry g.entry)
-        (λ q. split g.was
-        (λ w. let row : s.rows h.entry ≡ g.base = ap s.rows q ∙ w.0 in
-        let here : t.rows h.entry ≡ t.rows g.entry = ap t.rows q in
-        let at : slot_of G (s.rows h.entry) (slot_at_record G r) ≡ slot_of G g.base (slot_at_record G r) = ap (λ (x : Bytes). slot_of G x (slot_at_record G r)) row in
-        let old : end_of (s.rows h.entry) ≡ end_of g.base = ap end_of row in
-        let new : end_of (t.rows h.entry) ≡ max (end_of g.base) (n + 1) = ap end_of here ∙ g.end in
-        stays_by (ap (λ (x : Bytes). slot_of G x (slot_at_record G r)) here ∙ g.kept (slot_at_record G r) below_r (λ z. h.real (at ∙ z)) ∙ sym at) (omega arith))
-        (λ w. not_both (empty (s.rows g.entry)) w.0 (used_full (s.rows g.entry) (sym (ap (λ (x : ℕ). used (s.rows x)) q) ∙ uses_r))))
-        (λ q. let row : t.rows h.entry ≡ s.rows h.entry = g.others h.entry h.low (used_no_dates (s.rows h.entry) uses_r) q in
-        let end : end_of (t.rows h.entry) ≡ end_of (s.rows h.entry) = ap end_of row in
-        stays_by (ap (λ (x : Bytes). slot_of G x (slot_at_record G r)) row) (omega arith))
 
   -- ---- the size: where the record is the one past the last
   module _ (q : n ≡ file_size_rule G s.rows (named false user f 1)) where

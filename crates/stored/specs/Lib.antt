@@ -9,7 +9,6 @@ pub mod Looking
 pub mod Meeting
 pub mod OnlyNamed
 pub mod Quiet
-pub mod Reading
 pub mod Restamped
 pub mod Told
 pub mod Writing

@@ -4,7 +4,7 @@ use Rattle.std.proofs.Math.Path.{refl, ap}
 use Rattle.std.proofs.Common.{sym, ◌∙◌, subst, arith}
 use Rattle.std.proofs.Math.Bool.{false}
 use Rattle.lists.specs.Cases.{not_both}
-use Rattle.lists.specs.Splice.{copies, length_copies}
+use Rattle.lists.specs.Splice.{copies}
 use Rattle.format.specs.Diskette.{Bytes, Geometry, Sound, record_bytes, extent_records}
 use Rattle.format.specs.Names.{name_right_rule}
 use Rattle.format.specs.Entries.{entry_at, ex_of, is_file_rule, named, find_file_rule, find_named_rule}
@@ -34,10 +34,8 @@ use Rattle.table.specs.Protection.{other_spared}
 use Rattle.demands.specs.Runs.{Disk, outcome_of, left, accepts}
 use Rattle.demands.specs.Reading.{at_record_rule}
 use Rattle.stored.specs.Closed.{asks, Sane, seen_on, Begins, First, Stored, Access, Restamped}
-use Rattle.stored.specs.Kept.{stored_name}
-use Rattle.stored.specs.Restamped.{restamped_more, stored_restamped, stored_before}
+use Rattle.stored.specs.Restamped.{restamped_more}
 use Rattle.stored.specs.Quiet.{passed_accepts, carried, carried_is, sane_accepted, sane_ready, OpenedAt, opened_at_law, open_same}
-use Rattle.stored.specs.Reading.{stored_accepted, stored_read, accepted_stored}
 
 -- ---- asking by the name in f, on a disk that is right
 module _ (G : Geometry) (d : Disk) (sane : Sane G d) (f : Bytes) where
@@ -158,48 +156,6 @@ opened_restamped {G} S a d f b =
     (Access G a d f) (λ x h. record { first = h.first; time = h.time; low = h.low; file = h.file; asked = h.asked; dates = h.dates; lifted = h.lifted })
     (open_same S d (asks a 15 f b) refl)
 
-module _ {G : Geometry} (S : Sound G) (a : Asked) (d : Disk) (f : Bytes) (begins : Begins f) (b : Bytes) (x : accepts G d (asks a 15 f b) ≡ true) where
-  o : Opening G a d f b
-  o = opening_of S a d f begins b x
-
-  abbrev user : ℕ
-  user = d.session.user
-
-  abbrev t : Disk
-  t = opened_disk G a d f b
-
-  abbrev g : Bytes
-  g = opened_fcb G a d f b
-
-  restamped : Restamped G (Access G a d f) d t
-  restamped = opened_restamped S a d f b
-
-  to_opened : (r : ℕ) (v : Bytes) → Stored G (seen_on G d) user f r v → Stored G (seen_on G t) t.session.user g r v
-  to_opened r v k =
-      subst (λ (u : ℕ). Stored G (seen_on G t) u g r v) (sym restamped.user)
-      (stored_name G (seen_on G t) user f g o.same r v (stored_restamped S _ d t o.sane restamped user o.sane.range.user f r v k))
-
-  from_opened : (r : ℕ) (v : Bytes) → Stored G (seen_on G t) t.session.user g r v → Stored G (seen_on G d) user f r v
-  from_opened r v k =
-      stored_before S _ d t o.sane restamped user o.sane.range.user f r v
-      (stored_name G (seen_on G t) user g f (λ i l. sym (o.same i l)) r v (subst (λ (u : ℕ). Stored G (seen_on G t) u g r v) restamped.user k))
-
-  module _ (r : ℕ) (buffer : Bytes) where
-    -- a closed record is read, and is what was stored
-    module _ (v : Bytes) (k : Stored G (seen_on G d) user f r v) (hb : length buffer ≡ record_bytes) where
-      pub look_accepted : accepts G t (asks a 33 (at_record_rule g r) buffer) ≡ true
-      look_accepted = stored_accepted S a t g o.at.entry o.at.fresh r buffer v (to_opened r v k) o.time hb
-
-      pub look_gives : (outcome_of G t (asks a 33 (at_record_rule g r) buffer)).lent.buffer ≡ v
-      look_gives = stored_read S a t g o.at.entry o.at.fresh r buffer v (to_opened r v k) o.time hb
-
-    -- what is read was stored
-    pub look_stored : r < 16777216 → accepts G t (asks a 33 (at_record_rule g r) buffer) ≡ true
-        → Stored G (seen_on G d) user f r (outcome_of G t (asks a 33 (at_record_rule g r) buffer)).lent.buffer
-    look_stored small y =
-        from_opened r (outcome_of G t (asks a 33 (at_record_rule g r) buffer)).lent.buffer
-        (accepted_stored S a t g o.at.entry o.at.fresh r buffer small y)
-
 -- ---- both ways, as one: record r of the file that f names, through a fresh open of extent 0, is v
 abbrev pub blank_buffer : Bytes
 blank_buffer = copies record_bytes 0
@@ -210,19 +166,5 @@ pub record ReadsAs (G : Geometry) (a : Asked) (d : Disk) (f : Bytes) (r : ℕ) (
   pub gives : (outcome_of G (opened_disk G a d f blank_buffer) (asks a 33 (at_record_rule (opened_fcb G a d f blank_buffer) r) blank_buffer)).lent.buffer ≡ v
 
 module _ {G : Geometry} (S : Sound G) (a : Asked) (d : Disk) (f : Bytes) (begins : Begins f) (r : ℕ) (v : Bytes) where
-  pub reads_as : Sane G d → time_right_rule a ≡ true → First G (seen_on G d) d.session.user f → Stored G (seen_on G d) d.session.user f r v → ReadsAs G a d f r v
-  reads_as sane time first k =
-      let hb = length_copies record_bytes 0 in
-      let x = open_accepted G d sane f begins a time blank_buffer hb first in
-      record {
-        opens = x;
-        reads = look_accepted S a d f begins blank_buffer x r blank_buffer v k hb;
-        gives = look_gives S a d f begins blank_buffer x r blank_buffer v k hb;
-      }
-
-  pub as_stored : r < 16777216 → ReadsAs G a d f r v → Stored G (seen_on G d) d.session.user f r v
-  as_stored small k =
-      subst (Stored G (seen_on G d) d.session.user f r) k.gives (look_stored S a d f begins blank_buffer k.opens r blank_buffer small k.reads)
-
   pub as_first : ReadsAs G a d f r v → First G (seen_on G d) d.session.user f
   as_first k = (opening_of S a d f begins blank_buffer k.opens).first

@@ -20,11 +20,12 @@ use Rattle.invariant.specs.Stamps.{Each, each_join, Placed, stamped_all}
 use Rattle.effects.specs.View.{View, view_of, Names}
 use Rattle.effects.specs.Effect.{Effect}
 use Rattle.effects.specs.Cur.{Cur, cur_uses}
-use Rattle.effects.specs.Alike.{Alike, alike_same, alike_back, dates_alike, asks_alike, used_row, empty_alike, empty_same, named_alike, file_alike, named_same, file_same, size_alike, alike_effect, cur_alike}
+use Rattle.effects.specs.Alike.{Alike, alike_same, dates_alike, asks_alike, used_row, empty_alike, empty_same, named_alike, file_alike, named_same, file_same, size_alike}
+use Rattle.effects.proofs.Alike.{alike_effect, cur_alike}
 use Rattle.effects.specs.Stamps.{stamped_alike}
 use Rattle.demands.specs.Runs.{Disk}
-use Rattle.stored.specs.Closed.{Sane, seen_on, First, Stored, Fresh, Access, Restamped}
-use Rattle.stored.specs.Kept.{first_kept, stored_kept}
+use Rattle.stored.specs.Closed.{Sane, seen_on, First, Fresh, Access, Restamped}
+use Rattle.stored.specs.Kept.{first_kept}
 
 -- ---- stamps and more stamps
 each_more : (P Q : Stamp → Type 0) → ((x : Stamp) → P x → Q x) → (xs : List Stamp) → Each P xs → Each Q xs
@@ -85,7 +86,7 @@ module _ (G : Geometry) (P : Stamp → Type 0) (d t : Disk) where
 
 -- ---- a disk and the same disk restamped
 module _ {G : Geometry} (S : Sound G) (P : Stamp → Type 0) (d t : Disk) (sane : Sane G d) (w : Restamped G P d t) where
-  stamped_good : Good G t.drive.image d.drive.map
+  pub stamped_good : Good G t.drive.image d.drive.map
   stamped_good =
       split w.dates (λ z. subst (λ (i : Bytes). Good G i d.drive.map) (sym (unstamped G P d t w z)) sane.good)
       (λ y. subst (λ (i : Bytes). Good G i d.drive.map) (sym w.image)
@@ -129,17 +130,14 @@ module _ {G : Geometry} (S : Sound G) (P : Stamp → Type 0) (d t : Disk) (sane 
     size_restamped = size_alike G d.drive.image t.drive.image restamped_alike user hu f 1 false
 
     -- ---- closed records, both ways
-    nobody : Names
+    unfoldable pub nobody : Names
     nobody r = false
 
-    on : Effect G (seen_on G d) (view_of G t.drive.image d.drive.map) nobody
+    pub on : Effect G (seen_on G d) (view_of G t.drive.image d.drive.map) nobody
     on = alike_effect G d.drive.image t.drive.image restamped_alike d.drive.map sane.good nobody
 
-    back : Effect G (view_of G t.drive.image d.drive.map) (seen_on G d) nobody
-    back = alike_effect G t.drive.image d.drive.image (alike_back G d.drive.image t.drive.image restamped_alike) d.drive.map stamped_good nobody
-
     -- the map is the same
-    view_same : seen_on G t ≡ view_of G t.drive.image d.drive.map
+    pub view_same : seen_on G t ≡ view_of G t.drive.image d.drive.map
     view_same = ap (view_of G t.drive.image) w.map
 
     pub first_restamped : First G (seen_on G d) user f → First G (seen_on G t) user f
@@ -147,19 +145,6 @@ module _ {G : Geometry} (S : Sound G) (P : Stamp → Type 0) (d t : Disk) (sane 
     first_restamped h =
         subst (λ (s : View). First G s user f) (sym view_same)
         (first_kept S (seen_on G d) (view_of G t.drive.image d.drive.map) nobody user hu f on (λ r m. refl) h)
-
-    module _ (r : ℕ) (v : Bytes) where
-      pub stored_restamped : Stored G (seen_on G d) user f r v → Stored G (seen_on G t) user f r v
-      unfolding nobody
-      stored_restamped h =
-          subst (λ (s : View). Stored G s user f r v) (sym view_same)
-          (stored_kept S (seen_on G d) (view_of G t.drive.image d.drive.map) nobody user hu f on (λ r m. refl) r v h)
-
-      pub stored_before : Stored G (seen_on G t) user f r v → Stored G (seen_on G d) user f r v
-      unfolding nobody
-      stored_before h =
-          stored_kept S (view_of G t.drive.image d.drive.map) (seen_on G d) nobody user hu f back (λ r m. refl) r v
-          (subst (λ (s : View). Stored G s user f r v) view_same h)
 
     cur_restamped : (e : ℕ) → Cur G (seen_on G d) user f e → Cur G (seen_on G t) user f e
     cur_restamped e c =

@@ -62,7 +62,7 @@ module _ (G : Geometry) (s : View) (user : ℕ) (f : Bytes) (r : ℕ) where
     unfolding bytes_stored
     stored_bytes = ap bytes_by entry_is ∙ h.dat
 
-  stored_by_law : (x : Found) → extent_entry ≡ x → stored_by G s.rows r x ≡ true → Stored G s user f r (bytes_by x)
+  pub stored_by_law : (x : Found) → extent_entry ≡ x → stored_by G s.rows r x ≡ true → Stored G s user f r (bytes_by x)
   unfolding extent_entry
   stored_by_law (At e) q t =
       let k = file_says G s.rows user f 1 (r / extent_records) e q in
@@ -84,10 +84,6 @@ module _ (G : Geometry) (s : View) (user : ℕ) (f : Bytes) (r : ℕ) where
   pub stored_found : is_stored ≡ true → is_found extent_entry ≡ true
   unfolding is_stored
   stored_found t = found_by extent_entry t
-
-  pub is_stored_law : is_stored ≡ true → Stored G s user f r bytes_stored
-  unfolding is_stored bytes_stored
-  is_stored_law t = stored_by_law extent_entry refl t
 
 -- ---- an FCB of the same name is told the same
 module _ (G : Geometry) (s : View) (user : ℕ) (f g : Bytes) (same : SameName g 1 f 1) (r : ℕ) where

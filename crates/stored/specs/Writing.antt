@@ -52,7 +52,8 @@ use Rattle.effects.specs.Alike.{Alike, dates_alike, used_row}
 use Rattle.effects.specs.Put.{ForSlot, put_rows, put_low, put_cur}
 use Rattle.effects.specs.Entered.{right_written}
 use Rattle.effects.specs.Write.{came_slot}
-use Rattle.effects.specs.Came.{CameTo, stay_came, move_came, make_came}
+use Rattle.effects.specs.Came.{CameTo}
+use Rattle.effects.proofs.Came.{stay_came, move_came, make_came}
 use Rattle.stored.specs.OnlyNamed.{OnlyNamed, only_one}
 use Rattle.stored.specs.Grown.{slot_at_record, Grown}
 

@@ -19,7 +19,7 @@ use Rattle.once.specs.Bytes.{Named}
 use Rattle.once.specs.Picks.{PickAccess}
 use Rattle.once.specs.Table.{answer}
 use Rattle.once.specs.Unharmed.{Touched}
-use Rattle.once.specs.Eight.{one_read, two_logged, four_unharmed, five_bytes, six_answers}
+use Rattle.once.proofs.Eight.{one_read, two_logged, four_unharmed, five_bytes, six_answers}
 use Rattle.benzokamuri.specs.declared.Picked.{Picked}
 use Rattle.benzokamuri.specs.Handed.{Handed}
 

@@ -13,7 +13,7 @@ use Rattle.picking.specs.Picker.{picked}
 use Rattle.once.specs.Bytes.{Named}
 use Rattle.once.specs.Calls.{Timed}
 use Rattle.once.specs.Picks.{PickAccess}
-use Rattle.once.specs.Eight.{three_second}
+use Rattle.once.proofs.Eight.{three_second}
 use Rattle.benzokamuri.specs.declared.Picked.{Picked}
 use Rattle.benzokamuri.specs.Handed.{Handed}
 use Rattle.twice.specs.declared.Twice.{Twice}

@@ -18,14 +18,17 @@ use Rattle.picking.specs.declared.Wanted.{Wanted}
 use Rattle.picking.specs.declared.Time.{Time}
 use Rattle.picking.specs.declared.Pick.TheVariants.{Logged, Again}
 use Rattle.picking.specs.Picker.{fcb_of_rule, last_day, call_at, has_stamp_rule, log_record_rule, picked}
-use Rattle.once.specs.Again.{LoggedOnce, logged_once, Repeats, again_says, repeats_again, SecondRun, second_run}
+use Rattle.once.specs.Again.{LoggedOnce, Repeats, SecondRun}
+use Rattle.once.proofs.Again.{logged_once, again_says, repeats_again, second_run}
 use Rattle.once.specs.Bytes.{Named, same_year, same_day}
 use Rattle.once.specs.Calls.{Timed}
-use Rattle.once.specs.Picks.{PickAccess, pick_run}
+use Rattle.once.specs.Picks.{PickAccess}
+use Rattle.once.proofs.Picks.{pick_run}
 use Rattle.once.specs.Session.{book_opened, session_handed_back, nothing_accepted}
 use Rattle.once.specs.Table.{answer}
-use Rattle.once.specs.Unharmed.{Touched, trouble_unharmed, bytes_unharmed, stays_right, one_entry, protected_unharmed, notes_unharmed, one_note_changes, nothing_pending, protection_stays}
-use Rattle.once.specs.Word.{word_read, word_as_lent, word_handed_out}
+use Rattle.once.specs.Unharmed.{Touched}
+use Rattle.once.proofs.Unharmed.{trouble_unharmed, bytes_unharmed, stays_right, one_entry, protected_unharmed, notes_unharmed, one_note_changes, nothing_pending, protection_stays}
+use Rattle.once.proofs.Word.{word_read, word_as_lent, word_handed_out}
 
 -- three bytes can count its records
 countable : eight_inch.per_block * eight_inch.blocks < 16777216

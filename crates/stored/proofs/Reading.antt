@@ -26,7 +26,8 @@ use Rattle.demands.specs.Runs.{Request, Disk, outcome_of, accepts}
 use Rattle.demands.specs.Reading.{at_record_rule}
 use Rattle.stored.specs.Closed.{asks, seen_on, Stored, Fresh}
 use Rattle.stored.specs.Kept.{stored_small}
-use Rattle.stored.specs.Told.{block_in, extent_entry, is_stored, bytes_stored, stored_is, stored_bytes, stored_found, is_stored_law}
+use Rattle.stored.specs.Told.{block_in, extent_entry, is_stored, bytes_stored, stored_is, stored_bytes, stored_found}
+use Rattle.stored.proofs.Told.{is_stored_law}
 use Rattle.stored.specs.Meeting.{met_extent, met_record, met_present, met_entry, met_block, met_there}
 use Rattle.stored.specs.Quiet.{passed_accepts, carried, carried_is, fresh_record, fresh_ready, fresh_unmoved}
 

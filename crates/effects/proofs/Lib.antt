@@ -1,0 +1,9 @@
+pub mod Alike
+pub mod Effect
+pub mod Steps
+pub mod Change
+pub mod Closed
+pub mod Put
+pub mod Picked
+pub mod Came
+pub mod Write

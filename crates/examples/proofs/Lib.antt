@@ -1,0 +1,4 @@
+pub mod OneFile
+pub mod OneMet
+pub mod Examples
+pub mod Useless

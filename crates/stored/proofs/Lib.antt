@@ -1,0 +1,5 @@
+pub mod Grown
+pub mod Looking
+pub mod Reading
+pub mod Restamped
+pub mod Told
