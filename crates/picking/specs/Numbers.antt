@@ -1,7 +1,6 @@
 -- What hosts are told of how a run of the picker ended: a number, and A and H of the refusal where the trouble has no name of its own.
 use Rattle.std.specs.Prelude.{ℕ}
 use Rattle.picking.specs.declared.Pick.{Pick}
-use Rattle.picking.specs.declared.Pick.TheVariants as Pick
 
 pub record Says : Type 0 where
   pub number : ℕ

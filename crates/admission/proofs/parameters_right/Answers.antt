@@ -3,14 +3,12 @@ use mathlib.Core.Path.{◌≡◌, sym, ◌∙◌}
 use mathlib.Core.Bool.{true}
 use lib.ListN.{length}
 use native.Mathlib.Omega.{arith}
-use borrow.Author.Tests.{not-true, not-false}
 use Rattle.lists.specs.Cases.{refute, not_both}
 use Rattle.format.specs.Diskette.{eight_inch}
 use Rattle.model.specs.Lent.{lend}
 use Rattle.model.specs.Table.{time_right_rule, lengths_right_rule}
 use Rattle.table.specs.Reflect.{fits_of, time_of}
 use Rattle.admission.specs.Parameters.{fcb_length, lengths_are, drive_decides, drive_unused}
-use borrow.Author.Rules.{rules}
 use Rattle.admission.proofs.parameters_right.Goals as goal
 
 pub returns-then-not-lengths_right : goal.returns-then-not-lengths_right

@@ -1,6 +1,5 @@
 -- The two tests that are made together are the definition's.
 use Rattle.model.specs.Table.{time_right_rule}
-use borrow.Author.Rules.{rules}
 use Rattle.admission.proofs.time_right.Goals as goal
 
 pub returns : goal.returns

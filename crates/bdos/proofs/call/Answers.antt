@@ -3,9 +3,8 @@ use mathlib.Core.Path.{◌≡◌, sym, ap, ◌∙◌}
 use mathlib.Core.Bool.{true}
 use Prim.Native.Nat.{ℕ}
 use borrow.Author.Rules.{rules}
-use borrow.Author.Tests.{not-true, not-false}
 use Rattle.format.specs.Diskette.{eight_inch}
-use Rattle.model.specs.Lent.{Lent, lend}
+use Rattle.model.specs.Lent.{lend}
 use Rattle.model.specs.Kinds.{is_call, one_of}
 use Rattle.model.specs.Table.{parameters_right_rule}
 use Rattle.table.specs.Facts.{Ready}

@@ -1,7 +1,5 @@
 -- `bdos::passed_call` meets its contract: what is due is what an accepted call makes, and it is put on what the call's own function left.
 use mathlib.Core.Path.{sym, ◌∙◌}
-use borrow.Author.Rules.{rules}
-use borrow.Author.Tests.{not-true, not-false}
 use Rattle.format.specs.Diskette.{eight_inch}
 use Rattle.stamping.specs.Made.{made_undated, step_stamped, step_plain}
 use Rattle.bdos.proofs.passed_call.Goals as goal

@@ -1,7 +1,6 @@
 -- `bdos::ready_call` meets its contract: where a protected session refuses the kind, the row of the protection decides; else the call goes on with
 -- that known.
 use mathlib.Core.Path.{sym, ◌∙◌}
-use borrow.Author.Rules.{rules}
 use Rattle.lists.specs.Tests.{and_left, and_right, second_fails}
 use Rattle.format.specs.Diskette.{eight_inch}
 use Rattle.table.proofs.Early.{stopped_step}

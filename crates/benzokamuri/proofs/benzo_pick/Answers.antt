@@ -1,6 +1,5 @@
 -- `benzokamuri::benzo_pick` meets its contract: the picker's answer in numbers.
 use mathlib.Core.Path.{refl}
-use borrow.Author.Rules.{rules}
 use Rattle.benzokamuri.specs.Handed.{handed}
 use Rattle.benzokamuri.proofs.benzo_pick.Goals as goal
 

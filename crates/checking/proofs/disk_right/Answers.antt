@@ -1,7 +1,5 @@
 -- `checking::disk_right` meets its contract: the image decides, then, except for 13, the map by the marks that the look at the image left.
 use mathlib.Core.Path.{sym, ◌∙◌}
-use borrow.Author.Rules.{rules}
-use borrow.Author.Tests.{not-true, not-false}
 use Rattle.lists.specs.Cases.{clash}
 use Rattle.format.specs.Diskette.{eight_inch}
 use Rattle.checking.specs.Disk.{image_wrong, log_in_right, map_decides}

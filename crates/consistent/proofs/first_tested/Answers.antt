@@ -1,7 +1,6 @@
 -- The rows that are passed over were found empty.
 use mathlib.Core.Path.{refl, sym, ◌∙◌}
 use native.Mathlib.Omega.{arith}
-use borrow.Author.Rules.{rules}
 use Rattle.lists.specs.Below.{all_none}
 use Rattle.consistent.proofs.first_tested.Goals as goal
 

@@ -2,23 +2,21 @@
 -- what is promised.
 use Rattle.consistent.specs.Dating.{dating_none, dating_end}
 use Rattle.consistent.specs.Pass.{Passed, pass_all, passed_none, passed_all}
-use Rattle.facts.specs.Marks.{mark_count, Marked}
-use Rattle.chains.specs.Chain.{chain_bytes, Indexed}
+use Rattle.facts.specs.Marks.{Marked}
+use Rattle.chains.specs.Chain.{Indexed}
 use Rattle.blocks.specs.BlockMarks.{marks_start, marks_end}
 use Rattle.dates.specs.Label.{Labelled}
 use Rattle.disk.specs.Eight.{eight_sound}
 use Rattle.format.specs.Consistent.{dates_placed, consistent}
-use Rattle.format.specs.Entries.{Rows, entry_at}
+use Rattle.format.specs.Entries.{entry_at}
 use Rattle.format.specs.Diskette.{eight_inch, entries_per_record}
 use Rattle.lists.specs.Below.{all_below}
 use Rattle.lists.specs.Cases.{clash}
 use Rattle.lists.specs.Tests.{and_then}
-use borrow.Author.Tests.{not-true, not-false}
-use lib.ListN.{length, get_or, length-set}
-use Prim.Native.Nat.{◌+◌, ◌*◌, ◌-◌, ◌≤◌}
+use lib.ListN.{get_or, length-set}
+use Prim.Native.Nat.{◌+◌, ◌*◌}
 use mathlib.Core.Bool.{true}
 use mathlib.Core.Path.{◌≡◌, sym, ◌∙◌}
-use borrow.Author.Rules.{rules}
 use native.Mathlib.Omega.{arith}
 use Rattle.consistent.proofs.is_consistent.Goals as goal
 

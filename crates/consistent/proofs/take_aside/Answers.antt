@@ -1,6 +1,5 @@
 -- Being a right date entry decides the choice, and what was called the rest.
 use mathlib.Core.Path.{sym, ◌∙◌}
-use borrow.Author.Rules.{rules}
 use Rattle.consistent.specs.Pass.{aside_taken, aside_after}
 use Rattle.consistent.proofs.take_aside.Goals as goal
 

@@ -2,7 +2,6 @@
 use mathlib.Core.Path.{◌≡◌, refl, sym}
 use native.Mathlib.Omega.{arith}
 use borrow.Author.Tests.{eq-eqb, ne_eqb}
-use borrow.Author.Rules.{rules}
 use lib.ListN.{get_or}
 use Prim.Native.Nat.{◌/◌}
 use Rattle.format.specs.Diskette.{entries_per_record}

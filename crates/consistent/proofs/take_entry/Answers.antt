@@ -4,16 +4,15 @@ use Rattle.consistent.specs.Pass.{entry_fails, slots_fail, alone_decides, passed
 use Rattle.facts.specs.Marks.{mark_count}
 use Rattle.facts.specs.Slots.{slot_byte}
 use Rattle.disk.specs.Eight.{eight_sound}
-use Rattle.format.specs.Entries.{Rows, slot_of, entry_at, empty}
+use Rattle.format.specs.Entries.{slot_of, entry_at, empty}
 use Rattle.format.specs.Diskette.{eight_inch, slot_count}
 use Rattle.lists.specs.Cases.{clash}
-use borrow.Author.Tests.{eq-eqb, ne_eqb, not-true, not-false}
+use borrow.Author.Tests.{eq-eqb, ne_eqb}
 use lib.ListN.{get_or}
 use Prim.Native.Nat.{ℕ, ◌+◌, ◌<◌}
 use mathlib.Core.Bool.{true, false}
 use mathlib.Core.Path.{◌≡◌, sym, ◌∙◌}
 use native.Mathlib.Omega.{arith}
-use borrow.Author.Rules.{rules}
 use Rattle.consistent.proofs.take_entry.Goals as goal
 
 pub returns-then-r : goal.returns-then-r

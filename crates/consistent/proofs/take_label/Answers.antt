@@ -1,8 +1,6 @@
 -- A second label is refused by the byte; else being right decides.
 use mathlib.Core.Path.{refl, sym, ◌∙◌}
-use native.Mathlib.Omega.{arith}
 use borrow.Author.Tests.{eq-eqb, ne_eqb}
-use borrow.Author.Rules.{rules}
 use Rattle.lists.specs.Cases.{clash}
 use Rattle.lists.specs.Tests.{and_then, and_fails_left}
 use Rattle.consistent.proofs.take_label.Goals as goal

@@ -1,5 +1,4 @@
 -- `daybook::at_record` meets its contract: the three bytes are put.
-use borrow.Author.Rules.{rules}
 use Rattle.demands.specs.Reading.{at_record_rule}
 use Rattle.daybook.proofs.at_record.Goals as goal
 

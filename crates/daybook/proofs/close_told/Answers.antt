@@ -1,6 +1,5 @@
 -- `daybook::close_told` meets its contract: by what the answer says.
 use mathlib.Core.Path.{sym, ◌∙◌}
-use borrow.Author.Rules.{rules}
 use Rattle.daybook.specs.Said.{of_entries}
 use Rattle.daybook.proofs.close_told.Goals as goal
 

@@ -1,5 +1,4 @@
 -- `daybook::fcb_of` meets its contract: the name is put into zeros.
-use borrow.Author.Rules.{rules}
 use Rattle.lists.specs.Splice.{copies}
 use Rattle.picking.specs.Picker.{fcb_of_rule}
 use Rattle.daybook.proofs.fcb_of.Goals as goal

@@ -1,13 +1,8 @@
 -- `daybook::has_stamp` meets its contract: the loop keeps that the bytes passed are the stamp's.
-use mathlib.Core.Path.{◌≡◌, ap, sym, ◌∙◌}
-use mathlib.Core.Bool.{Bool, true}
-use Prim.Native.Nat.{ℕ, ◌-◌, ◌≤◌}
+use mathlib.Core.Path.{ap, sym, ◌∙◌}
 use native.Mathlib.Omega.{arith}
-use lib.Dec.{eqb}
-use lib.ListN.{get_or}
-use borrow.Author.Rules.{rules}
 use borrow.Author.Tests.{eq-eqb, ne_eqb}
-use Rattle.lists.specs.Below.{all_below, all_none, all_more, all_fails, all_done}
+use Rattle.lists.specs.Below.{all_none, all_more, all_fails, all_done}
 use Rattle.format.specs.Diskette.{Bytes}
 use Rattle.picking.specs.Picker.{has_stamp_rule}
 use Rattle.daybook.proofs.has_stamp.Invariants.{alike}

@@ -1,5 +1,4 @@
 -- `daybook::log_record` meets its contract: the stamp is put into bytes 1AH, then CR and LF.
-use borrow.Author.Rules.{rules}
 use Rattle.lists.specs.Splice.{copies}
 use Rattle.daybook.specs.Bytes.{log_bytes}
 use Rattle.daybook.proofs.log_record.Goals as goal

@@ -1,6 +1,5 @@
 -- `daybook::missing` meets its contract: 255, 0 or another refusal.
 use mathlib.Core.Path.{sym, ◌∙◌}
-use borrow.Author.Rules.{rules}
 use Rattle.daybook.proofs.missing.Goals as goal
 
 pub returns-then-is_code : goal.returns-then-is_code

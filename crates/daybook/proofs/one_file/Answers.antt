@@ -1,11 +1,8 @@
 -- `daybook::one_file` meets its contract: the loop keeps that the bytes passed are the same in the low seven bits.
-use mathlib.Core.Path.{◌≡◌, sym}
-use mathlib.Core.Bool.{true, false}
-use Prim.Native.Nat.{ℕ, ◌+◌, ◌-◌, ◌≤◌}
+use mathlib.Core.Path.{sym}
 use native.Mathlib.Omega.{arith}
-use lib.ListN.{get_or}
-use Rattle.lists.specs.Below.{all_below, all_none, all_more, all_fails, all_done}
-use Rattle.format.specs.Names.{name_bytes, byte_like_rule, name_like_rule}
+use Rattle.lists.specs.Below.{all_none, all_more, all_fails, all_done}
+use Rattle.format.specs.Names.{name_bytes, name_like_rule}
 use Rattle.picking.specs.Picker.{one_file_rule}
 use Rattle.daybook.specs.Bytes.{like_same, like_differs}
 use Rattle.daybook.proofs.one_file.Goals as goal

@@ -1,6 +1,5 @@
 -- `daybook::read_trouble` meets its contract: one code or the other, or another refusal.
 use mathlib.Core.Path.{sym, ◌∙◌}
-use borrow.Author.Rules.{rules}
 use Rattle.lists.specs.Tests.{or_left, or_right, or_then}
 use Rattle.daybook.proofs.read_trouble.Goals as goal
 

@@ -1,6 +1,5 @@
 -- `daybook::relock` meets its contract: the protection is set where it was before.
 use mathlib.Core.Path.{sym, ◌∙◌}
-use borrow.Author.Rules.{rules}
 use Rattle.picking.specs.Picker.{relocked}
 use Rattle.daybook.proofs.relock.Goals as goal
 

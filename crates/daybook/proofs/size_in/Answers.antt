@@ -1,5 +1,4 @@
 -- `daybook::size_in` meets its contract: three bytes, lowest first.
-use borrow.Author.Rules.{rules}
 use native.Mathlib.Omega.{arith}
 use Rattle.format.specs.Fcb.{random_of_rule}
 use Rattle.daybook.proofs.size_in.Goals as goal

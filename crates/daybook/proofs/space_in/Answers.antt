@@ -1,5 +1,4 @@
 -- `daybook::space_in` meets its contract: three bytes, lowest first.
-use borrow.Author.Rules.{rules}
 use native.Mathlib.Omega.{arith}
 use Rattle.picking.specs.Picker.{space_in_rule}
 use Rattle.daybook.proofs.space_in.Goals as goal

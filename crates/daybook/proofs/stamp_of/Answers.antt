@@ -1,5 +1,4 @@
 -- `daybook::stamp_of` meets its contract: each digit is the definition's.
-use borrow.Author.Rules.{rules}
 use Rattle.picking.specs.Picker.{stamp_of_rule}
 use Rattle.daybook.proofs.stamp_of.Goals as goal
 

@@ -1,6 +1,5 @@
 -- `daybook::tells_day` meets its contract: it is there first.
 use mathlib.Core.Path.{sym, ◌∙◌}
-use borrow.Author.Rules.{rules}
 use Rattle.lists.specs.Tests.{and_then, and_fails_left}
 use Rattle.daybook.specs.Said.{of_records}
 use Rattle.daybook.proofs.tells_day.Goals as goal

@@ -1,6 +1,5 @@
 -- `daybook::unlock` meets its contract: the protection is lifted where it is set.
 use mathlib.Core.Path.{sym, ◌∙◌}
-use borrow.Author.Rules.{rules}
 use Rattle.picking.specs.Picker.{unlocked}
 use Rattle.daybook.proofs.unlock.Goals as goal
 

@@ -1,6 +1,5 @@
 -- `daybook::write_trouble` meets its contract: the codes with a name of their own, one after the other.
 use mathlib.Core.Path.{sym, ◌∙◌}
-use borrow.Author.Rules.{rules}
 use Rattle.picking.specs.Picker.{write_trouble_rule}
 use Rattle.daybook.proofs.write_trouble.Goals as goal
 

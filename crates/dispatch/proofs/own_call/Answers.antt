@@ -8,7 +8,7 @@ use Rattle.table.specs.Protection.{not_reader, unread_spared}
 use Rattle.table.specs.OwnStep.{own_step, ready_step, ready_own, own_at}
 use Rattle.calls.specs.Apart.{moves_kind}
 use Rattle.dispatch.specs.Numbers.{only_of, other_of, at_number}
-use Rattle.model.specs.Lent.{Lent, lend}
+use Rattle.model.specs.Lent.{lend}
 use Rattle.model.specs.Kinds.{kind_of, same, of_record}
 use Rattle.model.specs.declared.Kind.{Kind}
 use Rattle.model.specs.declared.Kind.TheVariants.{Quiet, Search, User, Settle, Close, Delete, Create, Rename, Read}

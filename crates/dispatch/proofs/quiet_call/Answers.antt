@@ -1,7 +1,6 @@
 -- Each arm is the call of its number; the rest is the one number of the kind that has no arm.
 use mathlib.Core.Path.{refl}
 use mathlib.Core.List.{[], ◌∷◌}
-use borrow.Author.Rules.{rules}
 use Rattle.model.specs.declared.Kind.TheVariants.{Quiet}
 use Rattle.format.specs.Diskette.{eight_inch}
 use Rattle.model.specs.Kinds.{kind_of}

@@ -1,6 +1,5 @@
 -- 17, or else the one that is left.
 use mathlib.Core.Path.{refl}
-use borrow.Author.Rules.{rules}
 use Rattle.model.specs.declared.Kind.TheVariants.{Search}
 use Rattle.dispatch.specs.Numbers.{other_of, at_number}
 use Rattle.dispatch.proofs.search_call.Goals as goal

@@ -1,6 +1,5 @@
 -- `extending::add` meets its contract: by what was found, and by the size of the log.
 use mathlib.Core.Path.{◌∙◌}
-use borrow.Author.Rules.{rules}
 use Rattle.format.specs.Diskette.{eight_inch}
 use Rattle.extending.specs.Laws.{searches, added_again, added_full, added_writes}
 use Rattle.extending.proofs.add.Goals as goal

@@ -1,5 +1,4 @@
 -- `extending::look_at` meets its contract: nothing is read where a record was found; else by what the read came to.
-use borrow.Author.Rules.{rules}
 use Rattle.format.specs.Diskette.{eight_inch}
 use Rattle.demands.specs.Runs.{disk_of, outcome_of}
 use Rattle.logging.specs.Laws.{asked_alike}

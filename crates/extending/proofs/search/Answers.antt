@@ -1,13 +1,8 @@
 -- `extending::search` meets its contract: the loop keeps that the records passed were looked at.
-use mathlib.Core.Path.{◌≡◌, refl, sym, ◌∙◌}
-use Prim.Native.Nat.{◌-◌, ◌≤◌}
+use mathlib.Core.Path.{refl, sym, ◌∙◌}
 use native.Mathlib.Omega.{arith}
-use lib.ListN.{length}
-use borrow.Author.Rules.{rules}
-use Rattle.lists.specs.Fold.{fold_below, fold_none, fold_more, fold_done}
-use Rattle.format.specs.Diskette.{eight_inch}
-use Rattle.picking.specs.Picker.{look, searched}
-use Rattle.extending.specs.Laws.{searches}
+use Rattle.lists.specs.Fold.{fold_none, fold_more, fold_done}
+use Rattle.picking.specs.Picker.{searched}
 use Rattle.extending.proofs.search.Goals as goal
 
 pub loop-r-init : goal.loop-r-init

@@ -1,12 +1,10 @@
 -- `extending::search` meets its contract: the loop keeps that the records passed were looked at.
-use mathlib.Core.Path.{◌≡◌, refl, sym, ◌∙◌}
+use mathlib.Core.Path.{◌≡◌}
 use Prim.Native.Nat.{◌-◌, ◌≤◌}
-use native.Mathlib.Omega.{arith}
 use lib.ListN.{length}
-use borrow.Author.Rules.{rules}
-use Rattle.lists.specs.Fold.{fold_below, fold_none, fold_more, fold_done}
+use Rattle.lists.specs.Fold.{fold_below}
 use Rattle.format.specs.Diskette.{eight_inch}
-use Rattle.picking.specs.Picker.{look, searched}
+use Rattle.picking.specs.Picker.{look}
 use Rattle.extending.specs.Laws.{searches}
 use Rattle.extending.proofs.search.Given as goal
 

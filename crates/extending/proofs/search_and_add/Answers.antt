@@ -1,6 +1,5 @@
 -- `extending::search_and_add` meets its contract: what the search found is what decides.
 use mathlib.Core.Path.{ap, ◌∙◌}
-use borrow.Author.Rules.{rules}
 use Rattle.format.specs.Diskette.{eight_inch}
 use Rattle.picking.specs.Picker.{Search, added}
 use Rattle.extending.proofs.search_and_add.Goals as goal

@@ -1,6 +1,5 @@
 -- `logging::begin_log` meets its contract: by what 46 came to, and the free records that it told of.
 use mathlib.Core.Path.{sym, ◌∙◌}
-use borrow.Author.Rules.{rules}
 use Rattle.format.specs.Diskette.{eight_inch}
 use Rattle.demands.specs.Runs.{disk_of, outcome_of}
 use Rattle.daybook.specs.Said.{of_entries}

@@ -1,5 +1,4 @@
 -- `logging::call` meets its contract: what is asked is the definition's.
-use borrow.Author.Rules.{rules}
 use Rattle.format.specs.Diskette.{eight_inch}
 use Rattle.demands.specs.Runs.{disk_of}
 use Rattle.logging.specs.Laws.{called}

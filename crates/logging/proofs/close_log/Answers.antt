@@ -1,6 +1,5 @@
 -- `logging::close_log` meets its contract: by what the close came to.
 use mathlib.Core.Path.{refl}
-use borrow.Author.Rules.{rules}
 use Rattle.format.specs.Diskette.{eight_inch}
 use Rattle.demands.specs.Runs.{disk_of}
 use Rattle.picking.specs.Picker.{lifted_call_rule}

@@ -1,5 +1,4 @@
 -- `logging::lifted_call` meets its contract: the call is made on the unlocked session, and what it leaves is locked again.
-use borrow.Author.Rules.{rules}
 use Rattle.format.specs.Diskette.{eight_inch}
 use Rattle.demands.specs.Runs.{disk_of}
 use Rattle.picking.specs.Picker.{asking}

@@ -1,6 +1,5 @@
 -- `picker::fetch` meets its contract: by what the read came to; one that was refused left the bytes lent for the word.
 use mathlib.Core.Path.{refl, sym, ◌∙◌}
-use borrow.Author.Rules.{rules}
 use Rattle.format.specs.Diskette.{eight_inch}
 use Rattle.model.specs.Lent.{outcome}
 use Rattle.demands.specs.Runs.{disk_of, outcome_of}

@@ -1,5 +1,4 @@
 -- `picker::hand_out` meets its contract: what the log came to, with the word.
-use borrow.Author.Rules.{rules}
 use Rattle.format.specs.Diskette.{eight_inch}
 use Rattle.demands.specs.Runs.{disk_of}
 use Rattle.picker.specs.Laws.{handed_out}

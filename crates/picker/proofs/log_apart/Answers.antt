@@ -1,6 +1,5 @@
 -- `picker::log_apart` meets its contract: by the names.
 use mathlib.Core.Path.{sym, ◌∙◌}
-use borrow.Author.Rules.{rules}
 use Rattle.format.specs.Diskette.{eight_inch}
 use Rattle.demands.specs.Runs.{disk_of}
 use Rattle.picker.specs.Laws.{apart_one, apart_logs}

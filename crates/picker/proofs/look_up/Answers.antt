@@ -1,6 +1,5 @@
 -- `picker::look_up` meets its contract: by what the open came to.
 use mathlib.Core.Path.{sym, ◌∙◌}
-use borrow.Author.Rules.{rules}
 use Rattle.format.specs.Diskette.{eight_inch}
 use Rattle.demands.specs.Runs.{disk_of, outcome_of}
 use Rattle.daybook.specs.Said.{of_entries}

@@ -1,6 +1,5 @@
 -- `picker::pick` meets its contract: the day first.
 use mathlib.Core.Path.{sym, ◌∙◌}
-use borrow.Author.Rules.{rules}
 use Rattle.format.specs.Diskette.{eight_inch}
 use Rattle.demands.specs.Runs.{disk_of}
 use Rattle.picker.specs.Laws.{picked_over, picked_looks}

@@ -8,7 +8,6 @@ use Rattle.fields.specs.Images.{length_row_closed}
 use Rattle.format.specs.Diskette.{Bytes, eight_inch}
 use Rattle.model.specs.Closing.{closed_image}
 use Rattle.model.specs.Target.{made}
-use borrow.Author.Rules.{rules}
 use Rattle.records.proofs.make_next.Goals as goal
 
 pub returns : goal.returns

@@ -1,6 +1,5 @@
 -- The row is taken from the image that the close has left.
 use Rattle.model.specs.Target.{moved}
-use borrow.Author.Rules.{rules}
 use Rattle.records.proofs.move_to.Goals as goal
 
 pub returns : goal.returns

@@ -9,7 +9,6 @@ use Rattle.rulings.specs.declared.Ruling.TheVariants.{Follow}
 use Rattle.rulings.specs.Ruling.{ruling}
 use Rattle.rulings.specs.Bounds.{Sure, ruling_sure}
 use Rattle.records.specs.Carry.{record_refused, record_stopped, record_carried}
-use borrow.Author.Rules.{rules}
 use Rattle.records.proofs.record_call.Goals as goal
 
 pub stops-requires : goal.stops-requires

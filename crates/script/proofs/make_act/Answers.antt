@@ -1,5 +1,4 @@
 -- `script::make_act` meets its contract: the two numbers that are no call's first, and then the call.
-use borrow.Author.Rules.{rules}
 use Rattle.script.specs.Script.{act_lifts, act_protects, act_calls}
 use Rattle.script.proofs.make_act.Goals as goal
 

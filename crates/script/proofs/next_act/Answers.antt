@@ -1,5 +1,4 @@
 -- `script::next_act` meets its contract: the act is made of the script's numbers and of the next parts of the two slices.
-use borrow.Author.Rules.{rules}
 use Rattle.script.specs.Script.{length_mended, acts_next}
 use Rattle.script.proofs.next_act.Goals as goal
 

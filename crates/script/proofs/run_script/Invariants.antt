@@ -1,9 +1,8 @@
 -- `script::run_script` meets its contract. The invariant: the calls that are left, made on the disk as it is, come to what all of them do.
-use mathlib.Core.Path.{◌≡◌, refl, sym, ◌∙◌}
+use mathlib.Core.Path.{◌≡◌}
 use Prim.Native.Nat.{◌-◌, ◌≤◌}
-use native.Mathlib.Omega.{arith}
 use lib.ListN.{length}
-use Rattle.script.specs.Script.{acts_left, acts_none}
+use Rattle.script.specs.Script.{acts_left}
 use Rattle.script.proofs.run_script.Given as goal
 
 abbrev pub invariant-loop-at : goal.invariant-loop-at

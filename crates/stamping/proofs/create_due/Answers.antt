@@ -2,7 +2,6 @@
 use Rattle.format.specs.Diskette.{eight_inch}
 use Rattle.stamping.specs.Dated.{empty_beside}
 use Rattle.stamping.specs.Due.{create_due_law}
-use borrow.Author.Rules.{rules}
 use Rattle.stamping.proofs.create_due.Goals as goal
 
 pub new_due-requires : goal.new_due-requires

@@ -1,7 +1,6 @@
 -- A disk with date entries goes by the kind of the call.
 use Rattle.lists.specs.Cases.{not_both}
 use Rattle.stamping.specs.Due.{none_put}
-use borrow.Author.Rules.{rules}
 use Rattle.stamping.proofs.due.Goals as goal
 
 pub kind_due-requires : goal.kind_due-requires

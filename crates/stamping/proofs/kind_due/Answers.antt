@@ -8,7 +8,6 @@ use Rattle.table.specs.Own.{calling, at_kind}
 use Rattle.calls.specs.Apart.{moves_kind}
 use Rattle.stamping.specs.Made.{Dues}
 use Rattle.stamping.specs.Due.{none_put, none_due, stampless_kind}
-use borrow.Author.Rules.{rules}
 use Rattle.stamping.proofs.kind_due.Goals as goal
 
 pub quiet_due-requires : goal.quiet_due-requires

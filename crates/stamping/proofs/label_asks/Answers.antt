@@ -5,7 +5,6 @@ use native.Mathlib.Omega.{arith}
 use Rattle.format.specs.Diskette.{eight_inch}
 use Rattle.dates.specs.Label.{asks_bit}
 use Rattle.stamping.specs.Dated.{label_none, label_low, label_says}
-use borrow.Author.Rules.{rules}
 use Rattle.stamping.proofs.label_asks.Goals as goal
 
 pub returns-then-label-eq0 : goal.returns-then-label-eq0

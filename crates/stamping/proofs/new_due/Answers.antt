@@ -4,7 +4,6 @@ use Rattle.format.specs.Diskette.{eight_inch}
 use Rattle.format.specs.Dates.{asks_create}
 use Rattle.stamping.specs.Dated.{nothing_beside}
 use Rattle.stamping.specs.Due.{new_due_rule}
-use borrow.Author.Rules.{rules}
 use Rattle.stamping.proofs.new_due.Goals as goal
 
 pub returns-then-label_asks : goal.returns-then-label_asks

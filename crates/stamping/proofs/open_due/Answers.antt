@@ -1,7 +1,6 @@
 -- The protection decides, then the label, and then the entry that is asked for.
 use mathlib.Core.Path.{sym, ◌∙◌}
 use mathlib.Core.List.{[]}
-use borrow.Author.Tests.{not-true, not-false}
 use Rattle.format.specs.Diskette.{eight_inch}
 use Rattle.format.specs.Dates.{asks_access}
 use Rattle.model.specs.Kinds.{kind_of}
@@ -9,7 +8,6 @@ use Rattle.model.specs.Table.{asked_entry}
 use Rattle.table.specs.Own.{calling}
 use Rattle.stamping.specs.Dated.{nothing_beside, file_beside}
 use Rattle.stamping.specs.Due.{none_put, none_due, open_protected, open_unasked, open_due_law}
-use borrow.Author.Rules.{rules}
 use Rattle.stamping.proofs.open_due.Goals as goal
 
 pub returns-then-is_protected : goal.returns-then-is_protected

@@ -6,7 +6,6 @@ use Rattle.model.specs.Lent.{lend}
 use Rattle.table.specs.Own.{calling}
 use Rattle.stamping.specs.Made.{Dues}
 use Rattle.stamping.specs.Due.{none_put, none_due, quiet_none}
-use borrow.Author.Rules.{rules}
 use Rattle.stamping.proofs.quiet_due.Goals as goal
 
 pub returns-then-asked-eq15 : goal.returns-then-asked-eq15

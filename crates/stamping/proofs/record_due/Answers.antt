@@ -10,7 +10,6 @@ use Rattle.model.specs.Lent.{lend}
 use Rattle.model.specs.Target.{present_entry, stays}
 use Rattle.stamping.specs.Dated.{current_beside}
 use Rattle.stamping.specs.Due.{none_put, none_due, stay_stamps, not_current}
-use borrow.Author.Rules.{rules}
 use Rattle.stamping.proofs.record_due.Goals as goal
 
 pub returns-then-target-extent : goal.returns-then-target-extent

@@ -1,13 +1,11 @@
 -- The label decides first, then the close.
 use mathlib.Core.Path.{◌≡◌, sym, ◌∙◌}
-use borrow.Author.Tests.{not-true, not-false}
 use Rattle.lists.specs.Tests.{and_both, and_fails_left, and_fails_right}
 use Rattle.format.specs.Diskette.{eight_inch}
 use Rattle.format.specs.Dates.{asks_update}
 use Rattle.format.specs.Entries.{entry_at}
 use Rattle.model.specs.Closing.{close_changes_rule}
 use Rattle.stamping.specs.Due.{updated_if}
-use borrow.Author.Rules.{rules}
 use Rattle.stamping.proofs.updated.Goals as goal
 
 pub returns-then-not-label_asks : goal.returns-then-not-label_asks

@@ -1,6 +1,5 @@
 -- The answer decides.
 use mathlib.Core.Path.{sym, ◌∙◌}
-use borrow.Author.Rules.{rules}
 use Rattle.stamps.proofs.put_accepted.Goals as goal
 
 pub returns-then-accepted : goal.returns-then-accepted

@@ -2,7 +2,6 @@
 use Rattle.format.specs.Diskette.{eight_inch}
 use Rattle.model.specs.Stamps.{no_stamp}
 use Rattle.stamps.specs.Due.{blank_put}
-use borrow.Author.Rules.{rules}
 use Rattle.stamps.proofs.put_blank.Goals as goal
 
 pub returns : goal.returns

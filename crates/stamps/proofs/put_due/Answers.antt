@@ -1,7 +1,6 @@
 -- The three steps, one after the other.
 use Rattle.format.specs.Diskette.{eight_inch}
 use Rattle.stamps.specs.Due.{due_put}
-use borrow.Author.Rules.{rules}
 use Rattle.stamps.proofs.put_due.Goals as goal
 
 pub returns : goal.returns

@@ -1,5 +1,4 @@
 -- One arm of the plan a case: a move's entry is that of the FCB.
-use borrow.Author.Rules.{rules}
 use Rattle.stopping.proofs.move_changes.Goals as goal
 
 pub row-requires : goal.row-requires

@@ -1,6 +1,5 @@
 -- A session whose protection is lifted stops nothing; one that is protected goes by the plan.
 use mathlib.Core.Path.{sym, ◌∙◌}
-use borrow.Author.Rules.{rules}
 use Rattle.lists.specs.Tests.{and_then, and_fails_left}
 use Rattle.stopping.proofs.stops.Goals as goal
 

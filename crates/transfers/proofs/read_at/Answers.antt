@@ -1,6 +1,5 @@
 -- The record is copied, and cr set.
 use Rattle.model.specs.Target.{have_read}
-use borrow.Author.Rules.{rules}
 use Rattle.transfers.proofs.read_at.Goals as goal
 
 pub returns : goal.returns

@@ -1,7 +1,6 @@
 -- The entry's count is taken before the record is written; each callee's result is a part of the definition.
 use Rattle.facts.specs.Counts.{count_there_law}
 use Rattle.model.specs.Target.{have_written}
-use borrow.Author.Rules.{rules}
 use Rattle.transfers.proofs.write_at.Goals as goal
 
 pub returns : goal.returns
