@@ -1,5 +1,6 @@
 -- Demand 2, exact, and read back. After an accepted 21 or 34, with or without a move, and any run whose calls do not name that file, call 33
 -- through the FCB that the write handed back, with r0 to r2 alone set to that record, gives the bytes that were written.
+-- The theorem itself, `read_back`, is in proofs/ReadBack.
 use Rattle.std.specs.Prelude.{◌≡◌, true, ℕ, ◌+◌, ◌%◌, ◌≤◌, ◌<◌, length, get_or, set}
 use Rattle.std.proofs.Math.Path.{refl, subst}
 use Rattle.std.proofs.Common.{ap, sym, ◌∙◌, arith, get_or-set_same, get_or-set_other}
@@ -12,32 +13,25 @@ use Rattle.format.specs.Fcb.{fcb_bytes}
 use Rattle.facts.specs.Names.{like_at}
 use Rattle.model.specs.declared.Asked.{Asked}
 use Rattle.model.specs.declared.Session.{Session}
-use Rattle.model.specs.Lent.{Lent, Outcome}
+use Rattle.model.specs.Lent.{Lent}
 use Rattle.model.specs.Naming.{names}
-use Rattle.model.specs.Target.{target_extent, target_record, plan}
+use Rattle.model.specs.Target.{target_extent, target_record}
 use Rattle.model.specs.Kinds.{kind_of, uses_fcb_rule, wild}
 use Rattle.model.specs.declared.Kind.TheVariants.{User, Settle, Write}
 use Rattle.model.specs.Step.{step}
 use Rattle.model.specs.Table.{time_right_rule}
 use Rattle.fields.specs.Agree.{SameName, named_cong}
 use Rattle.facts.specs.Naming.{named_user, named_like}
-use Rattle.table.specs.Own.{at_kind, is_or_not, kinds_apart}
-use Rattle.table.specs.Accept.{writes_by}
+use Rattle.table.specs.Own.{at_kind}
 use Rattle.table.specs.First.{◌&◌}
-use Rattle.table.specs.Plans.{entry_of}
 use Rattle.table.specs.Carried.{Leaves, over, on, sets}
-use Rattle.table.specs.Total.{InRange, range_lifted}
-use Rattle.table.proofs.Total.{total, step_range}
+use Rattle.table.specs.Total.{InRange}
+use Rattle.table.proofs.Total.{total}
 use Rattle.invariant.specs.Good.{Good}
-use Rattle.effects.specs.View.{view_of, Names}
-use Rattle.effects.specs.Effect.{Effect, Keeps}
-use Rattle.effects.specs.Cur.{Holds, holds_kept}
+use Rattle.effects.specs.View.{view_of}
+use Rattle.effects.specs.Cur.{Holds}
 use Rattle.effects.specs.Write.{HandedBack}
-use Rattle.effects.proofs.Write.{written_ok}
-use Rattle.table.proofs.Accepted.{accepted_carried}
-use Rattle.demands.specs.StepOk.{ready_good}
-use Rattle.demands.specs.Stamped.{stamped_as, stamped_as_law, holds_on, step_ok, step_accepted, step_good}
-use Rattle.demands.specs.Runs.{Request, Disk, lent_to, outcome_of, accepts, after, Act, one_call, lifts, protects, after_act, run}
+use Rattle.demands.specs.Runs.{Request, Disk, lent_to, outcome_of, accepts, after, Act, one_call, lifts, protects, after_act}
 use Rattle.demands.specs.Reading.{at_record_rule, record_number, Gives, reads_back, length_at_record, rest_at_record}
 
 -- ---- runs that leave a file alone
@@ -68,7 +62,7 @@ unfolding names
 names_cong n user fcb r t e m =
     rw (named_cong (wild n) user fcb 1 r t e m, named_cong false user fcb 17 r t e m)
 
-names_apart : (n user : ℕ) (fcb f : Bytes) → length f ≡ fcb_bytes → names n user fcb (file_row user f) ≡ false
+pub names_apart : (n user : ℕ) (fcb f : Bytes) → length f ≡ fcb_bytes → names n user fcb (file_row user f) ≡ false
     → (r : Bytes) → named false user f 1 r ≡ true → names n user fcb r ≡ false
 names_apart n user fcb f hf q r h =
     names_cong n user fcb r (file_row user f)
@@ -98,35 +92,6 @@ pub record Kept (G : Geometry) (d : Disk) (user : ℕ) (f : Bytes) (e rec : ℕ)
   pub holds : Holds G (view_of G d.drive.image d.drive.map) user f e rec v
 
 module _ {G : Geometry} (S : Sound G) (user : ℕ) (f : Bytes) (hf : length f ≡ fcb_bytes) (e rec : ℕ) (v : Bytes) where
-  kept_after : (d : Disk) (q : Request) → LeavesAlone G f d q → Kept G d user f e rec v → Kept G (after G d q) user f e rec v
-  unfolding after outcome_of
-  kept_after d q o k =
-      let ok = step_ok S q.asked (lent_to d q) d.session in
-      let low : user ≤ 15 = subst (λ (x : ℕ). x ≤ 15) k.same k.range.user in
-      let away : names q.asked.number user q.fcb (file_row user f) ≡ false =
-      subst (λ (x : ℕ). names q.asked.number x q.fcb (file_row x f) ≡ false) k.same o.elsewhere in
-      let N : Names = names q.asked.number user q.fcb in
-      let t = view_of G (after G d q).drive.image (after G d q).drive.map in
-      record {
-        good = step_good S q.asked (lent_to d q) d.session k.good;
-        range = step_range G q.asked (lent_to d q) d.session k.range;
-        same = split (is_or_not (kind_of q.asked.number) User) (λ z. o.same_user z) (λ z. user_stays G d q z) ∙ k.same;
-        holds = holds_kept S (view_of G d.drive.image d.drive.map) t N user low f
-            (subst (λ (x : ℕ). Effect G (view_of G d.drive.image d.drive.map) t (names q.asked.number x q.fcb)) k.same ok.effect)
-            (subst (λ (x : ℕ). Keeps G (view_of G d.drive.image d.drive.map) t (names q.asked.number x q.fcb)) k.same (ok.keeps o.unsettled))
-            (names_apart q.asked.number user q.fcb f hf away) e rec v k.holds;
-      }
-
-  kept_act : (d : Disk) (a : Act) → ActLeavesAlone G f d a → Kept G d user f e rec v → Kept G (after_act G d a) user f e rec v
-  kept_act d (one_call q) o k = kept_after d q o k
-  kept_act d lifts o k = record { good = k.good; range = range_lifted 1 k.range; same = k.same; holds = k.holds }
-  kept_act d protects o k = record { good = k.good; range = range_lifted 0 k.range; same = k.same; holds = k.holds }
-
-  pub kept_run : (d : Disk) (acts : List Act) → AllLeaveAlone G f d acts → Kept G d user f e rec v → Kept G (run G d acts) user f e rec v
-  unfolding run
-  kept_run d [] o k = k
-  kept_run d (a ∷ acts) o k = kept_run (after_act G d a) acts o.1 (kept_act d a o.0 k)
-
   -- and is read then
   pub kept_read : (d : Disk) → Kept G d user f e rec v → get_or f 0 0 ≤ 1 → extent_of f < extents → (asked : Asked) → asked.number ≡ 33 → time_right_rule asked ≡ true → (buffer : Bytes)
       → length buffer ≡ record_bytes → Gives (outcome_of G d (record { asked = asked; fcb = at_record_rule f (record_number (extent_of f) rec); buffer = buffer })) v
@@ -156,62 +121,11 @@ pub record Wrote (G : Geometry) (d : Disk) (w : Request) : Type 0 where
   pub extent : target_extent w.asked.number w.fcb < extents
   pub range : InRange G d.session
 
-write_uses : (n : ℕ) → kind_of n ≡ Write → (uses_fcb_rule n ≡ true) × (n ≡ 13 → ⊥)
+pub write_uses : (n : ℕ) → kind_of n ≡ Write → (uses_fcb_rule n ≡ true) × (n ≡ 13 → ⊥)
 unfolding uses_fcb_rule
 write_uses n = at_kind (λ (m : ℕ). (uses_fcb_rule m ≡ true) × (m ≡ 13 → ⊥)) Write n refl ((refl, λ z. omega arith) & (refl, λ z. omega arith) & tt)
-
-module _ {G : Geometry} (S : Sound G) (d : Disk) (w : Request) (writes : kind_of w.asked.number ≡ Write)
-    (accepted : accepts G d w ≡ true) where
-  pub wrote : Wrote G d w
-  unfolding outcome_of
-  wrote =
-      let c = accepted_carried G w.asked (lent_to d w) d.session accepted in
-      let u = write_uses w.asked.number writes in
-      let o = writes_by G w.asked (lent_to d w) d.session c.facts.none writes in
-      let g = ready_good c.facts.ready u.1 in
-      let ok = written_ok S w.asked.number (lent_to d w) d.session g c.facts.ready.fits o in
-      let is : step G w.asked (lent_to d w) d.session ≡ stamped_as G w.asked (lent_to d w) d.session Write =
-      c.is ∙ stamped_as_law G w.asked (lent_to d w) d.session Write writes in
-      record {
-        good = step_accepted S w.asked (lent_to d w) d.session c;
-        fcb = subst (λ (x : Outcome). HandedBack w.asked.number (lent_to d w) x.lent) (sym is)
-            (let h = ok.fcb in record { long = h.long; first = h.first; name = h.name; extent = h.extent });
-        entry = entry_of (plan G w.asked.number d.session.user (lent_to d w));
-        holds = subst (λ (x : Outcome). Holds G (view_of G x.lent.drive.image x.lent.drive.map) d.session.user x.lent.fcb
-            (entry_of (plan G w.asked.number d.session.user (lent_to d w))) (target_record w.asked.number w.fcb) w.buffer)
-            (sym is) (holds_on S w.asked (lent_to d w) d.session c.facts g Write writes refl _ _ _ w.buffer ok.holds);
-        drive = c.facts.ready.drive u.0;
-        extent = o.extent;
-        range = record { user = c.facts.ready.fits.user_low; place = c.facts.ready.fits.place_low };
-      }
-
-  -- the record that it wrote holds
-  wrote_kept : Kept G (after G d w) d.session.user (outcome_of G d w).lent.fcb wrote.entry (target_record w.asked.number w.fcb) w.buffer
-  unfolding after outcome_of
-  wrote_kept = record {
-    good = wrote.good;
-    range = step_range G w.asked (lent_to d w) d.session wrote.range;
-    same = user_stays G d w (λ z. kinds_apart Write User refl (sym writes ∙ z));
-    holds = wrote.holds;
-  }
 
 -- ---- demand 2
 -- the FCB that the write w handed back, with r0 to r2 set to the record that it wrote
 unfoldable pub read_fcb : Geometry → Disk → Request → Bytes
 read_fcb G d w = at_record_rule (outcome_of G d w).lent.fcb (record_number (target_extent w.asked.number w.fcb) (target_record w.asked.number w.fcb))
-
--- with any buffer of 128 bytes, any argument and any time in BCD, on a session protected or not: the read stays in its extent
-pub read_back : {G : Geometry} (S : Sound G) (d : Disk) (w : Request) → kind_of w.asked.number ≡ Write → accepts G d w ≡ true
-    → (acts : List Act) → AllLeaveAlone G (outcome_of G d w).lent.fcb (after G d w) acts
-    → (asked : Asked) → asked.number ≡ 33 → time_right_rule asked ≡ true → (buffer : Bytes) → length buffer ≡ record_bytes
-    → Gives (outcome_of G (run G (after G d w) acts) (record { asked = asked; fcb = read_fcb G d w; buffer = buffer })) w.buffer
-unfolding read_fcb
-read_back {G} S d w writes accepted acts alone asked n time buffer hb =
-    let k = wrote S d w writes accepted in
-    let f : Bytes = (outcome_of G d w).lent.fcb in
-    let rec : ℕ = target_record w.asked.number w.fcb in
-    let x : extent_of f ≡ target_extent w.asked.number w.fcb = k.fcb.extent in
-    subst (λ (i : ℕ). Gives (outcome_of G (run G (after G d w) acts) (record { asked = asked; fcb = at_record_rule f (record_number i rec); buffer = buffer })) w.buffer) x
-    (kept_read S d.session.user f k.fcb.long k.entry rec w.buffer (run G (after G d w) acts)
-    (kept_run S d.session.user f k.fcb.long k.entry rec w.buffer (after G d w) acts alone (wrote_kept S d w writes accepted))
-    (rw k.fcb.first k.drive) (rw x k.extent) asked n time buffer hb)

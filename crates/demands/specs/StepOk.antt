@@ -5,7 +5,7 @@ use Rattle.std.proofs.Math.Path.{refl, sym}
 use Rattle.std.proofs.Common.{ap, ◌∙◌, subst, inl, eq-eqb, ne_eqb}
 use Rattle.std.proofs.Math.Bool.{true, false}
 use Prim.Native.Nat.{ℕ}
-use Rattle.lists.specs.Cases.{split, bool_cases, eq_or_ne, clash}
+use Rattle.lists.specs.Cases.{split, bool_cases, eq_or_ne}
 use Rattle.lists.specs.Tests.{and_both, or_left}
 use Rattle.format.specs.Diskette.{Bytes, Geometry, Sound}
 use Rattle.format.specs.Entries.{slot_of, ex_of, run_of, named}
@@ -21,19 +21,17 @@ use Rattle.model.specs.Naming.{names}
 use Rattle.model.specs.Table.{asked_entry}
 use Rattle.model.specs.Entering.{made_row_rule}
 use Rattle.model.specs.Target.{target_record, target_slot}
-use Rattle.model.specs.Kinds.{kind_of, uses_fcb_rule, wild, same}
-use Rattle.model.specs.declared.Kind.{Kind}
-use Rattle.model.specs.declared.Kind.TheVariants.{Unlisted, Quiet, Search, User, Settle, Close, Delete, Create, Rename, Read, Write}
-use Rattle.model.specs.Calls.{logged_in, freed, user_set, closed_at, closed, found_at, searched, deletes, deleted, created_at, created, renamed, read, written}
-use Rattle.model.specs.Step.{settled, does}
+use Rattle.model.specs.Kinds.{kind_of, uses_fcb_rule, wild}
+use Rattle.model.specs.declared.Kind.TheVariants.{Settle, Close, Delete, Create, Rename, Read, Write}
+use Rattle.model.specs.Calls.{logged_in, freed, user_set, closed_at, closed, deletes, deleted, created_at, created, renamed, read, written}
+use Rattle.model.specs.Step.{settled}
 use Rattle.fields.specs.Making.{length_made_row, user_made, name_made, slot_made, extent_made}
 use Rattle.fields.specs.Fine.{fine_made}
 use Rattle.facts.specs.Naming.{named_intro, file_intro}
-use Rattle.table.specs.Own.{at_kind, not_unlisted}
+use Rattle.table.specs.Own.{at_kind}
 use Rattle.consistency.specs.Naming.{named_used}
 use Rattle.table.specs.First.{◌&◌}
-use Rattle.table.specs.Facts.{Fits, Closes, Makes, Renames, Ready, AcceptedCall}
-use Rattle.table.specs.Accept.{closes_of, makes_of, renames_of, reads_of, writes_by}
+use Rattle.table.specs.Facts.{Fits, Closes, Makes, Renames, Ready}
 use Rattle.table.specs.Accepted.{accepted_answer}
 use Rattle.invariant.specs.Good.{Good, good_of}
 use Rattle.invariant.specs.Updates.{good_fresh, good_freed}
@@ -51,7 +49,6 @@ use Rattle.effects.specs.Picked.{made_change}
 use Rattle.effects.proofs.Picked.{erased_change, renamed_change}
 use Rattle.effects.specs.Came.{present_cur, present_before}
 use Rattle.effects.specs.Write.{OneOf, WriteOk, ReadOk}
-use Rattle.effects.proofs.Write.{written_ok, reads_ok}
 
 -- the disk records that a call may write: for an accepted 21 or 34 the one record of its target, in the block that the FCB handed back
 -- has for it, which was free before or belonged to an entry of the file; for any other call none
@@ -167,7 +164,7 @@ named_write n q = at_kind Named Write n refl (record { uses = refl; plain = refl
 -- ---- call by call
 module _ {G : Geometry} (S : Sound G) (l : Lent) (s : Session) (f : Fits G l s) (g : Good G l.drive.image l.drive.map) where
   -- a call that changes neither image nor map nor book
-  quiet : (n : ℕ) (o : Outcome) → o.lent.drive.image ≡ l.drive.image → o.lent.drive.map ≡ l.drive.map → ((u : Book) → book_by G n s.user l o.lent u ≡ u) → Carries G n l s o
+  pub quiet : (n : ℕ) (o : Outcome) → o.lent.drive.image ≡ l.drive.image → o.lent.drive.map ≡ l.drive.map → ((u : Book) → book_by G n s.user l o.lent u ≡ u) → Carries G n l s o
   quiet n o p q b =
       subst (λ (m : Bytes). Change G (names n s.user l.fcb) (MayWrite G n l s o) (book_by G n s.user l o.lent) l.drive.image l.drive.map o.lent.drive.image m) (sym q)
       (subst (λ (i : Bytes). Change G (names n s.user l.fcb) (MayWrite G n l s o) (book_by G n s.user l o.lent) l.drive.image l.drive.map i l.drive.map) (sym p)
@@ -183,7 +180,7 @@ module _ {G : Geometry} (S : Sound G) (l : Lent) (s : Session) (f : Fits G l s) 
       l.drive.image l.drive.map o.lent.drive.image o.lent.drive.map (names_plain n s.user l.fcb f.fcb_long u w) (λ d z. absurd z) (λ v x h. ap (λ (y : Book). y x) (b v)) c
 
   -- 16
-  closed_carries : (n : ℕ) → kind_of n ≡ Close → Closes G l s → Carries G n l s (closed G s l)
+  pub closed_carries : (n : ℕ) → kind_of n ≡ Close → Closes G l s → Carries G n l s (closed G s l)
   unfolding closed closed_at closed_book book_by
   closed_carries n q c =
       let e : ℕ = c.entry.place in
@@ -193,14 +190,14 @@ module _ {G : Geometry} (S : Sound G) (l : Lent) (s : Session) (f : Fits G l s) 
       (closed_change S l.drive.image l.drive.map g s.user f.user_low l.fcb e (present_cur S n l s g f e c.entry.is WritesNone) WritesNone))
 
   -- 20 and 33
-  read_carries : (n : ℕ) → kind_of n ≡ Read → (t : ℕ) → ReadOk G n s.user l (read G s l n).lent t → Carries G n l s (read G s l n)
+  pub read_carries : (n : ℕ) → kind_of n ≡ Read → (t : ℕ) → ReadOk G n s.user l (read G s l n).lent t → Carries G n l s (read G s l n)
   unfolding book_by
   read_carries n q t r =
       let m = named_read n q in
       by_name_law n (read G s l n) (moved_book G n s.user l) m.uses m.plain (λ u. rw q) r.change
 
   -- 21 and 34
-  written_carries : (n : ℕ) → kind_of n ≡ Write → accepted_answer n (written G s l n).answer ≡ true → (t : ℕ) → WriteOk G n s.user l (written G s l n).lent t
+  pub written_carries : (n : ℕ) → kind_of n ≡ Write → accepted_answer n (written G s l n).answer ≡ true → (t : ℕ) → WriteOk G n s.user l (written G s l n).lent t
       → Carries G n l s (written G s l n)
   unfolding book_by
   written_carries n q a t r =
@@ -218,7 +215,7 @@ module _ {G : Geometry} (S : Sound G) (l : Lent) (s : Session) (f : Fits G l s) 
       (λ v x h. rw q) r.change
 
   -- 19
-  deleted_carries : (n : ℕ) → kind_of n ≡ Delete → Carries G n l s (deleted G s l)
+  pub deleted_carries : (n : ℕ) → kind_of n ≡ Delete → Carries G n l s (deleted G s l)
   unfolding deleted deletes deleted_book book_by uses_fcb_rule wild
   deleted_carries n q =
       let m = at_kind (λ (n : ℕ). (uses_fcb_rule n ≡ true) × (wild n ≡ true)) Delete n refl ((refl, refl) & tt) q in
@@ -228,7 +225,7 @@ module _ {G : Geometry} (S : Sound G) (l : Lent) (s : Session) (f : Fits G l s) 
       (erased_change S (deletes G s l) l.drive.image l.drive.map g (λ e h n. named_used true s.user l.fcb 1 (rows_of G l e) n f.user_low) WritesNone)
 
   -- 22
-  created_carries : (n : ℕ) → kind_of n ≡ Create → Makes G l s → Carries G n l s (created G s l)
+  pub created_carries : (n : ℕ) → kind_of n ≡ Create → Makes G l s → Carries G n l s (created G s l)
   unfolding created created_at asked_entry book_by
   created_carries n q m =
       let t : ℕ = m.entry.place in
@@ -244,31 +241,15 @@ module _ {G : Geometry} (S : Sound G) (l : Lent) (s : Session) (f : Fits G l s) 
       (no_file_says G (rows_of G l) s.user l.fcb 1 (ex_of l.fcb) m.new) WritesNone))
 
   -- 23
-  renamed_carries : (n : ℕ) → kind_of n ≡ Rename → Renames G l s → Carries G n l s (renamed G s l)
+  pub renamed_carries : (n : ℕ) → kind_of n ≡ Rename → Renames G l s → Carries G n l s (renamed G s l)
   unfolding renamed book_by uses_fcb_rule wild
   renamed_carries n q r =
       let m = at_kind Named Rename n refl (record { uses = refl; plain = refl } & tt) q in
       by_name_law n (renamed G s l) as_it_was m.uses m.plain (λ u. rw q) (renamed_change S l.drive.image l.drive.map g s.user f.user_low l.fcb r.new_name r.new WritesNone)
 
-  user_lent : (argument : ℕ) → (user_set G s l argument).lent ≡ l
+  pub user_lent : (argument : ℕ) → (user_set G s l argument).lent ≡ l
   unfolding user_set
   user_lent argument = split (bool_cases (eqb argument 255)) (λ t. rw t) (λ t. rw t)
-
-  -- every kind but the settling calls
-  pub carried : (asked : Asked) → AcceptedCall G asked l s → (k : Kind) → kind_of asked.number ≡ k → same k Settle ≡ false
-      → accepted_answer asked.number (does G asked l s k).answer ≡ true → Carries G asked.number l s (does G asked l s k)
-  unfolding searched found_at book_by
-  carried asked c Unlisted q z a = not_unlisted asked.number c.listed q
-  carried asked c Quiet q z a = quiet asked.number (does G asked l s Quiet) refl refl (λ u. rw q)
-  carried asked c Search q z a = quiet asked.number (does G asked l s Search) refl refl (λ u. rw q)
-  carried asked c User q z a = quiet asked.number (does G asked l s User) (rw (user_lent asked.argument)) (rw (user_lent asked.argument)) (λ u. rw q)
-  carried asked c Settle q z a = clash z
-  carried asked c Close q z a = closed_carries asked.number q (closes_of G asked l s c.none q)
-  carried asked c Delete q z a = deleted_carries asked.number q
-  carried asked c Create q z a = created_carries asked.number q (makes_of G asked l s c.none q)
-  carried asked c Rename q z a = renamed_carries asked.number q (renames_of G asked l s c.none q)
-  carried asked c Read q z a = read_carries asked.number q _ (reads_ok S asked.number l s g f (reads_of G asked l s c.none c.ready.image_right f.user_low q))
-  carried asked c Write q z a = written_carries asked.number q a _ (written_ok S asked.number l s g f (writes_by G asked l s c.none q))
 
 -- 13 leaves the fresh map, 98 one without pending notes: nothing is held
 pub logged_in_tracks : (G : Geometry) (l : Lent) (s : Session) → Tracks G nothing_held (note_at_rule (logged_in G s l).lent.drive.map)
