@@ -30,7 +30,7 @@ use Rattle.model.specs.Closing.{closed_image}
 use Rattle.model.specs.Target.{plan, moved, have_read}
 use Rattle.model.specs.Calls.{logged_in, freed, user_set, opened_at, opened, closed_at, closed, found_at, searched, deletes, deleted, created_at, created, renamed, read_at, reading, read, written_at, writing, written, sized, positioned, space}
 use Rattle.model.specs.Stamps.{Stamp, access_stamps, close_stamps, new_stamps, create_stamps, move_stamps, stamps_by, stamped_outcome, where_dated}
-use Rattle.model.specs.Step.{refused, told, pattern, place, settled, does, effect, carried_out, stamps_made, step}
+use Rattle.model.specs.Step.{refused, told, pattern, place, settled, does, effect, carried_out, step}
 use Rattle.model.specs.Table.{changers, parameters_right_rule, disk_right_rule, when, first_row, own_rows, move_changes, protection_holds, table, verdict}
 use Rattle.fields.specs.Closing.{map_kept}
 use Rattle.table.specs.Own.{same_is, not_unlisted}

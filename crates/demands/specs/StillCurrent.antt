@@ -1,48 +1,34 @@
 -- For those who build above the calls: the FCB handed back by an accepted 16, 20, 21, 33 or 34 is current under the session handed back,
 -- and so is that of an accepted 15 or 22 whose cr is at most 128. Here after the own rule of each call; proofs/StillCurrent adds its stamps.
-use Rattle.std.specs.Prelude.{◌≡◌, true, false, List, [], ◌∷◌}
-use Rattle.std.proofs.Math.Path.{refl, subst}
-use Rattle.std.proofs.Common.{sym, arith}
+use Rattle.std.specs.Prelude.{List, [], ◌∷◌}
+use Rattle.std.proofs.Math.Path.{refl}
+use Rattle.std.proofs.Common.{arith}
 use Prim.Native.Nat.{ℕ, ◌≤◌}
 use Rattle.format.specs.Diskette.{Bytes, Geometry, Sound}
-use Rattle.format.specs.Entries.{entry_at, ex_of}
-use Rattle.format.specs.Fcb.{cr_of, current}
-use Rattle.facts.specs.Found.{FoundAt}
-use Rattle.format.specs.declared.Found.TheVariants.{At}
+use Rattle.format.specs.Entries.{ex_of}
+use Rattle.format.specs.Fcb.{cr_of}
 use Rattle.rows.specs.Entries.{entry_stored, length_entry_at}
 use Rattle.facts.specs.Find.{file_says, empty_says}
 use Rattle.model.specs.declared.Asked.{Asked}
 use Rattle.model.specs.declared.Session.{Session}
-use Rattle.model.specs.Lent.{Lent, rows_of, Outcome}
+use Rattle.model.specs.Lent.{Lent, rows_of}
 use Rattle.model.specs.Entering.{made_row_rule}
-use Rattle.model.specs.Target.{present_entry, plan}
-use Rattle.model.specs.Kinds.{one_of, kind_of, same}
-use Rattle.model.specs.declared.Kind.{Kind}
-use Rattle.model.specs.declared.Kind.TheVariants.{Quiet, User, Settle, Close, Create, Read, Write}
+use Rattle.model.specs.Target.{plan}
 use Rattle.model.specs.Table.{asked_entry}
 use Rattle.model.specs.Calls.{quietly, opened_at, opened, closed_at, closed, created_at, created, read, written}
 use Rattle.fields.specs.Fine.{fine_made}
 use Rattle.fields.specs.Making.{length_made_row, user_made}
 use Rattle.facts.specs.Naming.{file_user, file_run}
 use Rattle.consistency.specs.Naming.{file_used}
-use Rattle.table.specs.First.{◌&◌}
 use Rattle.table.specs.Plans.{entry_of}
-use Rattle.table.specs.Own.{calling, at_one, told_apart, kinds_apart}
-use Rattle.table.specs.Accept.{opens_of, closes_of, makes_of, reads_of, writes_by}
-use Rattle.table.specs.Facts.{Fits, Opens, Closes, Makes, Reads, Writes, AcceptedCall}
-use Rattle.model.specs.Step.{told, does, stamped}
+use Rattle.table.specs.Facts.{Fits, Opens, Closes, Makes, Reads, Writes}
 use Rattle.invariant.specs.Good.{Good}
 use Rattle.effects.specs.View.{view_of}
-use Rattle.effects.specs.Cur.{Cur, cur_current}
+use Rattle.effects.specs.Cur.{Cur}
 use Rattle.effects.specs.Where.{WritesNone}
 use Rattle.effects.specs.Entered.{entered_cur, copied_cur, closed_cur}
 use Rattle.effects.specs.Came.{present_cur}
 use Rattle.effects.proofs.Write.{written_ok, reads_ok}
-use Rattle.table.proofs.Accepted.{accepted_carried}
-use Rattle.demands.specs.StepOk.{ready_good}
-use Rattle.demands.specs.Stamped.{stamped_as_law}
-use Rattle.demands.specs.Runs.{Request, Disk, lent_to, outcome_of, accepts, after}
-use Rattle.demands.specs.ReadBack.{user_stays}
 
 -- the calls that may hand back a current FCB
 abbrev pub current_calls : List ℕ
