@@ -20,7 +20,7 @@ use Rattle.invariant.specs.Good.{Good}
 use Rattle.invariant.specs.Updates.{good_erased, good_renamed}
 use Rattle.facts.specs.Slots.{slot_place}
 use Rattle.effects.specs.View.{view_of, Names}
-use Rattle.effects.specs.Effect.{Effect, notes_stay}
+use Rattle.effects.specs.Effect.{Effect, RecsStay, notes_stay}
 use Rattle.effects.specs.Steps.{NamesUsed, keeps_by, held_named}
 use Rattle.effects.proofs.Steps.{named_effect}
 use Rattle.effects.specs.Book.{dropped_for}
@@ -32,10 +32,12 @@ use Rattle.effects.specs.Picked.{picked_aside, picked_frame}
 -- ---- rows that a test picks are changed
 module _ {G : Geometry} (S : Sound G) (picks : Names) (change : Bytes → Bytes) (keeps : (r : Bytes) → length r ≡ entry_bytes → length (change r) ≡ entry_bytes)
     (img map map' : Bytes) (g : Good G img map) (sure : NamesUsed G (view_of G img map) picks) where
+  recs : RecsStay G (view_of G img map) (view_of G (changed_rows G picks change img) map')
+  recs d p b = record_changed_rows S picks change keeps img g.image_long d p b
+
   pub picked_effect : Effect G (view_of G img map) (view_of G (changed_rows G picks change img) map') picks
   picked_effect =
-      named_effect G (view_of G img map) (view_of G (changed_rows G picks change img) map') picks g.inv
-      (record_changed_rows S picks change keeps img g.image_long) sure
+      named_effect G (view_of G img map) (view_of G (changed_rows G picks change img) map') picks g.inv recs sure
       (λ e l n. row_unpicked S picks change keeps img g.image_long e l n)
 
 -- ---- 19
