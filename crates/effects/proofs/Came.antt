@@ -24,7 +24,8 @@ use Rattle.fields.specs.Agree.{SameName, is_file_cong}
 use Rattle.consistency.specs.Naming.{file_used}
 use Rattle.fields.specs.Fine.{fine_next}
 use Rattle.fields.specs.Making.{length_next_row, slot_next, user_next, name_next, extent_next}
-use Rattle.fields.specs.Entering.{length_entered, slot_entered, first_entered, name_entered, extent_entered}
+use Rattle.fields.specs.Entering.{length_entered, first_entered, extent_entered}
+use Rattle.fields.proofs.Entering.{slot_entered, name_entered}
 use Rattle.facts.specs.Naming.{named_intro, named_like, file_intro, file_named, file_user, file_like, file_run}
 use Rattle.fields.specs.Target.{stays_extent}
 use Rattle.table.specs.Facts.{Fits}

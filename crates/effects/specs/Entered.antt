@@ -15,7 +15,8 @@ use Rattle.model.specs.Target.{written_fcb}
 use Rattle.fields.specs.Agree.{Agree, SameName, is_file_asked, is_file_cong}
 use Rattle.facts.specs.Naming.{named_intro, file_intro, file_run}
 use Rattle.fields.specs.Closing.{slot_closed_old, slot_closed_new, file_closed, name_closed_fcb, slot_closed_fcb, extent_closed_fcb, fcb_right_closed_fcb}
-use Rattle.fields.specs.Entering.{name_entered, slot_entered, extent_entered, fcb_right_entered, name_copied, slot_copied, extent_copied, row_copied, rest_copied}
+use Rattle.fields.specs.Entering.{extent_entered, name_copied, slot_copied, extent_copied, row_copied, rest_copied}
+use Rattle.fields.proofs.Entering.{name_entered, slot_entered, fcb_right_entered}
 use Rattle.fields.specs.Target.{name_read, slot_read, extent_read, head_read, cr_read, name_written, head_written, cr_written}
 use Rattle.invariant.specs.Close.{Held}
 use Rattle.fields.specs.Images.{row_closed_image}

@@ -3,7 +3,7 @@ use Rattle.std.specs.Prelude.{◌≡◌, false, ℕ, ◌≤◌, length}
 use Rattle.format.specs.Diskette.{Bytes, Geometry}
 use Rattle.model.specs.Closing.{closed_row_rule, close_changes_rule}
 use Rattle.model.specs.Entering.{entered}
-use Rattle.fields.specs.Entering.{slot_entered}
+use Rattle.fields.proofs.Entering.{slot_entered}
 use Rattle.fields.specs.Closing.{nothing_to_close, row_kept}
 use Rattle.fields.specs.OpenClose.{entered_ends}
 

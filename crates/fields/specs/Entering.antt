@@ -1,8 +1,7 @@
 -- What an FCB holds once it has taken an entry, byte by byte and field by field.
-use Rattle.std.specs.Prelude.{◌≡◌, ◌⊎◌, true, ℕ, ◌+◌, ◌-◌, ◌/◌, ◌%◌, ◌≤◌, ◌<◌, leb, length}
+use Rattle.std.specs.Prelude.{◌≡◌, ◌⊎◌, ℕ, ◌+◌, ◌-◌, ◌/◌, ◌%◌, ◌≤◌, ◌<◌, leb, length}
 use Rattle.std.proofs.Math.Path.{ap}
 use Rattle.std.proofs.Common.{sym, ◌∙◌, inl, inr, le-leb, eq-eqb, ne_eqb}
-use Rattle.std.proofs.Math.Bool.{false}
 use native.Mathlib.Omega.{arith}
 use Rattle.std.proofs.Math.ListN.{get_or}
 use Rattle.std.proofs.lemmas.Bool.{lt-leb}
@@ -10,17 +9,14 @@ use Rattle.lists.specs.Cases.{split, bool_cases, eq_or_ne}
 use Rattle.lists.specs.Tests.{◌and◌, and_both, and_fails_left, and_fails_right}
 use Rattle.lists.specs.Splice.{part, length_part, get_d_part, length_splice, get_d_splice_at, get_d_splice_out}
 use Rattle.lists.specs.Tab.{length_tab, get_d_tab}
-use Rattle.format.specs.Diskette.{Bytes, Geometry, entry_bytes, extents}
-use Rattle.format.specs.Names.{seven_bits, name_right_rule}
+use Rattle.format.specs.Diskette.{Bytes, Geometry, entry_bytes}
+use Rattle.format.specs.Names.{seven_bits}
 use Rattle.format.specs.Entries.{ex_of, s2_of, count_of, with_numbers, slot_of, extent_of, count_in}
-use Rattle.format.specs.Fcb.{cr_of, fcb_right_rule}
-use Rattle.facts.specs.Names.{right_cong}
-use Rattle.facts.specs.Numbers.{byte_with_numbers, ex_with_numbers, s2_with_numbers, count_with_numbers}
+use Rattle.format.specs.Fcb.{cr_of}
+use Rattle.facts.specs.Numbers.{ex_with_numbers, s2_with_numbers, count_with_numbers}
 use Rattle.facts.specs.Counts.{count_there_law, count_high}
-use Rattle.consistency.specs.Facts.{Numbers}
-use Rattle.consistency.specs.Reflect.{numbers_intro}
 use Rattle.model.specs.Entering.{copied, interface_byte, interface_cleared, as_extent, entered}
-use Rattle.fields.specs.Agree.{Agree, SameName, slot_cong, extent_cong, count_cong, name_cong, numbers_cong}
+use Rattle.fields.specs.Agree.{Agree, SameName, slot_cong, extent_cong, count_cong, name_cong}
 
 -- ---- an FCB whose bytes 1 to 31 become the row's: byte 0 and those from 32 on stay
 module _ (fcb row : Bytes) (hf : 32 ≤ length fcb) (hr : 32 ≤ length row) where
@@ -91,17 +87,11 @@ module _ (row : Bytes) (ext : ℕ) where
   unfolding as_extent
   as_extent_other n = rw (ne_eqb ext (extent_of row) n)
 
-  byte_as_extent : (i : ℕ) → (i ≡ 12 → ⊥) → (i ≡ 14 → ⊥) → (i ≡ 15 → ⊥) → get_or (as_extent row ext) i 0 ≡ get_or row i 0
-  unfolding as_extent
-  byte_as_extent i a b c =
-      split (eq_or_ne ext (extent_of row)) (λ q. rw (eq-eqb ext (extent_of row) q))
-      (λ n. rw (ne_eqb ext (extent_of row) n) (byte_with_numbers row (ext % 32) (ext / 32) (count_in row ext) i a b c))
-
   module _ (hr : 32 ≤ length row) where
-    ex_other : ex_of (with_numbers row (ext % 32) (ext / 32) (count_in row ext)) ≡ ext % 32
+    pub ex_other : ex_of (with_numbers row (ext % 32) (ext / 32) (count_in row ext)) ≡ ext % 32
     ex_other = ex_with_numbers row (ext % 32) (ext / 32) (count_in row ext) hr
 
-    s2_other : s2_of (with_numbers row (ext % 32) (ext / 32) (count_in row ext)) ≡ ext / 32
+    pub s2_other : s2_of (with_numbers row (ext % 32) (ext / 32) (count_in row ext)) ≡ ext / 32
     s2_other = s2_with_numbers row (ext % 32) (ext / 32) (count_in row ext) hr
 
     count_other : count_of (with_numbers row (ext % 32) (ext / 32) (count_in row ext)) ≡ count_in row ext
@@ -118,13 +108,6 @@ module _ (row : Bytes) (ext : ℕ) where
     count_as_extent =
         split (eq_or_ne ext (extent_of row)) (λ q. rw (eq-eqb ext (extent_of row) q) (sym (count_there_law row ext q))) (λ n. rw (ne_eqb ext (extent_of row) n) count_other)
 
-    -- and its ex and s2 are in range, where the row's are
-    numbers_as_extent : Numbers row → ext < extents → Numbers (as_extent row ext)
-    unfolding as_extent
-    numbers_as_extent m x =
-        split (eq_or_ne ext (extent_of row)) (λ q. rw (eq-eqb ext (extent_of row) q) m)
-        (λ n. rw (ne_eqb ext (extent_of row) n) record { ex = rw ex_other (omega arith); s2 = rw s2_other (omega arith) })
-
 -- ---- an FCB that takes an entry, as of an extent
 module _ (fcb row : Bytes) (ext : ℕ) (hf : 32 ≤ length fcb) where
   cleared_long : 32 ≤ length (interface_cleared (as_extent row ext))
@@ -138,27 +121,17 @@ module _ (fcb row : Bytes) (ext : ℕ) (hf : 32 ≤ length fcb) where
   unfolding entered
   first_entered = first_copied fcb (interface_cleared (as_extent row ext)) hf cleared_long
 
-  byte_entered : (i : ℕ) → 1 ≤ i → i < 32 → get_or (entered fcb row ext) i 0 ≡ interface_byte (as_extent row ext) i
+  pub byte_entered : (i : ℕ) → 1 ≤ i → i < 32 → get_or (entered fcb row ext) i 0 ≡ interface_byte (as_extent row ext) i
   unfolding entered
   byte_entered i a b = row_copied fcb (interface_cleared (as_extent row ext)) hf cleared_long i a b ∙ byte_interface_cleared (as_extent row ext) i b
 
   -- from byte 9 on they are the row's own, as of the extent; from 32 on the FCB's
-  row_entered : Agree (entered fcb row ext) (as_extent row ext) 9 32
+  pub row_entered : Agree (entered fcb row ext) (as_extent row ext) 9 32
   row_entered i a b = byte_entered i (omega arith) b ∙ interface_out (as_extent row ext) i (inr (omega arith))
 
   pub rest_entered : (n : ℕ) → Agree (entered fcb row ext) fcb 32 n
   unfolding entered
   rest_entered n = rest_copied fcb (interface_cleared (as_extent row ext)) hf cleared_long n
-
-  pub name_entered : SameName (entered fcb row ext) 1 row 1
-  name_entered i h =
-      ap seven_bits (byte_entered (1 + i) (omega arith) (omega arith)) ∙ interface_bits (as_extent row ext) (1 + i)
-      ∙ ap seven_bits (byte_as_extent row ext (1 + i) (λ q. omega arith) (λ q. omega arith) (λ q. omega arith))
-
-  pub slot_entered : (G : Geometry) (j : ℕ) → slot_of G (entered fcb row ext) j ≡ slot_of G row j
-  slot_entered =
-      slot_cong (entered fcb row ext) row
-      (λ i a b. row_entered i (omega arith) b ∙ byte_as_extent row ext i (λ q. omega arith) (λ q. omega arith) (λ q. omega arith))
 
   pub cr_entered : cr_of (entered fcb row ext) ≡ cr_of fcb
   cr_entered = rest_entered 36 32 (omega arith) (omega arith)
@@ -169,12 +142,3 @@ module _ (fcb row : Bytes) (ext : ℕ) (hf : 32 ≤ length fcb) where
 
     pub count_entered : count_of (entered fcb row ext) ≡ count_in row ext
     count_entered = count_cong (entered fcb row ext) (as_extent row ext) (λ i a b. row_entered i (omega arith) (omega arith)) ∙ count_as_extent row ext hr
-
-    -- it is right where the row, the extent and cr are
-    pub fcb_right_entered : name_right_rule false row 1 ≡ true → Numbers row → ext < extents → cr_of fcb ≤ 128 → fcb_right_rule (entered fcb row ext) ≡ true
-    unfolding fcb_right_rule
-    fcb_right_entered n m x c =
-        and_both _ _ (right_cong false (entered fcb row ext) 1 row 1 name_entered ∙ n)
-        (and_both _ _
-        (numbers_cong (entered fcb row ext) (as_extent row ext) (λ i a b. row_entered i (omega arith) (omega arith)) ∙ numbers_intro (as_extent row ext) (numbers_as_extent row ext hr m x))
-        (rw cr_entered (le-leb _ _ c)))

@@ -25,7 +25,7 @@ use Rattle.model.specs.Stamps.{time_stamp_rule}
 use Rattle.model.specs.Step.{told}
 use Rattle.model.specs.Table.{time_right_rule, asked_entry}
 use Rattle.fields.specs.Agree.{SameName}
-use Rattle.fields.specs.Entering.{name_entered}
+use Rattle.fields.proofs.Entering.{name_entered}
 use Rattle.fields.specs.Numbers.{random_three}
 use Rattle.fields.specs.Size.{size_covers, size_high, end_high}
 use Rattle.table.specs.Own.{calling}

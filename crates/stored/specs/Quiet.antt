@@ -30,7 +30,8 @@ use Rattle.model.specs.Step.{told, does}
 use Rattle.model.specs.Table.{time_right_rule, asked_entry, own_rows, move_changes, protection_holds}
 use Rattle.fields.specs.Agree.{count_cong}
 use Rattle.fields.specs.Closing.{nothing_to_close, unchanged_end}
-use Rattle.fields.specs.Entering.{length_entered, first_entered, slot_entered}
+use Rattle.fields.specs.Entering.{length_entered, first_entered}
+use Rattle.fields.proofs.Entering.{slot_entered}
 use Rattle.fields.proofs.OpenClose.{opened_keeps}
 use Rattle.table.specs.Own.{kinds_apart}
 use Rattle.table.specs.Facts.{Fits, Opens, Ready}

@@ -35,7 +35,7 @@ use Rattle.model.specs.Calls.{written_at, writing, written}
 use Rattle.fields.specs.Agree.{is_file_asked, is_file_cong}
 use Rattle.fields.specs.Closing.{end_closed, slot_closed_old, slot_closed_new, file_closed, unchanged_end, map_kept, Takes, note_closed_cases}
 use Rattle.fields.specs.Images.{row_closed_image, row_closed_image_other, record_closed_image}
-use Rattle.fields.specs.Entering.{slot_entered}
+use Rattle.fields.proofs.Entering.{slot_entered}
 use Rattle.fields.proofs.OpenClose.{opened_keeps}
 use Rattle.fields.specs.Making.{length_next_row, zero_next, slot_next, extent_next}
 use Rattle.fields.specs.Target.{record_below, cr_after_high, target_slot_below, place_below, extent_written, slot_written, slot_written_other, rc_written, count_written_high, map_written_kept, note_written_other}
