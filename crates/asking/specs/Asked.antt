@@ -1,5 +1,5 @@
 -- What 15 and 22 ask of the FCB before they look for the file, and what the two rows of the table for it decide.
-use Rattle.std.specs.Prelude.{◌≡◌, refl, Bool, true, false, not, List, ◌∷◌, ℕ, ◌<◌, leb, ltb}
+use Rattle.std.specs.Prelude.{◌≡◌, refl, Bool, true, false, not, List, ◌∷◌, ℕ, ◌<◌, leb, ltb, Some}
 use Rattle.std.proofs.Common.{ap, sym, leb-true, leb-false, lt-ltb, le-ltb}
 use Rattle.lists.specs.Cases.{split, bool_cases}
 use Rattle.lists.specs.Tests.{◌and◌, and_left, and_right, second_fails}
@@ -7,7 +7,6 @@ use Rattle.format.specs.Diskette.{Bytes, Geometry}
 use Rattle.format.specs.Names.{name_right_rule}
 use Rattle.format.specs.Entries.{ex_of, extent_of, run_of}
 use Rattle.model.specs.declared.Code.TheVariants.{BadName}
-use Rattle.format.specs.declared.Found.TheVariants.{At}
 use Rattle.model.specs.Lent.{Lent, rows_of}
 use Rattle.model.specs.Table.{Row, when, asked_entry}
 use Rattle.facts.specs.Find.{file_says, found_own}
@@ -36,11 +35,11 @@ unfolding asks_right_rule
 asked_right fcb h = record { name = ap not (and_left _ _ h); ex = le-ltb 31 (ex_of fcb) (leb-true (ex_of fcb) 31 (and_right _ _ h)) }
 
 -- the entry that is asked for is one
-pub asked_below : (G : Geometry) (l : Lent) (user e : ℕ) → asked_entry G l user ≡ At e → e < G.entries
+pub asked_below : (G : Geometry) (l : Lent) (user e : ℕ) → asked_entry G l user ≡ Some e → e < G.entries
 unfolding asked_entry
 asked_below G l user e q = (file_says G (rows_of G l) user l.fcb 1 (ex_of l.fcb) e q).below
 
 -- and where an entry covers one extent it has that extent
-pub asked_own : (G : Geometry) → ((x : ℕ) → run_of G x ≡ x) → (l : Lent) (user e : ℕ) → asked_entry G l user ≡ At e → ex_of l.fcb ≡ extent_of (rows_of G l e)
+pub asked_own : (G : Geometry) → ((x : ℕ) → run_of G x ≡ x) → (l : Lent) (user e : ℕ) → asked_entry G l user ≡ Some e → ex_of l.fcb ≡ extent_of (rows_of G l e)
 unfolding asked_entry
 asked_own G single l user e q = sym (found_own G (rows_of G l) user l.fcb 1 (ex_of l.fcb) single e q)

@@ -1,5 +1,5 @@
 -- The walk back along the chain of a key, for entries that pass a test and so have that key: what was passed over does not pass it.
-use Rattle.std.specs.Prelude.{◌≡◌, Bool, true, false, ℕ, ◌+◌, ◌-◌, ◌≤◌, ◌<◌, get_or}
+use Rattle.std.specs.Prelude.{◌≡◌, Bool, true, false, ℕ, ◌+◌, ◌-◌, ◌≤◌, ◌<◌, get_or, None, Some}
 use Rattle.std.proofs.Math.Path.{ap}
 use Rattle.std.proofs.Common.{sym, ◌∙◌, arith, eqb-true}
 use Rattle.std.proofs.Math.Bool.{not}
@@ -10,7 +10,6 @@ use Rattle.lists.specs.Below.{any_at, any_empty, last_below, last_high, last_hol
 use Rattle.format.specs.Diskette.{Bytes, Geometry}
 use Rattle.format.specs.Entries.{Rows, user_of, used, is_file_rule, extent_of, find_file_rule, run_of}
 use Rattle.format.specs.Consistent.{same_file_rule, alone}
-use Rattle.format.specs.declared.Found.TheVariants.{At, Nothing}
 use Rattle.facts.specs.Find.{file_test, no_file_is}
 use Rattle.facts.specs.Naming.{file_user, file_like, file_run}
 use Rattle.consistency.specs.Naming.{file_used, alone_found}
@@ -97,8 +96,8 @@ module _ (G : Geometry) (d : Rows) (user : ℕ) (s : Bytes) (q ext : ℕ) (real 
       ∙ key_asked (d g) user s q ext (file_user G user s q ext (d g) t) (file_like G user s q ext (d g) t)
       (sym (single (extent_of (d g))) ∙ file_run G user s q ext (d g) t ∙ single ext)
 
-  pub find_hit_law : (chain : Bytes) (e : ℕ) → Indexed G d chain → e < G.entries → file_test G d user s q ext e ≡ true → find_file_rule G d user s q ext ≡ At e
+  pub find_hit_law : (chain : Bytes) (e : ℕ) → Indexed G d chain → e < G.entries → file_test G d user s q ext e ≡ true → find_file_rule G d user s q ext ≡ Some e
   find_hit_law chain e i h t = alone_found G d user real s q ext e h t (i.single e h)
 
-  pub find_end : (k f : ℕ) → Walk d (file_test G d user s q ext) k G.entries f → f ≡ 0 → find_file_rule G d user s q ext ≡ Nothing
+  pub find_end : (k f : ℕ) → Walk d (file_test G d user s q ext) k G.entries f → f ≡ 0 → find_file_rule G d user s q ext ≡ None
   find_end k f w z = no_file_is G d user s q ext (λ g l. w.passed g (omega arith) l)

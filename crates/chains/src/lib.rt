@@ -9,7 +9,6 @@ ghost use Rattle.format.specs.Entries.{Rows, entry_at, used, find_file_rule};
 ghost use Rattle.format.specs.Consistent.{same_file_rule, alone};
 ghost use Rattle.chains.specs.Chain.{chain_bytes, Chained, Indexed};
 
-use format::Found;
 use keys::KEYS;
 
 // A number for each key, and then one for each entry.
@@ -63,7 +62,7 @@ pub fn take_key(image: &[u8], e: usize, r: &[u8], chain: &mut [u8]) -> bool
 }
 
 // The entry of this user, name and extent: only those of its key are looked at.
-pub fn find_file(image: &[u8], chain: &[u8], user: u8, s: &[u8], q: usize, ext: usize) -> Found
+pub fn find_file(image: &[u8], chain: &[u8], user: u8, s: &[u8], q: usize, ext: usize) -> Option<usize>
     requires { Long eight_inch image.now × (q + name_bytes ≤ length s.now) × (user ≤ 15)
         × Indexed eight_inch (entry_at eight_inch image.now) chain.now }
     ensures { result ≡ find_file_rule eight_inch (entry_at eight_inch image.now) user s.now q ext }
@@ -71,9 +70,9 @@ pub fn find_file(image: &[u8], chain: &[u8], user: u8, s: &[u8], q: usize, ext: 
     let mut f = lists::wide(chain[keys::file_key(user, s, q, ext)]);
     while f != 0 {
         if lookups::is_file(user, s, q, ext, rows::row(image, f - 1)) {
-            return Found::At(f - 1);
+            return Some(f - 1);
         }
         f = lists::wide(chain[KEYS + (f - 1)]);
     }
-    Found::Nothing
+    None
 }

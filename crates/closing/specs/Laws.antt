@@ -1,5 +1,5 @@
 -- What the steps of a close come to, of the image and the map; and call 16 by the entry of its FCB.
-use Rattle.std.specs.Prelude.{◌≡◌, refl, false, ℕ, ◌<◌}
+use Rattle.std.specs.Prelude.{◌≡◌, refl, false, ℕ, ◌<◌, None, Option, Some}
 use Rattle.std.proofs.Math.Path.{sym}
 use Rattle.std.proofs.Common.{◌∙◌}
 use Rattle.lists.specs.Fold.{fold_below}
@@ -7,8 +7,6 @@ use Rattle.format.specs.Diskette.{Bytes, Geometry, Sound, Long, slot_count}
 use Rattle.format.specs.Entries.{entry_at, with_entry, slots_of}
 use Rattle.format.specs.Fcb.{current}
 use Rattle.facts.specs.Found.{found_row, missed_row}
-use Rattle.format.specs.declared.Found.{Found}
-use Rattle.format.specs.declared.Found.TheVariants.{At, Nothing}
 use Rattle.model.specs.declared.Asked.{Asked}
 use Rattle.model.specs.declared.Session.{Session}
 use Rattle.model.specs.declared.Answer.{Answer}
@@ -41,22 +39,22 @@ unfolding closed_map
 closed_map_law G img fcb row es fs map m e a b c d = rw (d, b, c, a)
 
 -- ---- call 16, by what the look-up of its FCB's entry answers
-module _ (G : Geometry) (img map fcb : Bytes) (s : Session) (found : Found) (is : found ≡ current G (entry_at G img) map s.user fcb) where
+module _ (G : Geometry) (img map fcb : Bytes) (s : Session) (found : Option ℕ) (is : found ≡ current G (entry_at G img) map s.user fcb) where
   -- the FCB is not current
-  pub close_refused : (asked : Asked) (buffer : Bytes) (r : Answer) → found ≡ Nothing → r ≡ answer_of Failed s → outcome r img map fcb buffer ≡ own_step G (calling 16 asked) (lend img map fcb buffer) s
+  pub close_refused : (asked : Asked) (buffer : Bytes) (r : Answer) → found ≡ None → r ≡ answer_of Failed s → outcome r img map fcb buffer ≡ own_step G (calling 16 asked) (lend img map fcb buffer) s
   unfolding present_entry
   close_refused asked buffer r q a =
       refuses_own G (calling 16 asked) (lend img map fcb buffer) s Failed r (here (missed_row _ (sym is ∙ q)) refl) a
 
   -- it is, and e is its entry
-  pub close_low : (e : ℕ) → found ≡ At e → e < G.entries
+  pub close_low : (e : ℕ) → found ≡ Some e → e < G.entries
   close_low e q =
       current_low G (entry_at G img) map s.user fcb e (current_says G (entry_at G img) map s.user fcb e (sym is ∙ q))
 
-  pub close_carried : (asked : Asked) (buffer : Bytes) (e : ℕ) (r : Answer) (i m f : Bytes) → found ≡ At e → r ≡ answer_of (Accepted (entry_number e)) (ended s)
+  pub close_carried : (asked : Asked) (buffer : Bytes) (e : ℕ) (r : Answer) (i m f : Bytes) → found ≡ Some e → r ≡ answer_of (Accepted (entry_number e)) (ended s)
       → i ≡ closed_image G img e fcb → m ≡ closed_map G (entry_at G img e) fcb map → f ≡ closed_fcb fcb
       → outcome r i m f buffer ≡ own_step G (calling 16 asked) (lend img map fcb buffer) s
   unfolding present_entry closed closed_at effect kind_of
   close_carried asked buffer e r i m f q a b c d =
-      let p : current G (entry_at G img) map s.user fcb ≡ At e = sym is ∙ q in
+      let p : current G (entry_at G img) map s.user fcb ≡ Some e = sym is ∙ q in
       carries_own G (calling 16 asked) (lend img map fcb buffer) s (outcome r i m f buffer) (found_row _ p & tt) (rw (p, a, b, c, d))

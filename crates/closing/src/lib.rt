@@ -12,7 +12,6 @@ ghost use Rattle.table.specs.OwnStep.{own_step};
 ghost use Rattle.chains.specs.Chain.{Findable};
 ghost use Rattle.model.specs.declared.Asked.{Asked};
 
-use format::Found;
 use model::{Answer, Code, Session};
 
 // Entry e takes the FCB's blocks, which become recorded, and its end where that is later.
@@ -50,7 +49,7 @@ pub fn close_file(
     ensures { (asked : Asked) (buffer : Bytes) → outcome result image.new map.new fcb.new buffer
         ≡ own_step eight_inch (calling 16 asked) (lend image.old map.old fcb.old buffer) session }
 {
-    let Found::At(e) = current::current_entry(image, map, chain, session.user, fcb) else {
+    let Some(e) = current::current_entry(image, map, chain, session.user, fcb) else {
         return answers::refuse(Code::Failed, session);
     };
     close_entry(image, map, e, fcb);

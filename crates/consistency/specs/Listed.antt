@@ -3,7 +3,7 @@ use Rattle.std.specs.Prelude.{◌≡◌, true, false, cond, ℕ, ◌+◌, ◌*�
 use Rattle.std.proofs.Common.{ap, sym, ◌∙◌, arith, eqb-true, eq-eqb}
 use Rattle.std.proofs.Math.Dec.{eqb}
 use Rattle.lists.specs.Cases.{split, bool_cases}
-use Rattle.lists.specs.Below.{Some, any_some, any_at}
+use Rattle.lists.specs.Below.{SomeBelow, any_some, any_at}
 use Rattle.lists.specs.Seen.{taken}
 use Rattle.format.specs.Diskette.{Geometry, slot_count}
 use Rattle.format.specs.Entries.{Rows, slot_of, used}
@@ -56,7 +56,7 @@ module _ (G : Geometry) (d : Rows) where
   pub listed_somewhere : (b : ℕ) → (b ≡ 0 → ⊥) → is_listed G d b ≡ true → Somewhere b
   unfolding is_listed taken
   listed_somewhere b r t =
-      let s : Some (λ (x : ℕ). eqb (listed G d x) b) (slots_in_all G) = any_some _ (slots_in_all G) t in
+      let s : SomeBelow (λ (x : ℕ). eqb (listed G d x) b) (slots_in_all G) = any_some _ (slots_in_all G) t in
       record {
         e = s.place / slot_count;
         j = s.place % slot_count;

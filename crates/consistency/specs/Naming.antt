@@ -1,11 +1,10 @@
 -- The rows that a name gives are used, and rows of one name and extent are one entry: the one that is found.
-use Rattle.std.specs.Prelude.{◌≡◌, Bool, true, false, ℕ, ◌≤◌, ◌<◌}
+use Rattle.std.specs.Prelude.{◌≡◌, Bool, true, false, ℕ, ◌≤◌, ◌<◌, Some}
 use Rattle.std.proofs.Common.{sym, ◌∙◌, arith}
 use Rattle.lists.specs.Cases.{refute}
 use Rattle.format.specs.Diskette.{Bytes, Geometry}
 use Rattle.format.specs.Entries.{Rows, used, named, is_file_rule, find_file_rule}
 use Rattle.format.specs.Consistent.{alone}
-use Rattle.format.specs.declared.Found.TheVariants.{At}
 use Rattle.facts.specs.Find.{file_is}
 use Rattle.facts.specs.Naming.{named_user, file_named, file_user, file_like, file_run}
 use Rattle.facts.specs.Names.{like_sym, like_trans}
@@ -28,7 +27,7 @@ file_same G user s q ext r t h k = record {
 
 -- the entry of a user, name and extent is the one that is found, if none before it is of the same file
 module _ (G : Geometry) (d : Rows) (user : ℕ) (hu : user ≤ 15) (s : Bytes) (q ext e : ℕ) (l : e < G.entries) (h : is_file_rule G user s q ext (d e) ≡ true) where
-  pub alone_found : alone G d e ≡ true → find_file_rule G d user s q ext ≡ At e
+  pub alone_found : alone G d e ≡ true → find_file_rule G d user s q ext ≡ Some e
   alone_found a =
       file_is G d user s q ext e record {
         low = omega arith;
@@ -38,5 +37,5 @@ module _ (G : Geometry) (d : Rows) (user : ℕ) (hu : user ≤ 15) (s : Bytes) (
             (same_intro G (d e) (d k) (file_used G user s q ext (d e) h hu) (file_used G user s q ext (d k) t hu) (file_same G user s q ext (d e) (d k) h t))));
       }
 
-  pub file_found : Consistent G d → find_file_rule G d user s q ext ≡ At e
+  pub file_found : Consistent G d → find_file_rule G d user s q ext ≡ Some e
   file_found c = alone_found (facts_alone G d c e l)

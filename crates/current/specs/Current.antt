@@ -1,5 +1,5 @@
 -- What it says that an FCB is current, as facts: its fields are in range, its entry is found, and its slots fit, slot by slot.
-use Rattle.std.specs.Prelude.{◌≡◌, Bool, true, false, cond, ℕ, ◌≤◌, ◌<◌}
+use Rattle.std.specs.Prelude.{◌≡◌, Bool, true, false, cond, ℕ, ◌≤◌, ◌<◌, None, Some}
 use Rattle.std.proofs.Common.{sym, leb-true, le-leb}
 use Rattle.lists.specs.Tests.{◌and◌, and_left, and_right, and_both, and_assoc}
 use Rattle.format.specs.Diskette.{Bytes, Geometry, slot_count}
@@ -10,7 +10,6 @@ use Rattle.heads.specs.Head.{fields_right_rule}
 use Rattle.facts.specs.Found.{FirstAt}
 use Rattle.facts.specs.Find.{file_test, file_says}
 use Rattle.facts.specs.Current.{Current, current_fitting}
-use Rattle.format.specs.declared.Found.TheVariants.{At, Nothing}
 use Rattle.consistency.specs.Facts.{Numbers}
 use Rattle.consistency.specs.Reflect.{numbers_elim, numbers_intro}
 use Rattle.slots.specs.Slots.{SlotOk, slots_say}
@@ -41,8 +40,8 @@ fcb_fields fcb = sym (and_assoc _ _ _)
 -- ---- the FCB is current, and e is its entry
 module _ (G : Geometry) (d : Rows) (map : Bytes) (user : ℕ) (fcb : Bytes) where
   -- from the slots taken out and the test of them
-  pub current_by : (e : ℕ) (es fs : Bytes) (f : Bool) → fcb_right_rule fcb ≡ true → find_file_rule G d user fcb 1 (extent_of fcb) ≡ At e
-      → es ≡ slots_of (d e) → fs ≡ slots_of fcb → f ≡ slots_fit_rule G map e es fs → cond f (At e) Nothing ≡ current G d map user fcb
+  pub current_by : (e : ℕ) (es fs : Bytes) (f : Bool) → fcb_right_rule fcb ≡ true → find_file_rule G d user fcb 1 (extent_of fcb) ≡ Some e
+      → es ≡ slots_of (d e) → fs ≡ slots_of fcb → f ≡ slots_fit_rule G map e es fs → cond f (Some e) None ≡ current G d map user fcb
   current_by e es fs f t q he hf h = rw (h, he, hf) (sym (current_fitting G d map user fcb e t q))
 
   -- the entry of a current FCB is the first of its file

@@ -8,7 +8,6 @@ ghost use Rattle.format.specs.Fcb.{fcb_bytes, fcb_right_rule, current};
 ghost use Rattle.slots.specs.Slots.{slots_same_rule};
 ghost use Rattle.chains.specs.Chain.{Findable};
 
-use format::Found;
 
 // Whether an FCB's name, ex, s2 and cr are in range.
 fn fcb_right(fcb: &[u8]) -> bool
@@ -35,22 +34,22 @@ pub fn slots_own(row: &[u8], fcb: &[u8]) -> bool
 }
 
 // The entry of a current FCB.
-pub fn current_entry(image: &[u8], map: &[u16], chain: &[u8], user: u8, fcb: &[u8]) -> Found
+pub fn current_entry(image: &[u8], map: &[u16], chain: &[u8], user: u8, fcb: &[u8]) -> Option<usize>
     requires { Findable eight_inch image.now chain.now user fcb.now }
     ensures { result ≡ current eight_inch (entry_at eight_inch image.now) map.now user fcb.now }
 {
     if !fcb_right(fcb) {
-        return Found::Nothing;
+        return None;
     }
-    let Found::At(e) = chains::find_file(image, chain, user, fcb, 1, entries::extent(fcb)) else {
-        return Found::Nothing;
+    let Some(e) = chains::find_file(image, chain, user, fcb, 1, entries::extent(fcb)) else {
+        return None;
     };
     let row = rows::row(image, e);
     if slots_own(row, fcb) {
-        return Found::At(e);
+        return Some(e);
     }
     if !slots::slots_fit(map, e, entries::slots(row), entries::slots(fcb)) {
-        return Found::Nothing;
+        return None;
     }
-    Found::At(e)
+    Some(e)
 }

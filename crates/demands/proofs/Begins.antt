@@ -1,6 +1,6 @@
 -- Demand 2 speaks of something too: a log-in and, once the protection is lifted, a make and a write on an erased disk are accepted, one after the
 -- other.
-use Rattle.std.specs.Prelude.{◌≡◌, true, ℕ, ◌≤◌, ◌<◌, get_or}
+use Rattle.std.specs.Prelude.{◌≡◌, true, ℕ, ◌≤◌, ◌<◌, get_or, Option}
 use Rattle.std.proofs.Math.Path.{refl, ap, subst}
 use Rattle.std.proofs.Common.{sym, ◌∙◌, arith}
 use Rattle.std.proofs.Math.Bool.{false}
@@ -14,7 +14,6 @@ use Rattle.format.specs.Notes.{free_note, note_at_rule, fresh_note_rule, fresh_m
 use Rattle.format.specs.Fcb.{cr_of}
 use Rattle.facts.specs.Found.{FoundAt, found_cases}
 use Rattle.format.specs.Found.{number_of}
-use Rattle.format.specs.declared.Found.{Found}
 use Rattle.notes.specs.Free.{none_free}
 use Rattle.notes.specs.Right.{fresh_at}
 use Rattle.rows.specs.Entries.{entry_stored}
@@ -83,7 +82,7 @@ module _ {G : Geometry} (S : Sound G) (d : Disk) (q : Request) (number : q.asked
   -- before its stamps
   own_is : created G d.session l ≡ created_at G d.session l t
   unfolding t created
-  own_is = ap (λ (r : Found). created_at G d.session l (number_of G.entries r)) makes.entry.is
+  own_is = ap (λ (r : Option ℕ). created_at G d.session l (number_of G.entries r)) makes.entry.is
 
   fits : Fits G l d.session
   fits = carried.facts.ready.fits

@@ -1,7 +1,7 @@
 -- The law of each stamp. On a disk with date entries, after an accepted call: beside a new entry the stamps are zero, but create is the time
 -- after a 22 where the label asks; access after a 15 on a session that is not protected, update after a close or move that changes the entry are the
 -- time where the label asks; every other stamp is what it was.
-use Rattle.std.specs.Prelude.{◌≡◌, refl, Bool, false, cond, not, List, [], ◌++◌, ℕ, ◌%◌, ◌<◌}
+use Rattle.std.specs.Prelude.{◌≡◌, refl, Bool, false, cond, not, List, [], ◌++◌, ℕ, ◌%◌, ◌<◌, Some}
 use Rattle.std.proofs.Math.Path.{ap}
 use Rattle.std.proofs.Common.{sym, ◌∙◌, arith}
 use Rattle.std.proofs.Math.Bool.{true}
@@ -12,7 +12,6 @@ use Rattle.lists.specs.Tests.{◌and◌}
 use Rattle.format.specs.Diskette.{Bytes, Geometry, Sound, entries_per_record}
 use Rattle.format.specs.Entries.{find_empty_rule}
 use Rattle.format.specs.Dates.{fourth_of, dated, stamp_at, asks_create, asks_access, asks}
-use Rattle.format.specs.declared.Found.TheVariants.{At}
 use Rattle.consistency.specs.Reflect.{dates_unused, dates_full}
 use Rattle.facts.specs.Beside.{fourth_below}
 use Rattle.model.specs.declared.Asked.{Asked}
@@ -90,7 +89,7 @@ module _ {G : Geometry} (S : Sound G) (asked : Asked) (l : Lent) (s : Session) (
     no_stamp_law h = made_by_law (kind_of asked.number) refl [] (other_stamps G asked l s h (kind_of asked.number) refl)
 
     -- 15 opened f
-    module _ (f : ℕ) (fifteen : asked.number ≡ 15) (found : asked_entry G l s.user ≡ At f) where
+    module _ (f : ℕ) (fifteen : asked.number ≡ 15) (found : asked_entry G l s.user ≡ Some f) where
       opens : kind_of asked.number ≡ Quiet
       unfolding kind_of
       opens = ap kind_of fifteen
@@ -110,7 +109,7 @@ module _ {G : Geometry} (S : Sound G) (asked : Asked) (l : Lent) (s : Session) (
       access_else n = made_by_law Quiet opens _ opened ∙ only_miss (first f (time_stamp_rule asked)) e which (before e which) stamps_access n
 
     -- 16
-    module _ (f : ℕ) (sixteen : asked.number ≡ 16) (found : present_entry G s.user l ≡ At f) where
+    module _ (f : ℕ) (sixteen : asked.number ≡ 16) (found : present_entry G s.user l ≡ Some f) where
       closes : kind_of asked.number ≡ Close
       unfolding kind_of
       closes = ap kind_of sixteen
@@ -157,7 +156,7 @@ module _ {G : Geometry} (S : Sound G) (asked : Asked) (l : Lent) (s : Session) (
         make_else n m = both ∙ new_miss t e which _ n ∙ close_miss G asked l s e which f (before e which) m
 
     -- 22 made f
-    module _ (f : ℕ) (twenty-two : asked.number ≡ 22) (found : find_empty_rule G (rows_of G l) ≡ At f) where
+    module _ (f : ℕ) (twenty-two : asked.number ≡ 22) (found : find_empty_rule G (rows_of G l) ≡ Some f) where
       makes : kind_of asked.number ≡ Create
       unfolding kind_of
       makes = ap kind_of twenty-two

@@ -1,6 +1,7 @@
 -- On a protected session no call changes a byte of the image, and none but 13 and 98 one of the map; so nothing changes over any run in which the
 -- protection is never lifted. And but for an open, a call that the protection does not refuse does the same once it is lifted.
-use Rattle.std.specs.Prelude.{◌≡◌, true, ℕ}
+use Rattle.model.specs.declared.Code.{Code}
+use Rattle.std.specs.Prelude.{◌≡◌, true, ℕ, None, Option, Some}
 use Rattle.std.proofs.Math.Path.{refl, ap}
 use Rattle.std.proofs.Common.{◌∙◌}
 use Rattle.std.proofs.Math.Bool.{false}
@@ -14,8 +15,6 @@ use Rattle.model.specs.Step.{step}
 use Rattle.model.specs.Table.{protection_holds, verdict}
 use Rattle.table.proofs.Total.{total}
 use Rattle.format.specs.Dates.{dated}
-use Rattle.model.specs.declared.Verdict.{Verdict}
-use Rattle.model.specs.declared.Verdict.TheVariants.{Passed, Refused}
 use Rattle.model.specs.Kinds.{kind_of}
 use Rattle.model.specs.Lent.{rows_of}
 use Rattle.model.specs.Stamps.{where_dated}
@@ -49,9 +48,9 @@ module _ (G : Geometry) where
 
 -- ---- a call that the protection does not refuse
 module _ (G : Geometry) (asked : Asked) (l : Lent) (s : Session) (b : ℕ) (nonzero : b ≡ 0 → ⊥) where
-  same_made : (asked.number ≡ 15 → ⊥) → (v : Verdict) → stamps_made G asked l (with_lifted s b) v ≡ stamps_made G asked l s v
-  same_made n Passed = ap (where_dated (dated (rows_of G l))) (same_stamps G asked l s b nonzero n (kind_of asked.number))
-  same_made n (Refused c) = refl
+  same_made : (asked.number ≡ 15 → ⊥) → (v : Option Code) → stamps_made G asked l (with_lifted s b) v ≡ stamps_made G asked l s v
+  same_made n None = ap (where_dated (dated (rows_of G l))) (same_stamps G asked l s b nonzero n (kind_of asked.number))
+  same_made n (Some c) = refl
 
 module _ (G : Geometry) (asked : Asked) (l : Lent) (s : Session) (b : ℕ) (nonzero : b ≡ 0 → ⊥)
     (f : protection_holds G asked l s ≡ false) where

@@ -1,6 +1,6 @@
 -- For those who build above the calls: the FCB handed back by an accepted 16, 20, 21, 33 or 34 is current under the session handed back,
 -- and so is that of an accepted 15 or 22 whose cr is at most 128.
-use Rattle.std.specs.Prelude.{◌≡◌, true, false, [], ◌∷◌}
+use Rattle.std.specs.Prelude.{◌≡◌, true, false, [], ◌∷◌, Some}
 use Rattle.std.proofs.Math.Path.{refl, subst}
 use Rattle.std.proofs.Common.{sym}
 use Prim.Native.Nat.{ℕ, ◌≤◌}
@@ -8,7 +8,6 @@ use Rattle.format.specs.Diskette.{Geometry, Sound}
 use Rattle.format.specs.Entries.{entry_at}
 use Rattle.format.specs.Fcb.{cr_of, current}
 use Rattle.facts.specs.Found.{FoundAt}
-use Rattle.format.specs.declared.Found.TheVariants.{At}
 use Rattle.model.specs.declared.Asked.{Asked}
 use Rattle.model.specs.declared.Session.{Session}
 use Rattle.model.specs.Lent.{Lent, Outcome}
@@ -75,7 +74,7 @@ module _ {G : Geometry} (S : Sound G) (d : Disk) (q : Request) (accepted : accep
       let o = (outcome_of G d q).lent in
       record {
         place = k.entry;
-        is = subst (λ (x : ℕ). current G (entry_at G o.drive.image) o.drive.map x o.fcb ≡ At k.entry)
+        is = subst (λ (x : ℕ). current G (entry_at G o.drive.image) o.drive.map x o.fcb ≡ Some k.entry)
             (sym (user_stays G d q (at_one (λ (n : ℕ). kind_of n ≡ User → ⊥) q.asked.number current_calls call (no_user Quiet refl & no_user Close refl & no_user Read refl & no_user Write refl & no_user Create refl & no_user Read refl & no_user Write refl & tt))))
             (cur_current G o.drive.image o.drive.map d.session.user o.fcb k.entry good.inv.dir c.facts.ready.fits.user_low k.cur);
       }

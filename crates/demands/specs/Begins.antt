@@ -1,6 +1,6 @@
 -- Demand 2 speaks of something too: a write through a current FCB of a writable entry is accepted where the protection is lifted and a block is
 -- free. In proofs/Begins so are a log-in and, once the protection is lifted, a make and a write on an erased disk, one after the other.
-use Rattle.std.specs.Prelude.{◌≡◌, true, ℕ, ◌≤◌, ◌<◌, get_or}
+use Rattle.std.specs.Prelude.{◌≡◌, true, ℕ, ◌≤◌, ◌<◌, get_or, Some}
 use Rattle.std.proofs.Math.Path.{refl, ap}
 use Rattle.std.proofs.Common.{sym, ◌∙◌, arith}
 use Rattle.std.proofs.Math.Bool.{false}
@@ -12,7 +12,6 @@ use Rattle.format.specs.Entries.{extent_of, read_only}
 use Rattle.format.specs.Notes.{find_free}
 use Rattle.format.specs.Fcb.{fcb_bytes, cr_of, fcb_right_rule}
 use Rattle.facts.specs.Found.{FoundAt, at_not_nothing}
-use Rattle.format.specs.declared.Found.TheVariants.{At}
 use Rattle.model.specs.declared.Asked.{Asked}
 use Rattle.model.specs.declared.Session.{Session}
 use Rattle.model.specs.Lent.{Lent, rows_of, protected}
@@ -37,7 +36,7 @@ use Rattle.demands.specs.Runs.{Request}
 module _ {G : Geometry} (S : Sound G) (asked : Asked) (number : asked.number ≡ 21) (l : Lent) (s : Session) (g : Good G l.drive.image l.drive.map) (fits : Fits G l s)
     (time : time_right_rule asked ≡ true) (drive : get_or l.fcb 0 0 ≤ 1) (e : ℕ) (cur : Cur G (view_of G l.drive.image l.drive.map) s.user l.fcb e)
     (writable : read_only (rows_of G l e) ≡ false) (cr : cr_of l.fcb < 128) (free : FoundAt (find_free G l.drive.map)) (unprotected : protected s ≡ false) where
-  at : present_entry G s.user l ≡ At e
+  at : present_entry G s.user l ≡ Some e
   unfolding present_entry
   at = cur_current G l.drive.image l.drive.map s.user l.fcb e g.inv.dir fits.user_low cur
 
@@ -49,7 +48,7 @@ module _ {G : Geometry} (S : Sound G) (asked : Asked) (number : asked.number ≡
   unfolding stays
   there = eq-eqb _ _ same_extent
 
-  target : target_entry G 21 s.user l ≡ At e
+  target : target_entry G 21 s.user l ≡ Some e
   target = target_present G 21 s.user l e at (stays_within G 21 s.user l there)
 
   unlocked : read_only_there G 21 s.user l ≡ false

@@ -3,7 +3,7 @@
 -- an FCB that is not current), whatever else it answers, call 16 on the same disk, with the same FCB and the protection lifted, is accepted; the disk
 -- that its rule leaves is the one on which a move goes on, and its stamps are those with which the move's begin.
 -- The theorem itself, `closes_first`, is in proofs/ClosesFirst; here stands what it says, and what it rests on.
-use Rattle.std.specs.Prelude.{◌≡◌, ◌⊎◌, Bool, true, not, List, ◌∷◌, ◌++◌, ℕ}
+use Rattle.std.specs.Prelude.{◌≡◌, ◌⊎◌, Bool, true, not, List, ◌∷◌, ◌++◌, ℕ, None, Option, Some}
 use Rattle.std.proofs.Math.Path.{refl}
 use Rattle.std.proofs.Common.{ap, subst, ◌∙◌, inl, inr, ne_eqb}
 use Rattle.std.proofs.Math.Bool.{false}
@@ -13,8 +13,6 @@ use Rattle.format.specs.Diskette.{Geometry}
 use Rattle.format.specs.Entries.{entry_at, with_entry}
 use Rattle.format.specs.Dates.{dated}
 use Rattle.format.specs.Found.{is_found, number_of}
-use Rattle.format.specs.declared.Found.{Found}
-use Rattle.format.specs.declared.Found.TheVariants.{At, Nothing}
 use Rattle.model.specs.declared.Asked.{Asked}
 use Rattle.model.specs.declared.Session.{Session}
 use Rattle.model.specs.declared.Answer.{Answer}
@@ -170,9 +168,9 @@ closed_by (Move e t b) = e
 closed_by (Make e t b) = e
 
 module _ (G : Geometry) (n user : ℕ) (l : Lent) where
-  to_closes : (e : ℕ) (r : Found) → closed_by (plan_to G n user l e r) ≡ e
-  to_closes e (At t) = refl
-  to_closes e Nothing = refl
+  to_closes : (e : ℕ) (r : Option ℕ) → closed_by (plan_to G n user l e r) ≡ e
+  to_closes e (Some t) = refl
+  to_closes e None = refl
 
   pub plan_closes : closed_by (plan G n user l) ≡ number_of G.entries (present_entry G user l)
   unfolding plan plan_from

@@ -1,7 +1,7 @@
 -- Document 02, [12]. On a protected session no call changes a byte of the image, and none but 13 and 98 one of the map; no call changes the
 -- protection, on any session; so nothing changes over any run in which it is never lifted. A read that it refuses succeeds once it is lifted, and a
 -- call that it does not refuse does the same then, the stamp of an open aside. The theorems of every call and of runs are in proofs/Protected.
-use Rattle.std.specs.Prelude.{◌≡◌, true, ℕ}
+use Rattle.std.specs.Prelude.{◌≡◌, true, ℕ, None, Option, Some}
 use Rattle.std.proofs.Math.Path.{refl, ap, sym}
 use Rattle.std.proofs.Common.{◌∙◌}
 use Rattle.std.proofs.Math.Bool.{false, not}
@@ -19,8 +19,6 @@ use Rattle.model.specs.declared.Plan.{Plan}
 use Rattle.model.specs.declared.Plan.TheVariants.{Stay, Move, Make}
 use Rattle.model.specs.declared.Code.{Code}
 use Rattle.model.specs.declared.Code.TheVariants.{NotListed, BadParameter, BadDisk}
-use Rattle.model.specs.declared.Verdict.{Verdict}
-use Rattle.model.specs.declared.Verdict.TheVariants.{Passed, Refused}
 use Rattle.model.specs.declared.Kind.{Kind}
 use Rattle.model.specs.declared.Kind.TheVariants.{Unlisted, Quiet, Search, User, Settle, Close, Delete, Create, Rename, Read, Write}
 use Rattle.model.specs.Codes.{says_of}
@@ -173,7 +171,7 @@ module _ (G : Geometry) (asked : Asked) (l : Lent) (s : Session) (b : ℕ) (nonz
 
   -- ---- a read that the protection refuses succeeds once it is lifted
   pub stopped_passes : is_call asked.number ≡ true → Ready G asked l s → protection_holds G asked l s ≡ true → one_of asked.number changers ≡ false
-      → verdict G asked l (with_lifted s b) ≡ Passed
+      → verdict G asked l (with_lifted s b) ≡ None
   stopped_passes t r h f = passes G asked l (with_lifted s b) t (ready_lifted b r) spared_lifted (succeeds_none G asked l s (stopped_succeeds G asked l s h f))
 
   -- ---- a call that it does not refuse does the same once it is lifted, the stamp of an open aside
@@ -211,10 +209,10 @@ module _ (G : Geometry) (asked : Asked) (l : Lent) (s : Session) (b : ℕ) (nonz
   same_rule Read = same_reading (plan G asked.number s.user l)
   same_rule Write = same_writing (plan G asked.number s.user l)
 
-  pub same_carried : (v : Verdict) → carried_out G asked l (with_lifted s b) v ≡ relifted b (carried_out G asked l s v)
+  pub same_carried : (v : Option Code) → carried_out G asked l (with_lifted s b) v ≡ relifted b (carried_out G asked l s v)
   unfolding effect
-  same_carried Passed = same_rule (kind_of asked.number)
-  same_carried (Refused c) = same_refusal c
+  same_carried None = same_rule (kind_of asked.number)
+  same_carried (Some c) = same_refusal c
 
   same_moves : (p : Plan) → move_stamps G asked l (with_lifted s b) p ≡ move_stamps G asked l s p
   unfolding close_stamps new_stamps

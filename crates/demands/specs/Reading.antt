@@ -1,6 +1,6 @@
 -- A record that holds is read: call 33 through its FCB, with r0 to r2 set to the record, is accepted, also on a protected session, since it stays
 -- in its extent, and gives its bytes.
-use Rattle.std.specs.Prelude.{◌≡◌, true, ℕ, ◌+◌, ◌*◌, ◌≤◌, ◌<◌, length, get_or}
+use Rattle.std.specs.Prelude.{◌≡◌, true, ℕ, ◌+◌, ◌*◌, ◌≤◌, ◌<◌, length, get_or, Some}
 use Rattle.std.proofs.Math.Path.{refl, ap, sym}
 use Rattle.std.proofs.Common.{◌∙◌, arith}
 use Rattle.std.proofs.Math.Bool.{not}
@@ -11,7 +11,6 @@ use Rattle.lists.specs.Splice.{splice}
 use Rattle.format.specs.Diskette.{Bytes, Geometry, Sound, record_at, extents, extent_records}
 use Rattle.format.specs.Entries.{slot_of, slot_for_rule, count_of, extent_of}
 use Rattle.format.specs.Fcb.{fcb_bytes, fcb_right_rule, random_of_rule}
-use Rattle.format.specs.declared.Found.TheVariants.{At}
 use Rattle.facts.specs.Counts.{fcb_count_there}
 use Rattle.model.specs.declared.Asked.{Asked}
 use Rattle.model.specs.declared.Session.{Session}
@@ -96,7 +95,7 @@ module _ {G : Geometry} (S : Sound G) (asked : Asked) (number : asked.number ≡
     (time : time_right_rule asked ≡ true) (drive : get_or l.fcb 0 0 ≤ 1) (f : Bytes) (hf : length f ≡ fcb_bytes) (e rec : ℕ) (v : Bytes)
     (h : Holds G (view_of G l.drive.image l.drive.map) s.user f e rec v) (low : extent_of f < extents)
     (is : l.fcb ≡ at_record_rule f (record_number (extent_of f) rec)) where
-  at : present_entry G s.user l ≡ At e
+  at : present_entry G s.user l ≡ Some e
   unfolding present_entry
   at =
       cur_current G l.drive.image l.drive.map s.user l.fcb e g.inv.dir fits.user_low

@@ -1,6 +1,6 @@
 -- Every call with its stamps: the outcome of a kind, stamped, and the entries beside which a call stamps. That what its own rule did holds once it is
 -- stamped, of every step, is in proofs/Stamped.
-use Rattle.std.specs.Prelude.{◌≡◌, ◌⊎◌, true, eqb}
+use Rattle.std.specs.Prelude.{◌≡◌, ◌⊎◌, true, eqb, Some}
 use Rattle.std.proofs.Math.Path.{refl, ap, sym, subst}
 use Rattle.std.proofs.Common.{◌∙◌, inl, inr, arith}
 use Rattle.std.proofs.Math.Bool.{false}
@@ -10,7 +10,6 @@ use Rattle.lists.specs.Cases.{split, bool_cases, not_both}
 use Rattle.lists.specs.Tests.{and_right, or_cases}
 use Rattle.format.specs.Diskette.{Bytes, Geometry, Sound}
 use Rattle.format.specs.Entries.{entry_at, ex_of, used}
-use Rattle.format.specs.declared.Found.TheVariants.{At}
 use Rattle.facts.specs.Find.{file_says, empty_says}
 use Rattle.facts.specs.Names.{like_intro}
 use Rattle.facts.specs.Naming.{named_intro, file_named}
@@ -93,7 +92,7 @@ module _ {G : Geometry} (S : Sound G) (asked : Asked) (l : Lent) (s : Session) (
   named_by m r h = names_plain asked.number s.user l.fcb fits.fcb_long m.uses m.plain r h
 
   -- the FCB's own entry
-  pub present : Named asked.number → (e : ℕ) → present_entry G s.user l ≡ At e → NamedIn l.drive.image e
+  pub present : Named asked.number → (e : ℕ) → present_entry G s.user l ≡ Some e → NamedIn l.drive.image e
   present m e q =
       named_by m (rows_of G l e)
       (cur_named G (view_of G l.drive.image l.drive.map) s.user fits.user_low l.fcb e (present_cur S asked.number l s g fits e q WritesNone))

@@ -1,6 +1,7 @@
 -- A disk without date entries and labels is that of before: consistency is the old three tests, no stamp is made, and the time that is handed in
 -- does not matter, as long as it is one.
-use Rattle.std.specs.Prelude.{◌≡◌, ◌⊎◌, Bool, true, false, List, ◌∷◌, ℕ, ◌<◌}
+use Rattle.model.specs.declared.Code.{Code}
+use Rattle.std.specs.Prelude.{◌≡◌, ◌⊎◌, Bool, true, false, List, ◌∷◌, ℕ, ◌<◌, None, Option, Some}
 use Rattle.std.proofs.Math.Path.{refl, ap, sym}
 use Rattle.std.proofs.Common.{◌∙◌, arith}
 use Rattle.std.proofs.Math.Bool.{not}
@@ -15,8 +16,6 @@ use Rattle.consistency.specs.Reflect.{aside_either}
 use Rattle.model.specs.declared.Asked.{Asked}
 use Rattle.model.specs.declared.Session.{Session}
 use Rattle.model.specs.declared.Code.TheVariants.{NotListed, BadParameter, BadDisk, Protected}
-use Rattle.model.specs.declared.Verdict.{Verdict}
-use Rattle.model.specs.declared.Verdict.TheVariants.{Passed, Refused}
 use Rattle.model.specs.Kinds.{kind_of, is_call}
 use Rattle.model.specs.Lent.{Lent, rows_of}
 use Rattle.model.specs.Table.{time_right_rule, parameters_right_rule, disk_right_rule, when, first_row, own_rows, table, verdict, would_succeed, move_changes, protection_holds}
@@ -68,10 +67,10 @@ pub undated_step : (G : Geometry) (asked : Asked) (l : Lent) (s : Session) → d
 unfolding step
 undated_step G asked l s n = go (verdict G asked l s)
   where
-    go : (v : Verdict) → stamped_outcome G (stamps_made G asked l s v) (carried_out G asked l s v) ≡ carried_out G asked l s v
-    go Passed =
+    go : (v : Option Code) → stamped_outcome G (stamps_made G asked l s v) (carried_out G asked l s v) ≡ carried_out G asked l s v
+    go None =
         ap (λ (xs : List Stamp). stamped_outcome G xs (effect G asked l s)) (where_undated (dated (rows_of G l)) (stamps_by G asked l s (kind_of asked.number)) n)
-    go (Refused c) = refl
+    go (Some c) = refl
 
 -- ---- the same call at another time
 abbrev pub at_time : Asked → ℕ → ℕ → ℕ → Asked
@@ -98,6 +97,6 @@ module _ (G : Geometry) (asked : Asked) (day hour minute : ℕ) (l : Lent) (s : 
     times_same n =
         undated_step G other l s n ∙ ap (carried_out G other l s) verdict_same ∙ go (verdict G asked l s) ∙ sym (undated_step G asked l s n)
       where
-        go : (v : Verdict) → carried_out G other l s v ≡ carried_out G asked l s v
-        go Passed = does_same G asked other l s refl refl (kind_of asked.number)
-        go (Refused c) = refl
+        go : (v : Option Code) → carried_out G other l s v ≡ carried_out G asked l s v
+        go None = does_same G asked other l s refl refl (kind_of asked.number)
+        go (Some c) = refl

@@ -1,5 +1,5 @@
 -- A record call comes to the target's extent: it stays, moves to an entry, or makes one.
-use Rattle.std.specs.Prelude.{◌≡◌, true}
+use Rattle.std.specs.Prelude.{◌≡◌, true, None, Some}
 use Rattle.std.proofs.Math.Path.{refl, ap, sym}
 use Rattle.std.proofs.Common.{◌∙◌, inl, arith}
 use Rattle.std.proofs.Math.Bool.{false}
@@ -8,7 +8,6 @@ use Rattle.std.proofs.Math.ListN.{length}
 use Rattle.format.specs.Diskette.{Bytes, Geometry, Sound, entry_bytes, slot_count, extents}
 use Rattle.format.specs.Entries.{entry_at, with_entry, slot_of, user_of, extent_of, run_of, used, empty, named, is_file_rule, find_empty_rule}
 use Rattle.format.specs.Notes.{free_note, note_at_rule}
-use Rattle.format.specs.declared.Found.TheVariants.{At, Nothing}
 use Rattle.facts.specs.Names.{like_at, like_trans, like_intro}
 use Rattle.consistency.specs.Facts.{Fine, SameFile}
 use Rattle.consistency.specs.Reflect.{empty_elsewhere}
@@ -49,7 +48,7 @@ use Rattle.effects.specs.Entered.{entered_cur}
 use Rattle.effects.specs.Came.{CameTo, present_cur, present_named, move_book}
 
 module _ {G : Geometry} (S : Sound G) (n : ℕ) (l : Lent) (s : Session) (g : Good G l.drive.image l.drive.map) (f : Fits G l s) (e : ℕ)
-    (at : present_entry G s.user l ≡ At e) (W : ℕ → Type 0) where
+    (at : present_entry G s.user l ≡ Some e) (W : ℕ → Type 0) where
   place : target_slot G n l.fcb < slot_count
   place = slot_below S n l s g f e at
 
@@ -92,7 +91,7 @@ module _ {G : Geometry} (S : Sound G) (n : ℕ) (l : Lent) (s : Session) (g : Go
       name_entered l.fcb row ext (let q : length l.fcb ≡ 36 = f.fcb_long in omega arith) i h
       ∙ sym (like_at l.fcb 1 row 1 (named_like false s.user l.fcb 1 row nm) i h)
 
-  module _ (go : stays n l.fcb ≡ false) (t : ℕ) (target : target_entry G n s.user l ≡ At t) where
+  module _ (go : stays n l.fcb ≡ false) (t : ℕ) (target : target_entry G n s.user l ≡ Some t) where
     file : is_file_rule G s.user l.fcb 1 (target_extent n l.fcb) (rows_of G l t) ≡ true
     file = target_file S n l s g f e at t target
 
@@ -161,7 +160,7 @@ module _ {G : Geometry} (S : Sound G) (n : ℕ) (l : Lent) (s : Session) (g : Go
         }
 
   -- ---- it makes an entry for the target's extent
-  module _ (go : stays n l.fcb ≡ false) (t : ℕ) (room : find_empty_rule G (rows_of G l) ≡ At t) (none : target_entry G n s.user l ≡ Nothing)
+  module _ (go : stays n l.fcb ≡ false) (t : ℕ) (room : find_empty_rule G (rows_of G l) ≡ Some t) (none : target_entry G n s.user l ≡ None)
       (low : target_extent n l.fcb < extents) where
     room_below : t < G.entries
     room_below = (empty_says G (rows_of G l) t room).below

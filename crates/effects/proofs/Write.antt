@@ -1,6 +1,6 @@
 -- 20, 21, 33 and 34, for every plan: one change by the name of the FCB; the FCB handed back is current, and a record that was written
 -- can be read through it.
-use Rattle.std.specs.Prelude.{◌≡◌, refl, true, ℕ, ◌≤◌, ◌<◌, length}
+use Rattle.std.specs.Prelude.{◌≡◌, refl, true, ℕ, ◌≤◌, ◌<◌, length, Some}
 use Rattle.std.proofs.Math.Path.{ap, subst}
 use Rattle.std.proofs.Common.{sym, ◌∙◌, inr, arith}
 use Rattle.std.proofs.Math.ListN.{length-set}
@@ -8,7 +8,6 @@ use Rattle.format.specs.Diskette.{Geometry, Sound, record_bytes, with_record, sl
 use Rattle.format.specs.Entries.{entry_at, slot_of, slot_for_rule, extent_of, count_in}
 use Rattle.format.specs.Fcb.{fcb_right_rule, cr_of}
 use Rattle.format.specs.Found.{number_of}
-use Rattle.format.specs.declared.Found.TheVariants.{At}
 use Rattle.model.specs.declared.Session.{Session}
 use Rattle.model.specs.declared.Plan.{Plan}
 use Rattle.model.specs.Lent.{Lent}
@@ -160,7 +159,7 @@ module _ {G : Geometry} (S : Sound G) (n : ℕ) (l : Lent) (s : Session) (g : Go
 
 -- ---- every plan
 module _ {G : Geometry} (S : Sound G) (n : ℕ) (l : Lent) (s : Session) (g : Good G l.drive.image l.drive.map) (f : Fits G l s) where
-  current_cr : (e : ℕ) → present_entry G s.user l ≡ At e → cr_of l.fcb ≤ 128
+  current_cr : (e : ℕ) → present_entry G s.user l ≡ Some e → cr_of l.fcb ≤ 128
   current_cr e at = (fcb_says l.fcb (present_cur S n l s g f e at WritesNone).right).cr
 
   module _ (low : target_extent n l.fcb < extents) where

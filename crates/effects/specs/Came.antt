@@ -1,6 +1,6 @@
 -- A record call comes to the target's extent: it stays, moves to an entry, or makes one. Wherever it came to, the change so far is by
 -- the name of the FCB, and the FCB is current there.
-use Rattle.std.specs.Prelude.{◌≡◌, true, get_or}
+use Rattle.std.specs.Prelude.{◌≡◌, true, get_or, Some}
 use Rattle.std.proofs.Math.Path.{ap}
 use Rattle.std.proofs.Math.Bool.{false}
 use Prim.Native.Nat.{ℕ, ◌<◌}
@@ -10,7 +10,6 @@ use Rattle.format.specs.Entries.{entry_at, slot_of, extent_of}
 use Rattle.format.specs.Notes.{free_note, note_at_rule}
 use Rattle.format.specs.Found.{number_of}
 use Rattle.format.specs.Fcb.{fcb_bytes}
-use Rattle.format.specs.declared.Found.TheVariants.{At}
 use Rattle.model.specs.declared.Session.{Session}
 use Rattle.model.specs.Lent.{Lent, rows_of}
 use Rattle.model.specs.Target.{target_extent, target_slot, present_entry, stays, block_there}
@@ -44,7 +43,7 @@ pub record CameTo (G : Geometry) (n user : ℕ) (l there : Lent) (t : ℕ) (W : 
   pub book : (u : Book) → moved_book G n user l u ≡ B u
 
 module _ {G : Geometry} (S : Sound G) (n : ℕ) (l : Lent) (s : Session) (g : Good G l.drive.image l.drive.map) (f : Fits G l s) (e : ℕ)
-    (at : present_entry G s.user l ≡ At e) (W : ℕ → Type 0) where
+    (at : present_entry G s.user l ≡ Some e) (W : ℕ → Type 0) where
   pub present_cur : Cur G (view_of G l.drive.image l.drive.map) s.user l.fcb e
   unfolding present_entry
   present_cur = current_cur G l.drive.image l.drive.map s.user l.fcb e f.map_long at

@@ -1,5 +1,5 @@
 -- A current FCB as facts, both ways with the test; and a record that can be read through one.
-use Rattle.std.specs.Prelude.{◌≡◌, ◌⊎◌, true, false, ℕ, ◌%◌, ◌≤◌, ◌<◌, length}
+use Rattle.std.specs.Prelude.{◌≡◌, ◌⊎◌, true, false, ℕ, ◌%◌, ◌≤◌, ◌<◌, length, Some}
 use Rattle.std.proofs.Math.Path.{ap, sym}
 use Rattle.std.proofs.Common.{◌∙◌, subst, mod-lt}
 use Rattle.std.proofs.Math.Logic.{inl, inr}
@@ -8,7 +8,6 @@ use Rattle.format.specs.Diskette.{Bytes, Geometry, Sound, slot_count, extent_rec
 use Rattle.format.specs.Entries.{entry_at, slot_of, slot_for_rule, count_of, used, extent_of, named, is_file_rule}
 use Rattle.format.specs.Notes.{note_at_rule}
 use Rattle.format.specs.Fcb.{fcb_right_rule, current}
-use Rattle.format.specs.declared.Found.TheVariants.{At}
 use Rattle.consistency.specs.Facts.{Consistent}
 use Rattle.invariant.specs.Close.{Held}
 use Rattle.facts.specs.Slots.{slot_for_low}
@@ -42,7 +41,7 @@ module _ (G : Geometry) (img map : Bytes) (user : ℕ) (f : Bytes) (e : ℕ) whe
   of_held j (inl q) = slot_same q
   of_held j (inr h) = slot_pending h.was h.noted
 
-  pub current_cur : length map ≡ G.blocks → current G (entry_at G img) map user f ≡ At e → Cur G (view_of G img map) user f e
+  pub current_cur : length map ≡ G.blocks → current G (entry_at G img) map user f ≡ Some e → Cur G (view_of G img map) user f e
   current_cur wide q =
       let c = current_says G (entry_at G img) map user f e q in
       let p = current_file G (entry_at G img) map user f e c in
@@ -61,7 +60,7 @@ module _ (G : Geometry) (img map : Bytes) (user : ℕ) (f : Bytes) (e : ℕ) whe
       fits = slots_are G map e (entry_at G img e) f (λ j l. of_held j (k.fits j l));
     }
 
-    pub cur_current : current G (entry_at G img) map user f ≡ At e
+    pub cur_current : current G (entry_at G img) map user f ≡ Some e
     cur_current = current_is G (entry_at G img) map user f e cur_facts
 
 -- ---- what a current FCB has

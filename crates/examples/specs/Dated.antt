@@ -1,6 +1,6 @@
 -- A new disk with dates: a date entry in every fourth position, and no other entry. It is consistent and, since date entries list no blocks,
 -- has the space of an erased one; and there are such disks.
-use Rattle.std.specs.Prelude.{◌≡◌, true, false, [], ◌∷◌, replicate}
+use Rattle.std.specs.Prelude.{◌≡◌, true, false, [], ◌∷◌, replicate, Some}
 use Rattle.std.proofs.Math.Path.{refl}
 use Rattle.std.proofs.Common.{ap, ◌∙◌, subst, arith, eqb-true}
 use Prim.Native.Nat.{ℕ, zero, suc, ◌+◌, ◌-◌, ◌*◌, ◌/◌, ◌%◌, ◌≤◌, ◌<◌}
@@ -21,7 +21,6 @@ use Rattle.fields.specs.Erased.{ErasedDisk, all_erased, erased_empty}
 use Rattle.model.specs.declared.Asked.{Asked}
 use Rattle.model.specs.declared.Session.{Session}
 use Rattle.model.specs.declared.Code.TheVariants.{BadParameter}
-use Rattle.model.specs.declared.Verdict.TheVariants.{Refused}
 use Rattle.model.specs.Kinds.{is_call}
 use Rattle.model.specs.Lent.{Lent}
 use Rattle.model.specs.Entering.{three_bytes}
@@ -107,7 +106,7 @@ module _ (G : Geometry) (asked : Asked) (l : Lent) (s : Session) (listed : is_ca
   unfolding parameters_right_rule
   bad_parameters = and_fails_right _ _ (and_fails_right _ _ (and_fails_right _ _ (and_fails_left _ _ bad)))
 
-  refuses : verdict G asked l s ≡ Refused BadParameter
+  refuses : verdict G asked l s ≡ Some BadParameter
   unfolding first_row
   refuses = verdict_rows G asked l s listed ∙ rw bad_parameters
 

@@ -1,12 +1,11 @@
 -- Example f: the random record of 33 and 34.
-use Rattle.std.specs.Prelude.{◌≡◌, refl, [], ◌∷◌, true, false, ℕ, ◌+◌, ◌*◌, get_or}
+use Rattle.std.specs.Prelude.{◌≡◌, refl, [], ◌∷◌, true, false, ℕ, ◌+◌, ◌*◌, get_or, Some}
 use Rattle.std.proofs.Common.{◌∙◌, arith, lt-ltb}
 use Rattle.format.specs.Diskette.{Bytes, Geometry, last_record}
 use Rattle.format.specs.Fcb.{random_of_rule}
 use Rattle.model.specs.declared.Asked.{Asked}
 use Rattle.model.specs.declared.Session.{Session}
 use Rattle.model.specs.declared.Code.TheVariants.{BadRecord}
-use Rattle.model.specs.declared.Verdict.TheVariants.{Refused}
 use Rattle.model.specs.Lent.{Lent, protected}
 use Rattle.model.specs.Kinds.{is_call, is_random_rule, kind_of, one_of}
 use Rattle.model.specs.Target.{target_extent, target_record}
@@ -56,7 +55,7 @@ pub record Last (G : Geometry) (asked : Asked) (l : Lent) (s : Session) : Type 0
   pub is_number : random_of_rule l.fcb ≡ 262143
   pub extent : target_extent asked.number l.fcb ≡ 2047
   pub is_record : target_record asked.number l.fcb ≡ 127
-  pub not_six : verdict G asked l s ≡ Refused BadRecord → ⊥
+  pub not_six : verdict G asked l s ≡ Some BadRecord → ⊥
 
 pub random_last : (G : Geometry) (asked : Asked) (l : Lent) (s : Session) → one_of asked.number (33 ∷ 34 ∷ []) ≡ true → RandomIs l.fcb 255 255 3
     → Last G asked l s

@@ -1,63 +1,61 @@
 -- The answer of a look-up: what it is, what it says, and the turns of the loop that makes it.
-use Rattle.std.specs.Prelude.{◌≡◌, refl, Bool, true, false, not, ℕ, ◌≤◌, ◌<◌}
+use Rattle.std.specs.Prelude.{◌≡◌, refl, Bool, true, false, not, ℕ, ◌≤◌, ◌<◌, None, Option, Some}
 use Rattle.std.proofs.Common.{sym, ap, ◌∙◌, arith, lt-ltb, le-ltb}
 use Rattle.lists.specs.Cases.{split, clash, lt_or_le}
 use Rattle.lists.specs.Below.{first_in, first_hit, first_end, first_low, first_holds, first_before, first_is, first_none}
 use Rattle.format.specs.Found.{found_below, is_found}
-use Rattle.format.specs.declared.Found.{Found}
-use Rattle.format.specs.declared.Found.TheVariants.{At, Nothing}
 
 -- ---- the two answers
-pub at_not_nothing : (e : ℕ) → At e ≡ Nothing → ⊥
+pub at_not_nothing : (e : ℕ) → Some e ≡ None → ⊥
 at_not_nothing e q = let z : ◌≡◌ {A = ℕ} 0 1 = cc in omega arith
 
-pub at_once : (k e : ℕ) → At k ≡ At e → k ≡ e
+pub at_once : (k e : ℕ) → Some k ≡ Some e → k ≡ e
 at_once k e q = cc
 
 -- by cases, with the answer in hand
-pub found_cases : {A : Type 0} (f : Found) → ((k : ℕ) → f ≡ At k → A) → (f ≡ Nothing → A) → A
-found_cases (At k) a b = a k refl
-found_cases Nothing a b = b refl
+pub found_cases : {A : Type 0} (f : Option ℕ) → ((k : ℕ) → f ≡ Some k → A) → (f ≡ None → A) → A
+found_cases (Some k) a b = a k refl
+found_cases None a b = b refl
 
 -- an answer that has found something, and one that has not
-pub record FoundAt (r : Found) : Type 0 where
+pub record FoundAt (r : Option ℕ) : Type 0 where
   pub place : ℕ
-  pub is : r ≡ At place
+  pub is : r ≡ Some place
 
-pub is_found_law : (r : Found) → is_found r ≡ true → FoundAt r
-is_found_law (At k) h = record { place = k; is = refl }
-is_found_law Nothing h = clash (sym h)
+pub is_found_law : (r : Option ℕ) → is_found r ≡ true → FoundAt r
+is_found_law (Some k) h = record { place = k; is = refl }
+is_found_law None h = clash (sym h)
 
-pub found_so : (r : Found) → FoundAt r → is_found r ≡ true
+pub found_so : (r : Option ℕ) → FoundAt r → is_found r ≡ true
 found_so r f = ap is_found f.is
 
-pub not_found : (r : Found) → is_found r ≡ false → r ≡ Nothing
-not_found (At k) h = clash h
-not_found Nothing h = refl
+pub not_found : (r : Option ℕ) → is_found r ≡ false → r ≡ None
+not_found (Some k) h = clash h
+not_found None h = refl
 
 -- the test of a row that asks for something found
-pub found_row : (r : Found) {e : ℕ} → r ≡ At e → not (is_found r) ≡ false
+pub found_row : (r : Option ℕ) {e : ℕ} → r ≡ Some e → not (is_found r) ≡ false
 found_row r q = rw q
 
-pub missed_row : (r : Found) → r ≡ Nothing → not (is_found r) ≡ true
+pub missed_row : (r : Option ℕ) → r ≡ None → not (is_found r) ≡ true
 missed_row r q = rw q
 
 -- ---- a number among n
-pub found_at : (n k : ℕ) → k < n → found_below n k ≡ At k
+pub found_at : (n k : ℕ) → k < n → found_below n k ≡ Some k
 unfolding found_below
 found_at n k h = rw (lt-ltb k n h)
 
-pub found_nothing : (n k : ℕ) → n ≤ k → found_below n k ≡ Nothing
+pub found_nothing : (n k : ℕ) → n ≤ k → found_below n k ≡ None
 unfolding found_below
 found_nothing n k h = rw (le-ltb k n h)
 
-pub found_says : (n k e : ℕ) → found_below n k ≡ At e → (k ≡ e) × (e < n)
+pub found_says : (n k e : ℕ) → found_below n k ≡ Some e → (k ≡ e) × (e < n)
 found_says n k e q =
     split (lt_or_le k n)
     (λ w. let p : k ≡ e = at_once k e (sym (found_at n k w) ∙ q) in (p, omega arith))
     (λ w. absurd (at_not_nothing e (sym q ∙ found_nothing n k w)))
 
-pub nothing_says : (n k : ℕ) → found_below n k ≡ Nothing → n ≤ k
+pub nothing_says : (n k : ℕ) → found_below n k ≡ None → n ≤ k
 nothing_says n k q = split (lt_or_le k n) (λ w. absurd (at_not_nothing k (sym (found_at n k w) ∙ q))) (λ w. w)
 
 -- ---- the first number from i on, below n, that passes a test
@@ -68,7 +66,7 @@ pub record FirstAt (p : ℕ → Bool) (i n e : ℕ) : Type 0 where
   pub before : (j : ℕ) → i ≤ j → j < e → p j ≡ false
 
 module _ (p : ℕ → Bool) (i n : ℕ) where
-  pub first_says : (e : ℕ) → found_below n (first_in p i n) ≡ At e → FirstAt p i n e
+  pub first_says : (e : ℕ) → found_below n (first_in p i n) ≡ Some e → FirstAt p i n e
   first_says e q =
       let s = found_says n (first_in p i n) e q in
       let k : first_in p i n ≡ e = s.0 in
@@ -79,28 +77,28 @@ module _ (p : ℕ → Bool) (i n : ℕ) where
         before = λ j a b. first_before p i n j a (omega arith);
       }
 
-  pub first_is_at : (e : ℕ) → FirstAt p i n e → found_below n (first_in p i n) ≡ At e
+  pub first_is_at : (e : ℕ) → FirstAt p i n e → found_below n (first_in p i n) ≡ Some e
   first_is_at e f = rw (first_is p i n e f.low f.below f.holds f.before) (found_at n e f.below)
 
   -- none passes
-  pub none_says : found_below n (first_in p i n) ≡ Nothing → (j : ℕ) → i ≤ j → j < n → p j ≡ false
+  pub none_says : found_below n (first_in p i n) ≡ None → (j : ℕ) → i ≤ j → j < n → p j ≡ false
   none_says q j a b = first_before p i n j a (omega (arith, nothing_says n (first_in p i n) q))
 
-  pub none_is : ((j : ℕ) → i ≤ j → j < n → p j ≡ false) → found_below n (first_in p i n) ≡ Nothing
+  pub none_is : ((j : ℕ) → i ≤ j → j < n → p j ≡ false) → found_below n (first_in p i n) ≡ None
   none_is f =
       split (lt_or_le n i)
       (λ w. rw (first_end p i n (omega arith)) (found_nothing n i (omega arith)))
       (λ w. rw (first_none p i n w f) (found_nothing n n (omega arith)))
 
   -- the answer of a loop that has found it
-  pub look_at : (k : ℕ) → first_in p i n ≡ k → k < n → At k ≡ found_below n (first_in p i n)
+  pub look_at : (k : ℕ) → first_in p i n ≡ k → k < n → Some k ≡ found_below n (first_in p i n)
   look_at k q h = sym (rw q (found_at n k h))
 
   -- a loop that has come to e: a hit there, and its end
-  pub look_hit : (e : ℕ) → first_in p e n ≡ first_in p i n → e < n → p e ≡ true → At e ≡ found_below n (first_in p i n)
+  pub look_hit : (e : ℕ) → first_in p e n ≡ first_in p i n → e < n → p e ≡ true → Some e ≡ found_below n (first_in p i n)
   look_hit e q h t = look_at e (sym q ∙ first_hit p e n h t) h
 
-  pub look_end : (e : ℕ) → first_in p e n ≡ first_in p i n → n ≤ e → Nothing ≡ found_below n (first_in p i n)
+  pub look_end : (e : ℕ) → first_in p e n ≡ first_in p i n → n ≤ e → None ≡ found_below n (first_in p i n)
   look_end e q h = sym (rw (← q, first_end p e n h) (found_nothing n e h))
 
 -- two tests that agree find the same

@@ -1,5 +1,5 @@
 -- Calls 19 and 23: the answer that each of their rows gives, and what is left where none of them holds.
-use Rattle.std.specs.Prelude.{◌≡◌, refl, Bool, true, false, ℕ}
+use Rattle.std.specs.Prelude.{◌≡◌, refl, Bool, true, false, ℕ, None, Some}
 use Rattle.std.proofs.Math.Path.{ap}
 use Rattle.std.proofs.Math.Bool.{not}
 use Rattle.format.specs.Diskette.{Bytes, Geometry}
@@ -7,7 +7,6 @@ use Rattle.format.specs.Names.{name_right_rule}
 use Rattle.format.specs.Entries.{named, find_named_rule}
 use Rattle.format.specs.Notes.{released_map}
 use Rattle.format.specs.Found.{is_found}
-use Rattle.format.specs.declared.Found.TheVariants.{At, Nothing}
 use Rattle.model.specs.declared.Asked.{Asked}
 use Rattle.model.specs.declared.Session.{Session}
 use Rattle.model.specs.declared.Answer.{Answer}
@@ -24,11 +23,11 @@ use Rattle.table.specs.OwnStep.{own_step, refuses_own, carries_own}
 
 -- ---- the test of a row that asks for a name, by what was looked up
 module _ (G : Geometry) (l : Lent) (wild : Bool) (user q : ℕ) where
-  pub some_named : (e : ℕ) → find_named_rule G (rows_of G l) wild user l.fcb q ≡ At e → any_named G l wild user q ≡ true
+  pub some_named : (e : ℕ) → find_named_rule G (rows_of G l) wild user l.fcb q ≡ Some e → any_named G l wild user q ≡ true
   unfolding any_named
   some_named e h = ap is_found h
 
-  pub none_named : find_named_rule G (rows_of G l) wild user l.fcb q ≡ Nothing → any_named G l wild user q ≡ false
+  pub none_named : find_named_rule G (rows_of G l) wild user l.fcb q ≡ None → any_named G l wild user q ≡ false
   unfolding any_named
   none_named h = ap is_found h
 

@@ -15,7 +15,7 @@ ghost use Rattle.table.specs.Own.{calling};
 ghost use Rattle.table.specs.OwnStep.{own_step};
 ghost use Rattle.model.specs.declared.Asked.{Asked};
 
-use format::{ENTRIES, Found};
+use format::ENTRIES;
 use model::{Answer, Code, Session};
 
 // Whether a row is named by the FCB, and its t1' is set.
@@ -80,13 +80,13 @@ pub fn rename_file(image: &mut [u8], fcb: &[u8], session: Session) -> Answer
         return answers::refuse(Code::BadName, session);
     }
     let user = session.user;
-    let Found::At(_) = lookups::find_named(image, false, user, fcb, 1) else {
+    let Some(_) = lookups::find_named(image, false, user, fcb, 1) else {
         return answers::refuse(Code::Failed, session);
     };
     if any_read_only(image, false, user, fcb) {
         return answers::refuse(Code::ReadOnly, session);
     }
-    let Found::Nothing = lookups::find_named(image, false, user, fcb, 17) else {
+    let None = lookups::find_named(image, false, user, fcb, 17) else {
         return answers::refuse(Code::Exists, session);
     };
     rename_entries(image, user, fcb);
@@ -104,7 +104,7 @@ pub fn delete_file(image: &mut [u8], map: &mut [u16], fcb: &[u8], session: Sessi
         return answers::refuse(Code::BadName, session);
     }
     let user = session.user;
-    let Found::At(_) = lookups::find_named(image, true, user, fcb, 1) else {
+    let Some(_) = lookups::find_named(image, true, user, fcb, 1) else {
         return answers::refuse(Code::Failed, session);
     };
     if any_read_only(image, true, user, fcb) {

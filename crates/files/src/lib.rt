@@ -12,7 +12,7 @@ ghost use Rattle.table.specs.OwnStep.{own_step};
 ghost use Rattle.chains.specs.Chain.{Findable};
 ghost use Rattle.model.specs.declared.Asked.{Asked};
 
-use format::{ENTRIES, ENTRIES_PER_RECORD, Found};
+use format::{ENTRIES, ENTRIES_PER_RECORD};
 use model::{Answer, Code, Session};
 
 // 15: the FCB takes the entry of its name and of the extent that byte 12 gives.
@@ -24,7 +24,7 @@ pub fn open_file(image: &[u8], fcb: &mut [u8], session: Session, chain: &[u8]) -
     if !asking::asks_right(fcb) {
         return answers::refuse(Code::BadName, session);
     }
-    let Found::At(e) = asking::find_asked(image, chain, session.user, fcb) else {
+    let Some(e) = asking::find_asked(image, chain, session.user, fcb) else {
         return answers::refuse(Code::Failed, session);
     };
     entering::enter(fcb, rows::copy_row(image, e));
@@ -40,10 +40,10 @@ pub fn make_file(image: &mut [u8], fcb: &mut [u8], session: Session, chain: &[u8
     if !asking::asks_right(fcb) {
         return answers::refuse(Code::BadName, session);
     }
-    let Found::Nothing = asking::find_asked(image, chain, session.user, fcb) else {
+    let None = asking::find_asked(image, chain, session.user, fcb) else {
         return answers::refuse(Code::Exists, session);
     };
-    let Found::At(e) = lookups::find_empty(image) else {
+    let Some(e) = lookups::find_empty(image) else {
         return answers::refuse(Code::Failed, session);
     };
     let row = entering::made_row(session.user, fcb);
@@ -91,7 +91,7 @@ pub fn file_size(image: &[u8], fcb: &mut [u8], session: Session) -> Answer
     if !names::name_right(false, fcb, 1) {
         return answers::refuse(Code::BadName, session);
     }
-    let Found::At(_) = lookups::find_named(image, false, session.user, fcb, 1) else {
+    let Some(_) = lookups::find_named(image, false, session.user, fcb, 1) else {
         return answers::refuse(Code::Failed, session);
     };
     let size = largest_size(image, session.user, fcb);

@@ -1,12 +1,11 @@
 -- Document 01, "Directory entries": a row is the 32 bytes of an entry. Bytes 1 to 31 of an FCB are laid out the same way.
-use Rattle.std.specs.Prelude.{Bool, false, cond, ℕ, ◌+◌, ◌*◌, ◌/◌, ◌%◌, min, eqb, leb, ltb, get_or, set}
+use Rattle.std.specs.Prelude.{Bool, false, cond, ℕ, ◌+◌, ◌*◌, ◌/◌, ◌%◌, min, eqb, leb, ltb, get_or, set, Option}
 use Rattle.lists.specs.Tests.{◌and◌}
 use Rattle.lists.specs.Splice.{part, splice}
 use Rattle.lists.specs.Below.{first_in}
 use Rattle.format.specs.Diskette.{Bytes, Geometry, offset_of, entry_bytes, entries_per_record, extent_records, slot_bytes}
 use Rattle.format.specs.Names.{name_like_rule}
 use Rattle.format.specs.Found.{found_below}
-use Rattle.format.specs.declared.Found.{Found}
 
 -- ---- where an entry stands
 unfoldable pub entry_place_rule : Geometry → ℕ → ℕ
@@ -111,13 +110,13 @@ unfoldable pub is_file_rule : Geometry → ℕ → Bytes → ℕ → ℕ → Byt
 is_file_rule G user s q ext row = named false user s q row and covers G row ext
 
 -- the entry of this user, name and extent
-unfoldable pub find_file_rule : Geometry → Rows → ℕ → Bytes → ℕ → ℕ → Found
+unfoldable pub find_file_rule : Geometry → Rows → ℕ → Bytes → ℕ → ℕ → Option ℕ
 find_file_rule G d user s q ext = found_below G.entries (first_in (λ (e : ℕ). is_file_rule G user s q ext (d e)) 0 G.entries)
 
 -- the first entry of this user whose name is asked for
-unfoldable pub find_named_rule : Geometry → Rows → Bool → ℕ → Bytes → ℕ → Found
+unfoldable pub find_named_rule : Geometry → Rows → Bool → ℕ → Bytes → ℕ → Option ℕ
 find_named_rule G d wild user s q = found_below G.entries (first_in (λ (e : ℕ). named wild user s q (d e)) 0 G.entries)
 
 -- the first empty entry
-unfoldable pub find_empty_rule : Geometry → Rows → Found
+unfoldable pub find_empty_rule : Geometry → Rows → Option ℕ
 find_empty_rule G d = found_below G.entries (first_in (λ (e : ℕ). empty (d e)) 0 G.entries)

@@ -1,5 +1,5 @@
 -- Document 01, "When an FCB is current". An FCB is 36 bytes: a row's fields in bytes 1 to 31, then cr and r0 to r2.
-use Rattle.std.specs.Prelude.{Bool, false, cond, ℕ, ◌+◌, ◌*◌, eqb, leb, get_or}
+use Rattle.std.specs.Prelude.{Bool, false, cond, ℕ, ◌+◌, ◌*◌, eqb, leb, get_or, None, Option, Some}
 use Rattle.lists.specs.Tests.{◌and◌, ◌or◌}
 use Rattle.lists.specs.Below.{all_below}
 use Rattle.format.specs.Diskette.{Bytes, Geometry, slot_count}
@@ -7,8 +7,6 @@ use Rattle.format.specs.Names.{name_right_rule}
 use Rattle.format.specs.Entries.{Rows, slots_of, slot_in, extent_of, count_of, count_in, end_of, find_file_rule}
 use Rattle.format.specs.Consistent.{extent_right_rule}
 use Rattle.format.specs.Notes.{pending_for, note_at_rule}
-use Rattle.format.specs.declared.Found.{Found}
-use Rattle.format.specs.declared.Found.TheVariants.{At, Nothing}
 
 abbrev pub fcb_bytes : ℕ
 fcb_bytes = 36
@@ -46,10 +44,10 @@ unfoldable pub slots_fit_rule : Geometry → Bytes → ℕ → Bytes → Bytes �
 slots_fit_rule G map e es fs = all_below (slot_fits_rule G map e es fs) slot_count
 
 -- the entry found, if the FCB's slots fit it
-abbrev pub fitting : Geometry → Rows → Bytes → Bytes → Found → Found
-fitting G d map fcb (At e) = cond (slots_fit_rule G map e (slots_of (d e)) (slots_of fcb)) (At e) Nothing
-fitting G d map fcb Nothing = Nothing
+abbrev pub fitting : Geometry → Rows → Bytes → Bytes → Option ℕ → Option ℕ
+fitting G d map fcb (Some e) = cond (slots_fit_rule G map e (slots_of (d e)) (slots_of fcb)) (Some e) None
+fitting G d map fcb None = None
 
--- the entry of a current FCB; `Nothing` where it is not current
-unfoldable pub current : Geometry → Rows → Bytes → ℕ → Bytes → Found
-current G d map user fcb = cond (fcb_right_rule fcb) (fitting G d map fcb (find_file_rule G d user fcb 1 (extent_of fcb))) Nothing
+-- the entry of a current FCB; `None` where it is not current
+unfoldable pub current : Geometry → Rows → Bytes → ℕ → Bytes → Option ℕ
+current G d map user fcb = cond (fcb_right_rule fcb) (fitting G d map fcb (find_file_rule G d user fcb 1 (extent_of fcb))) None

@@ -1,17 +1,15 @@
 -- The numbers of a look-up's answer.
-use Rattle.std.specs.Prelude.{Bool, true, false, cond, ℕ, ltb}
-use Rattle.format.specs.declared.Found.{Found}
-use Rattle.format.specs.declared.Found.TheVariants.{At, Nothing}
+use Rattle.std.specs.Prelude.{Bool, true, false, cond, ℕ, ltb, None, Option, Some}
 
 -- the number k, where it is below n
-unfoldable pub found_below : ℕ → ℕ → Found
-found_below n k = cond (ltb k n) (At k) Nothing
+unfoldable pub found_below : ℕ → ℕ → Option ℕ
+found_below n k = cond (ltb k n) (Some k) None
 
--- the number that an answer among n gives: `Nothing` is n, one past the last
-abbrev pub number_of : ℕ → Found → ℕ
-number_of n (At k) = k
-number_of n Nothing = n
+-- the number that an answer among n gives: `None` is n, one past the last
+abbrev pub number_of : ℕ → Option ℕ → ℕ
+number_of n (Some k) = k
+number_of n None = n
 
-abbrev pub is_found : Found → Bool
-is_found (At k) = true
-is_found Nothing = false
+abbrev pub is_found : Option ℕ → Bool
+is_found (Some k) = true
+is_found None = false

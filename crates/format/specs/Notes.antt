@@ -1,5 +1,5 @@
 -- Document 01 on the map: what a note says, when a map is right, and the fresh map.
-use Rattle.std.specs.Prelude.{Bool, not, cond, ℕ, ◌+◌, ◌-◌, ◌*◌, ◌/◌, ◌%◌, eqb, leb, ltb, get_or, set}
+use Rattle.std.specs.Prelude.{Bool, not, cond, ℕ, ◌+◌, ◌-◌, ◌*◌, ◌/◌, ◌%◌, eqb, leb, ltb, get_or, set, Option}
 use Rattle.lists.specs.Tests.{◌and◌, ◌or◌}
 use Rattle.lists.specs.Below.{all_below, any_below, first_in}
 use Rattle.lists.specs.Count.{count_below}
@@ -9,7 +9,6 @@ use Rattle.format.specs.Diskette.{Bytes, Geometry, slot_count, slots_on}
 use Rattle.format.specs.Entries.{Rows, used}
 use Rattle.format.specs.Consistent.{listed, slots_in_all}
 use Rattle.format.specs.Found.{found_below}
-use Rattle.format.specs.declared.Found.{Found}
 
 -- ---- the numbers of notes
 abbrev pub free_note : ℕ
@@ -68,7 +67,7 @@ fresh_map G d = tab G.blocks (fresh_note_rule G d)
 unfoldable pub is_free : Bytes → ℕ → Bool
 is_free map b = eqb (note_at_rule map b) free_note
 
-unfoldable pub find_free : Geometry → Bytes → Found
+unfoldable pub find_free : Geometry → Bytes → Option ℕ
 find_free G map = found_below G.blocks (first_in (is_free map) 0 G.blocks)
 
 unfoldable pub free_count_rule : Geometry → Bytes → ℕ

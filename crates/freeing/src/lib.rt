@@ -6,7 +6,6 @@ ghost use Rattle.format.specs.Diskette.{eight_inch};
 ghost use Rattle.format.specs.Notes.{settled_note_rule, freed_map, held_for_rule};
 ghost use Rattle.freeing.specs.Freeing.{unlisted_slot, unlisted_map, unheld_note_rule, unheld_map, marks_pick};
 
-use format::Found;
 
 // The note without what is pending.
 fn settled_note(n: u16) -> u16
@@ -36,7 +35,7 @@ fn held_for(n: u16, marks: &[u8]) -> bool
     requires { length marks.now ≡ eight_inch.entries }
     ensures { result ≡ held_for_rule (marks_pick marks.now) n }
 {
-    let Found::At(e) = notes::holder(n) else {
+    let Some(e) = notes::holder(n) else {
         return false;
     };
     marks[e] != 0

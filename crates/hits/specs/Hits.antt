@@ -1,5 +1,5 @@
 -- A row against a search pattern: the name decides last, and byte 12 asks for two bytes of a row. And the first entry that a pattern hits.
-use Rattle.std.specs.Prelude.{◌≡◌, Bool, true, ℕ, ◌+◌, ◌*◌, eqb, get_or}
+use Rattle.std.specs.Prelude.{◌≡◌, Bool, true, ℕ, ◌+◌, ◌*◌, eqb, get_or, Some}
 use Rattle.std.proofs.Common.{sym, ◌∙◌, arith, eqb-true, eq-eqb}
 use Rattle.lists.specs.Cases.{bool_ext}
 use Rattle.lists.specs.Tests.{◌and◌, ◌or◌, and_then, and_first, and_left, and_right, and_both}
@@ -8,7 +8,6 @@ use Rattle.format.specs.Names.{name_like_rule}
 use Rattle.format.specs.Entries.{Rows, user_of, ex_of, s2_of, extent_of, covers, named}
 use Rattle.facts.specs.Naming.{covers_own}
 use Rattle.facts.specs.Found.{FirstAt, first_says}
-use Rattle.format.specs.declared.Found.TheVariants.{At}
 use Rattle.model.specs.Search.{extent_hit_rule, hit, find_hit_rule}
 
 -- among the user's rows whose extent is asked for, the name decides
@@ -34,7 +33,7 @@ abbrev pub hit_test : Geometry → Rows → ℕ → Bytes → ℕ → Bool
 hit_test G d user pattern e = hit G user pattern (d e)
 
 -- what the look-up answers is the first entry from i on that the pattern hits
-pub hit_says : (G : Geometry) (d : Rows) (user : ℕ) (pattern : Bytes) (i e : ℕ) → find_hit_rule G d user pattern i ≡ At e
+pub hit_says : (G : Geometry) (d : Rows) (user : ℕ) (pattern : Bytes) (i e : ℕ) → find_hit_rule G d user pattern i ≡ Some e
     → FirstAt (hit_test G d user pattern) i G.entries e
 unfolding find_hit_rule
 hit_says G d user pattern i e q = first_says (hit_test G d user pattern) i G.entries e q

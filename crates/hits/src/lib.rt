@@ -6,7 +6,7 @@ ghost use Rattle.format.specs.Diskette.{eight_inch, Long, entry_bytes};
 ghost use Rattle.format.specs.Entries.{entry_at};
 ghost use Rattle.model.specs.Search.{pattern_bytes, extent_hit_rule, hit, find_hit_rule};
 
-use format::{ENTRIES, Found};
+use format::ENTRIES;
 
 // Whether byte 12 of a pattern asks for a row's extent: 3FH for any, another value for the same ex where s2 is 0, which is the row that covers
 // that extent.
@@ -38,16 +38,16 @@ fn hit(user: u8, pattern: &[u8], row: &[u8]) -> bool
 }
 
 // The first entry from a place on that a pattern hits.
-pub fn find_hit(image: &[u8], user: u8, pattern: &[u8], from: usize) -> Found
+pub fn find_hit(image: &[u8], user: u8, pattern: &[u8], from: usize) -> Option<usize>
     requires { Long eight_inch image.now × (pattern_bytes ≤ length pattern.now) }
     ensures { result ≡ find_hit_rule eight_inch (entry_at eight_inch image.now) user pattern.now from }
 {
     let mut e = from;
     while e < ENTRIES {
         if hit(user, pattern, rows::row(image, e)) {
-            return Found::At(e);
+            return Some(e);
         }
         e += 1;
     }
-    Found::Nothing
+    None
 }

@@ -8,7 +8,7 @@ use Rattle.std.proofs.Math.Dec.{eqb}
 use borrow.Author.Tests.{eqb-true, eqb-false, eq-eqb, ne_eqb, not-true}
 use Rattle.lists.specs.Cases.{split, bool_cases, not_both, refute}
 use Rattle.lists.specs.Tests.{◌and◌, and_left, and_right, and_both, and_then, and_fails_left, or_left, or_right, or_then}
-use Rattle.lists.specs.Below.{Some, any_some, any_at}
+use Rattle.lists.specs.Below.{SomeBelow, any_some, any_at}
 use Rattle.format.specs.Diskette.{Bytes, Geometry, Sound, slot_count}
 use Rattle.format.specs.Names.{name_like_rule}
 use Rattle.format.specs.Entries.{Rows, user_of, slot_of, used, empty, extent_of, run_of}
@@ -43,7 +43,7 @@ module _ (G : Geometry) (d : Rows) (picked : ℕ → Bool) (b : ℕ) where
   pub listed_picked : listed_by G d picked b ≡ true → PickedAt G d picked b
   unfolding listed_by
   listed_picked t =
-      let s : Some (λ (x : ℕ). picked (x / slot_count) and eqb (listed G d x) b) (slots_in_all G) = any_some _ (slots_in_all G) (and_right _ _ t) in
+      let s : SomeBelow (λ (x : ℕ). picked (x / slot_count) and eqb (listed G d x) b) (slots_in_all G) = any_some _ (slots_in_all G) (and_right _ _ t) in
       let r : b ≡ 0 → ⊥ = eqb-false b 0 (not-true _ (and_left _ _ t)) in
       record {
         e = s.place / slot_count;

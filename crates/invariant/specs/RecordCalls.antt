@@ -1,5 +1,5 @@
 -- What a record call comes to: the FCB's own entry, and that of the target, whose block and count the table foresees as they are after a move.
-use Rattle.std.specs.Prelude.{◌≡◌, true}
+use Rattle.std.specs.Prelude.{◌≡◌, true, Some}
 use Rattle.std.proofs.Common.{ap, sym, ◌∙◌}
 use Prim.Native.Nat.{ℕ, ◌<◌, max}
 use native.Mathlib.Omega.{arith}
@@ -7,7 +7,6 @@ use Rattle.std.proofs.Math.ListN.{length}
 use Rattle.lists.specs.Cases.{split, bool_cases}
 use Rattle.format.specs.Diskette.{Bytes, Geometry, Sound, slot_count}
 use Rattle.format.specs.Entries.{entry_at, slot_of, count_of, count_in, used, is_file_rule}
-use Rattle.format.specs.declared.Found.TheVariants.{At}
 use Rattle.model.specs.declared.Session.{Session}
 use Rattle.model.specs.Lent.{Lent, rows_of}
 use Rattle.model.specs.Closing.{closed_image}
@@ -29,7 +28,7 @@ use Rattle.invariant.specs.Good.{Good}
 use Rattle.invariant.specs.CloseGood.{current_below, current_used, closed_file, closed_slot, here, good_closed}
 
 module _ {G : Geometry} (S : Sound G) (n : ℕ) (l : Lent) (s : Session) (g : Good G l.drive.image l.drive.map) (f : Fits G l s) (e : ℕ)
-    (at : present_entry G s.user l ≡ At e) where
+    (at : present_entry G s.user l ≡ Some e) where
   -- ---- the FCB's own entry
   pub present_current : Current G (rows_of G l) l.drive.map s.user l.fcb e
   unfolding present_entry
@@ -45,7 +44,7 @@ module _ {G : Geometry} (S : Sound G) (n : ℕ) (l : Lent) (s : Session) (g : Go
   slot_below = slot_place G (target_slot_below S n l.fcb (fcb_says l.fcb present_current.right).cr)
 
   -- ---- the entry of the target's extent
-  module _ (t : ℕ) (target : target_entry G n s.user l ≡ At t) where
+  module _ (t : ℕ) (target : target_entry G n s.user l ≡ Some t) where
     pub target_file : is_file_rule G s.user l.fcb 1 (target_extent n l.fcb) (rows_of G l t) ≡ true
     unfolding target_entry
     target_file = (file_says G (rows_of G l) s.user l.fcb 1 (target_extent n l.fcb) t target).holds

@@ -1,12 +1,11 @@
 -- The stamps of a call: each stands beside an entry, they keep image and map good, and each stamp of the disk becomes the newest of them or stays.
-use Rattle.std.specs.Prelude.{◌≡◌, refl, ◌⊎◌, Bool, true, false, cond, not, List, [], ◌∷◌, ◌++◌, ℕ, ◌%◌, ◌≤◌, ◌<◌, eqb}
+use Rattle.std.specs.Prelude.{◌≡◌, refl, ◌⊎◌, Bool, true, false, cond, not, List, [], ◌∷◌, ◌++◌, ℕ, ◌%◌, ◌≤◌, ◌<◌, eqb, Some}
 use Rattle.std.proofs.Common.{ap, sym, ◌∙◌, subst, inl, inr, arith, eqb-true, eq-eqb}
 use Rattle.lists.specs.Cases.{split, bool_cases, eq_or_ne, not_both}
 use Rattle.lists.specs.Tests.{◌and◌, and_left, and_right, and_both}
 use Rattle.format.specs.Diskette.{Bytes, Geometry, Sound, record_at, entries_per_record}
 use Rattle.format.specs.Entries.{entry_at, user_of, used, empty, find_empty_rule}
 use Rattle.format.specs.Dates.{is_dates, dated, fourth_of, bcd, stamp_right, stamp_at, with_stamp, asks_create, asks_update, asks_access, asks}
-use Rattle.format.specs.declared.Found.TheVariants.{At}
 use Rattle.disk.specs.Places.{block_records}
 use Rattle.rows.specs.Entries.{area_records, length_entry_at}
 use Rattle.facts.specs.Find.{file_says, empty_says}
@@ -161,7 +160,7 @@ module _ {G : Geometry} (S : Sound G) (asked : Asked) (l : Lent) (s : Session) (
 
   -- beside which entries they stand: of the plan of a record call, and of any kind
   pub move_each : (B : ℕ → Type 0) (p : Plan) → Planned G asked.number s.user l B p
-      → ((e : ℕ) → present_entry G s.user l ≡ At e → Here e) → ((t : ℕ) → find_empty_rule G (rows_of G l) ≡ At t → entry_of p ≡ t → Here t)
+      → ((e : ℕ) → present_entry G s.user l ≡ Some e → Here e) → ((t : ℕ) → find_empty_rule G (rows_of G l) ≡ Some t → entry_of p ≡ t → Here t)
       → Each P (move_stamps G asked l s p)
   move_each B p (stay e b at t target k) present new = tt
   move_each B p (move e t b at go target k) present new = close_each e (present e at)
@@ -176,13 +175,13 @@ module _ {G : Geometry} (S : Sound G) (asked : Asked) (l : Lent) (s : Session) (
   fits : Fits G l s
   fits = c.ready.fits
 
-  present : (e : ℕ) → present_entry G s.user l ≡ At e → Beside G e
+  present : (e : ℕ) → present_entry G s.user l ≡ Some e → Beside G e
   present e q = plain e (present_below S 16 l s g fits e q) (inl (present_used S 16 l s g fits e q))
 
-  void : (t : ℕ) → find_empty_rule G (rows_of G l) ≡ At t → Beside G t
+  void : (t : ℕ) → find_empty_rule G (rows_of G l) ≡ Some t → Beside G t
   void t q = let h = empty_says G (rows_of G l) t q in plain t h.below (inr h.holds)
 
-  asks_for : (e : ℕ) → asked_entry G l s.user ≡ At e → Beside G e
+  asks_for : (e : ℕ) → asked_entry G l s.user ≡ Some e → Beside G e
   unfolding asked_entry
   asks_for e q =
       let h = file_says G (rows_of G l) s.user l.fcb 1 _ e q in

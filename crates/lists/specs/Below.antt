@@ -80,7 +80,7 @@ pub all_done : (p : ℕ → Bool) (i n : ℕ) → i ≤ n → n ≤ i → all_be
 all_done p i n a b e = let q : i ≡ n = omega arith in sym (rw q at e)
 
 -- ---- some number
-pub record Some (p : ℕ → Bool) (n : ℕ) : Type 0 where
+pub record SomeBelow (p : ℕ → Bool) (n : ℕ) : Type 0 where
   pub place : ℕ
   pub below : place < n
   pub holds : p place ≡ true
@@ -99,7 +99,7 @@ any_at p zero k h e = absurd (omega arith)
 any_at p (suc n) k h e =
     split (lt_or_le k n) (λ w. or_left _ _ (any_at p n k w e)) (λ w. let q : k ≡ n = omega arith in or_right _ _ (rw q at e))
 
-pub any_some : (p : ℕ → Bool) (n : ℕ) → any_below p n ≡ true → Some p n
+pub any_some : (p : ℕ → Bool) (n : ℕ) → any_below p n ≡ true → SomeBelow p n
 unfolding any_below
 any_some p zero e = clash (sym e)
 any_some p (suc n) e =

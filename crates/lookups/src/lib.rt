@@ -6,7 +6,7 @@ ghost use Rattle.format.specs.Diskette.{eight_inch, Long, entry_bytes};
 ghost use Rattle.format.specs.Names.{name_bytes};
 ghost use Rattle.format.specs.Entries.{entry_at, named, is_file_rule, find_named_rule, find_empty_rule};
 
-use format::{ENTRIES, Found};
+use format::ENTRIES;
 
 // Whether a row is the user's, and its name is what the name in s at q asks for.
 pub fn is_named(wild: bool, user: u8, s: &[u8], q: usize, r: &[u8]) -> bool
@@ -34,31 +34,31 @@ pub fn is_file(user: u8, s: &[u8], q: usize, ext: usize, r: &[u8]) -> bool
 }
 
 // The first entry of this user whose name is asked for.
-pub fn find_named(image: &[u8], wild: bool, user: u8, s: &[u8], q: usize) -> Found
+pub fn find_named(image: &[u8], wild: bool, user: u8, s: &[u8], q: usize) -> Option<usize>
     requires { Long eight_inch image.now × (q + name_bytes ≤ length s.now) }
     ensures { result ≡ find_named_rule eight_inch (entry_at eight_inch image.now) wild user s.now q }
 {
     let mut e = 0;
     while e < ENTRIES {
         if is_named(wild, user, s, q, rows::row(image, e)) {
-            return Found::At(e);
+            return Some(e);
         }
         e += 1;
     }
-    Found::Nothing
+    None
 }
 
 // The first empty entry.
-pub fn find_empty(image: &[u8]) -> Found
+pub fn find_empty(image: &[u8]) -> Option<usize>
     requires { Long eight_inch image.now }
     ensures { result ≡ find_empty_rule eight_inch (entry_at eight_inch image.now) }
 {
     let mut e = 0;
     while e < ENTRIES {
         if rows::row(image, e)[0] == 0xE5 {
-            return Found::At(e);
+            return Some(e);
         }
         e += 1;
     }
-    Found::Nothing
+    None
 }

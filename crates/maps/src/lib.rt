@@ -9,14 +9,13 @@ ghost use Rattle.format.specs.Notes.{held_by_used_rule, note_right_rule, map_rig
 ghost use Rattle.fresh.specs.Note.{told_note_rule};
 ghost use Rattle.maps.specs.Told.{difference_count, area_right_rule};
 
-use format::Found;
 
 // Whether a note is pending for a used entry.
 fn held_by_used(n: u16, image: &[u8]) -> bool
     requires { Long eight_inch image.now }
     ensures { result ≡ held_by_used_rule eight_inch (entry_at eight_inch image.now) n }
 {
-    let Found::At(e) = notes::holder(n) else {
+    let Some(e) = notes::holder(n) else {
         return false;
     };
     rows::row(image, e)[0] <= 15

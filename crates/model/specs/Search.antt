@@ -1,12 +1,11 @@
 -- Document 01 on 17 and 18. A pattern is FCB bytes 1 to 12: eleven name places, then byte 12.
-use Rattle.std.specs.Prelude.{Bool, true, ℕ, eqb, get_or}
+use Rattle.std.specs.Prelude.{Bool, true, ℕ, eqb, get_or, Option}
 use Rattle.lists.specs.Tests.{◌and◌, ◌or◌}
 use Rattle.lists.specs.Splice.{part}
 use Rattle.lists.specs.Below.{first_in}
 use Rattle.format.specs.Diskette.{Bytes, Geometry}
 use Rattle.format.specs.Entries.{Rows, s2_of, covers, named}
 use Rattle.format.specs.Found.{found_below}
-use Rattle.format.specs.declared.Found.{Found}
 
 abbrev pub pattern_bytes : ℕ
 pattern_bytes = 12
@@ -23,5 +22,5 @@ unfoldable pub hit : Geometry → ℕ → Bytes → Bytes → Bool
 hit G user pattern row = named true user pattern 0 row and extent_hit_rule G (get_or pattern 11 0) row
 
 -- the first match from a place on
-unfoldable pub find_hit_rule : Geometry → Rows → ℕ → Bytes → ℕ → Found
+unfoldable pub find_hit_rule : Geometry → Rows → ℕ → Bytes → ℕ → Option ℕ
 find_hit_rule G d user pattern place = found_below G.entries (first_in (λ (e : ℕ). hit G user pattern (d e)) place G.entries)

@@ -1,5 +1,5 @@
 -- One call: refused by the table with nothing changed, or carried out and stamped.
-use Rattle.std.specs.Prelude.{cond, List, [], ℕ, eqb}
+use Rattle.std.specs.Prelude.{cond, List, [], ℕ, eqb, None, Option, Some}
 use Rattle.format.specs.Diskette.{Bytes, Geometry}
 use Rattle.model.specs.declared.Asked.{Asked}
 use Rattle.model.specs.declared.Session.{Session}
@@ -7,8 +7,6 @@ use Rattle.model.specs.declared.Kind.{Kind}
 use Rattle.model.specs.declared.Kind.TheVariants.{Unlisted, Quiet, Search, User, Settle, Close, Delete, Create, Rename, Read, Write}
 use Rattle.model.specs.declared.Code.{Code}
 use Rattle.model.specs.declared.Code.TheVariants.{NotListed}
-use Rattle.model.specs.declared.Verdict.{Verdict}
-use Rattle.model.specs.declared.Verdict.TheVariants.{Passed, Refused}
 use Rattle.model.specs.Codes.{says_of}
 use Rattle.model.specs.Kinds.{kind_of}
 use Rattle.model.specs.Lent.{Lent, Outcome, ends, ended}
@@ -60,14 +58,14 @@ module _ (G : Geometry) (asked : Asked) (l : Lent) (s : Session) where
   unfoldable pub effect : Outcome
   effect = does (kind_of asked.number)
 
-  abbrev pub carried_out : Verdict → Outcome
-  carried_out Passed = effect
-  carried_out (Refused code) = refused code s l
+  abbrev pub carried_out : Option Code → Outcome
+  carried_out None = effect
+  carried_out (Some code) = refused code s l
 
   -- and the stamps that it makes: a refusal stamps nothing
-  abbrev pub stamps_made : Verdict → List Stamp
-  stamps_made Passed = stamps G asked l s (kind_of asked.number)
-  stamps_made (Refused code) = []
+  abbrev pub stamps_made : Option Code → List Stamp
+  stamps_made None = stamps G asked l s (kind_of asked.number)
+  stamps_made (Some code) = []
 
   unfoldable pub step : Outcome
   step = stamped_outcome G (stamps_made (verdict G asked l s)) (carried_out (verdict G asked l s))

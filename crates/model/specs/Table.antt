@@ -1,7 +1,7 @@
 -- Document 01, "Codes, in the order they are tested", without the row of 3, 0, which request [7] takes away (docs/changes/07-code-3.md), and with
 -- the row of 255, 2, which request [12] puts in (docs/changes/12-protect.md). Each row says to which calls it applies, when, and with which code.
 -- Every row looks at the state as it came; the first that holds decides, and only the table refuses.
-use Rattle.std.specs.Prelude.{Bool, true, false, cond, not, List, [], ◌∷◌, ℕ, eqb, leb, ltb, get_or, length}
+use Rattle.std.specs.Prelude.{Bool, true, false, cond, not, List, [], ◌∷◌, ℕ, eqb, leb, ltb, get_or, length, Option, None, Some}
 use Rattle.lists.specs.Tests.{◌and◌, ◌or◌}
 use Rattle.lists.specs.Below.{any_below}
 use Rattle.format.specs.Diskette.{Bytes, Geometry, is_long, record_bytes, extents, last_record}
@@ -12,11 +12,8 @@ use Rattle.format.specs.Consistent.{extent_right_rule, consistent}
 use Rattle.format.specs.Notes.{map_right, find_free}
 use Rattle.format.specs.Fcb.{fcb_bytes, cr_right, random_of_rule}
 use Rattle.format.specs.Found.{is_found, number_of}
-use Rattle.format.specs.declared.Found.{Found}
 use Rattle.model.specs.declared.Session.{Session}
 use Rattle.model.specs.declared.Code.{Code}
-use Rattle.model.specs.declared.Verdict.{Verdict}
-use Rattle.model.specs.declared.Verdict.TheVariants.{Passed, Refused}
 use Rattle.model.specs.declared.Asked.{Asked}
 use Rattle.model.specs.Kinds.{one_of, uses_fcb_rule, is_call}
 use Rattle.model.specs.Lent.{Lent, rows_of, search_on, protected}
@@ -49,7 +46,7 @@ module _ (G : Geometry) (l : Lent) where
   any_named wild user q = is_found (find_named_rule G (rows_of G l) wild user l.fcb q)
 
   -- the entry of this name, with ex = byte 12 and s2 0: the extent of that number, since byte 12 and every ex are at most 31 here
-  unfoldable pub asked_entry : ℕ → Found
+  unfoldable pub asked_entry : ℕ → Option ℕ
   asked_entry user = find_file_rule G (rows_of G l) user l.fcb 1 (ex_of l.fcb)
 
   -- t1' in a matched entry
@@ -82,13 +79,13 @@ rows_at n [] = []
 rows_at n (r ∷ rs) = keep (one_of n r.calls) r.row (rows_at n rs)
 
 -- the first row that holds
-unfoldable pub first_row : List Row → Verdict
-first_row [] = Passed
-first_row (r ∷ rs) = cond r.holds (Refused r.code) (first_row rs)
+unfoldable pub first_row : List Row → Option Code
+first_row [] = None
+first_row (r ∷ rs) = cond r.holds (Some r.code) (first_row rs)
 
-abbrev pub is_passed : Verdict → Bool
-is_passed Passed = true
-is_passed (Refused code) = false
+abbrev pub is_passed : Option Code → Bool
+is_passed None = true
+is_passed (Some code) = false
 
 abbrev pub row : List ℕ → Bool → Code → RowFor
 row calls test code = record { calls = calls; row = when test code }
@@ -176,5 +173,5 @@ module _ (G : Geometry) (asked : Asked) (l : Lent) (s : Session) where
       ∷ when protection_holds Code.Protected
       ∷ own_rows
 
-  unfoldable pub verdict : Verdict
+  unfoldable pub verdict : Option Code
   verdict = first_row table

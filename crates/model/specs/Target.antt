@@ -1,14 +1,12 @@
 -- Document 01 on 20, 21, 33 and 34: the target, where it is, and the plan. The target is computed once; reading and writing then
 -- have one rule each.
-use Rattle.std.specs.Prelude.{Bool, false, cond, not, ℕ, ◌+◌, ◌/◌, ◌%◌, max, eqb, ltb, set}
+use Rattle.std.specs.Prelude.{Bool, false, cond, not, ℕ, ◌+◌, ◌/◌, ◌%◌, max, eqb, ltb, set, None, Option, Some}
 use Rattle.lists.specs.Tests.{◌and◌, ◌or◌}
 use Rattle.format.specs.Diskette.{Bytes, Geometry, disk_record, record_at, with_record, extent_records}
 use Rattle.format.specs.Entries.{Rows, entry_at, with_entry, slot_of, with_slot, count_of, extent_of, covers, count_in, slot_for_rule, find_file_rule, find_empty_rule, read_only}
 use Rattle.format.specs.Notes.{pending_for, with_note, find_free}
 use Rattle.format.specs.Fcb.{cr_of, random_of_rule, fcb_count_in, current}
 use Rattle.format.specs.Found.{number_of}
-use Rattle.format.specs.declared.Found.{Found}
-use Rattle.format.specs.declared.Found.TheVariants.{At, Nothing}
 use Rattle.model.specs.declared.Plan.{Plan}
 use Rattle.model.specs.declared.Plan.TheVariants.{Stay, Move, Make}
 use Rattle.model.specs.Kinds.{is_random_rule}
@@ -29,7 +27,7 @@ unfoldable pub cr_after : ℕ → Bytes → ℕ
 cr_after n fcb = cond (is_random_rule n) (target_record n fcb) (target_record n fcb + 1)
 
 -- the FCB's own entry
-unfoldable pub present_entry : Geometry → ℕ → Lent → Found
+unfoldable pub present_entry : Geometry → ℕ → Lent → Option ℕ
 present_entry G user l = current G (rows_of G l) l.drive.map user l.fcb
 
 -- the target's extent is the FCB's: no move
@@ -45,27 +43,27 @@ unfoldable pub target_slot : Geometry → ℕ → Bytes → ℕ
 target_slot G n fcb = slot_for_rule G (target_extent n fcb) (target_record n fcb)
 
 -- t1' in the entry that was found
-abbrev pub read_only_in : Rows → Found → Bool
-read_only_in d (At t) = read_only (d t)
-read_only_in d Nothing = false
+abbrev pub read_only_in : Rows → Option ℕ → Bool
+read_only_in d (Some t) = read_only (d t)
+read_only_in d None = false
 
 module _ (G : Geometry) (n user : ℕ) (l : Lent) where
   -- the target's own entry
-  unfoldable pub target_entry : Found
+  unfoldable pub target_entry : Option ℕ
   target_entry = find_file_rule G (rows_of G l) user l.fcb 1 (target_extent n l.fcb)
 
   -- the block in its slot once the FCB has come to the target's extent: the FCB's own, or that of the entry moved to; 0 is none
-  abbrev pub row_slot : Found → ℕ
-  row_slot (At t) = slot_of G (rows_of G l t) (target_slot G n l.fcb)
-  row_slot Nothing = 0
+  abbrev pub row_slot : Option ℕ → ℕ
+  row_slot (Some t) = slot_of G (rows_of G l t) (target_slot G n l.fcb)
+  row_slot None = 0
 
   unfoldable pub block_there : ℕ
   block_there = cond (within G n l.fcb) (slot_of G l.fcb (target_slot G n l.fcb)) (row_slot target_entry)
 
   -- the larger of the counts that the FCB, come there, and the entry have
-  abbrev pub count_at : Found → ℕ
-  count_at (At t) = count_in (rows_of G l t) (target_extent n l.fcb)
-  count_at Nothing = 0
+  abbrev pub count_at : Option ℕ → ℕ
+  count_at (Some t) = count_in (rows_of G l t) (target_extent n l.fcb)
+  count_at None = 0
 
   unfoldable pub count_there : ℕ
   count_there = cond (within G n l.fcb) (max (fcb_count_in l.fcb (target_extent n l.fcb)) (count_at target_entry)) (count_at target_entry)
@@ -83,9 +81,9 @@ module _ (G : Geometry) (n user : ℕ) (l : Lent) where
   read_only_there = read_only_in (rows_of G l) (present_entry G user l) or read_only_in (rows_of G l) target_entry
 
   -- ---- the plan; it is read only where the table has passed, so the look-ups that it needs have found something
-  abbrev pub plan_to : ℕ → Found → Plan
-  plan_to e (At t) = Move e t target_block
-  plan_to e Nothing = Make e (number_of G.entries (find_empty_rule G (rows_of G l))) target_block
+  abbrev pub plan_to : ℕ → Option ℕ → Plan
+  plan_to e (Some t) = Move e t target_block
+  plan_to e None = Make e (number_of G.entries (find_empty_rule G (rows_of G l))) target_block
 
   unfoldable pub plan_from : ℕ → Plan
   plan_from e = cond (stays n l.fcb) (Stay e target_block) (plan_to e target_entry)

@@ -70,13 +70,6 @@ pub enum Code {
     DiskFull,
 }
 
-// What the table of refusals says of a call.
-#[derive(Clone, Copy)]
-pub enum Verdict {
-    Passed,
-    Refused(Code),
-}
-
 // What a record call that the table passed works on: the FCB's entry, the target's entry where that is another or a new one, and
 // the target's block.
 #[derive(Clone, Copy)]

@@ -6,7 +6,6 @@ ghost use Rattle.format.specs.Diskette.{eight_inch, slot_count};
 ghost use Rattle.format.specs.Notes.{free_note, note_at_rule, pending_for, with_note, find_free, free_count_rule};
 ghost use Rattle.notes.specs.Holder.{holder_of};
 
-use format::Found;
 
 // The numbers of notes. From PENDING on, each entry has PLACES of them, one for each of its slots.
 pub const FREE: u16 = 0;
@@ -28,17 +27,17 @@ pub fn pending_note(e: usize, j: usize) -> u16
 }
 
 // The entry for which a note is pending.
-pub fn holder(n: u16) -> Found
+pub fn holder(n: u16) -> Option<usize>
     ensures { result ≡ holder_of eight_inch n }
 {
     if (n as usize) < PENDING {
-        return Found::Nothing;
+        return None;
     }
     let e = (n as usize - PENDING) / PLACES;
     if format::ENTRIES <= e {
-        return Found::Nothing;
+        return None;
     }
-    Found::At(e)
+    Some(e)
 }
 
 // The note of a block: 0 for a number past the last block.
@@ -60,18 +59,18 @@ pub fn set_note(map: &mut [u16], b: usize, n: u16)
 }
 
 // The first free block: the lowest, so that what was freed is handed out again.
-pub fn first_free(map: &[u16]) -> Found
+pub fn first_free(map: &[u16]) -> Option<usize>
     requires { length map.now ≡ eight_inch.blocks }
     ensures { result ≡ find_free eight_inch map.now }
 {
     let mut first = 0;
     while first < format::BLOCKS {
         if map[first] == FREE {
-            return Found::At(first);
+            return Some(first);
         }
         first += 1;
     }
-    Found::Nothing
+    None
 }
 
 // 1 where a note is that of a free block, or 0.

@@ -1,5 +1,5 @@
 -- A log that is there: it is opened and searched, and its answer is that of the table.
-use Rattle.std.specs.Prelude.{◌≡◌, Bool, ℕ}
+use Rattle.std.specs.Prelude.{◌≡◌, Bool, ℕ, Some}
 use Rattle.std.proofs.Math.Path.{refl, ap, sym}
 use Rattle.std.proofs.Common.{◌∙◌}
 use Rattle.std.proofs.Math.Bool.{true, false, cond}
@@ -7,7 +7,6 @@ use Rattle.std.proofs.Math.Dec.{eqb}
 use Rattle.lists.specs.Tests.{◌and◌, and_both, and_fails_right}
 use Rattle.format.specs.Diskette.{Bytes, Geometry, Sound}
 use Rattle.format.specs.Found.{is_found}
-use Rattle.format.specs.declared.Found.TheVariants.{At}
 use Rattle.model.specs.Lent.{Outcome, ended}
 use Rattle.demands.specs.Runs.{Disk, outcome_of, left, accepts}
 use Rattle.stored.specs.Closed.{Sane, Restamped}
@@ -49,7 +48,7 @@ module _ {G : Geometry} (S : Sound G) (t : Time) (timed : Timed t) (w : Wanted) 
         (searched_run S t timed w nm m o.lent.fcb op.at.entry op.at.fresh op.same (at_entry a op) name
         (entry_same S (LogAccess G t w d) d m sane restamped w.log ∙ some) (over a)))
       where
-        at_entry : accepts G d (opening t w.log) ≡ true → (op : Opening G (call_at t 0) d log blank) → extent_at G m w.log 0 ≡ At op.at.entry
+        at_entry : accepts G d (opening t w.log) ≡ true → (op : Opening G (call_at t 0) d log blank) → extent_at G m w.log 0 ≡ Some op.at.entry
         at_entry a op = extent_same S (LogAccess G t w d) d m sane restamped w.log 0 ∙ asked_is S t timed w nm d op.at.entry op.at.asked
 
         over : accepts G d (opening t w.log) ≡ true → m.session ≡ ended m.session

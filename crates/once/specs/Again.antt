@@ -1,6 +1,6 @@
 -- Theorem 2: "again" is told exactly where no earlier trouble is and a log record has the year and day; after "picked and logged" the log has one record
 -- more, which has them, and all that it had. Theorem 3: a second run answers again, with the same word, and harms nothing.
-use Rattle.std.specs.Prelude.{◌≡◌, Bool, ℕ, ◌+◌, ◌%◌, ◌≤◌, ◌<◌, eqb, leb, length}
+use Rattle.std.specs.Prelude.{◌≡◌, Bool, ℕ, ◌+◌, ◌%◌, ◌≤◌, ◌<◌, eqb, leb, length, None}
 use Rattle.std.proofs.Math.Path.{refl, ap, subst}
 use Rattle.std.proofs.Common.{sym, ◌∙◌, arith}
 use Rattle.std.proofs.Math.Bool.{true, false, cond, not}
@@ -10,7 +10,6 @@ use Rattle.lists.specs.Tests.{◌and◌, and_both}
 use Rattle.lists.specs.Below.{any_at}
 use Rattle.format.specs.Diskette.{Bytes, Geometry, Sound, record_bytes}
 use Rattle.format.specs.Entries.{entry_at, named, find_named_rule}
-use Rattle.format.specs.declared.Found.TheVariants.{Nothing}
 use Rattle.format.specs.Fcb.{random_of_rule}
 use Rattle.format.specs.Found.{is_found}
 use Rattle.facts.specs.Found.{found_cases, none_says}
@@ -89,7 +88,7 @@ module _ {G : Geometry} (w : Wanted) (d : Disk) (word : Bytes) (x : Done G w d w
       found_cases (find_named_rule G (entry_at G d.drive.image) false d.session.user (fcb_of_rule w.log) 1) (λ k q. ap is_found q)
       (λ q. not_both _ (file_named G d.session.user (fcb_of_rule w.log) 1 0 (entry_at G d.drive.image x.log.entry) x.log.file) (none_named q))
     where
-      none_named : find_named_rule G (entry_at G d.drive.image) false d.session.user (fcb_of_rule w.log) 1 ≡ Nothing
+      none_named : find_named_rule G (entry_at G d.drive.image) false d.session.user (fcb_of_rule w.log) 1 ≡ None
           → named false d.session.user (fcb_of_rule w.log) 1 (entry_at G d.drive.image x.log.entry) ≡ false
       none_named q =
           none_says (λ (k : ℕ). named false d.session.user (fcb_of_rule w.log) 1 (entry_at G d.drive.image k)) 0 G.entries q x.log.entry (omega arith) x.log.low

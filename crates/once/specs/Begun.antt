@@ -1,5 +1,5 @@
 -- A log that is missing: the look at the space, the make, and the first record.
-use Rattle.std.specs.Prelude.{◌≡◌, Bool}
+use Rattle.std.specs.Prelude.{◌≡◌, Bool, Option}
 use Rattle.std.proofs.Math.Path.{refl, ap, sym, subst}
 use Rattle.std.proofs.Common.{◌∙◌, eqb-true}
 use Rattle.std.proofs.Math.Bool.{true, false, cond, not}
@@ -14,7 +14,6 @@ use Rattle.format.specs.Entries.{entry_at, named, is_file_rule, end_of, find_nam
 use Rattle.format.specs.Dates.{is_dates}
 use Rattle.format.specs.Notes.{find_free}
 use Rattle.format.specs.Found.{is_found}
-use Rattle.format.specs.declared.Found.{Found}
 use Rattle.facts.specs.Found.{FoundAt, is_found_law, none_says, found_cases}
 use Rattle.facts.specs.Find.{file_says}
 use Rattle.facts.specs.Naming.{file_named}
@@ -218,8 +217,8 @@ module _ {G : Geometry} (S : Sound G) (countable : G.per_block * G.blocks < 1677
     unfolding space_in_rule
     space_is =
         split (bool_cases (eqb (space_in_rule look.lent.buffer) 0))
-        (λ z. z ∙ sym (ap (λ (x : Found). not (is_found x)) (space_none G d (spacing t w.log) refl told_space S countable (eqb-true _ _ z))))
-        (λ z. z ∙ sym (ap (λ (x : Found). not (is_found x)) (space_free G d (spacing t w.log) refl told_space (eqb-false _ _ z)).is))
+        (λ z. z ∙ sym (ap (λ (x : Option ℕ). not (is_found x)) (space_none G d (spacing t w.log) refl told_space S countable (eqb-true _ _ z))))
+        (λ z. z ∙ sym (ap (λ (x : Option ℕ). not (is_found x)) (space_free G d (spacing t w.log) refl told_space (eqb-false _ _ z)).is))
 
   pub begun_run : (d : Disk) → Sane G d → name_is w.log ≡ true → has_entry G d w.log ≡ false → LogRun G t w d (begun G t w d)
   unfolding begun beginning

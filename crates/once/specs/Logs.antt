@@ -1,5 +1,5 @@
 -- A run's second half, the log: its answer is that of the table, and the disk is the same but for access stamps of the log, or has the log grown.
-use Rattle.std.specs.Prelude.{◌≡◌, Bool, ℕ, ◌≤◌, ◌<◌, leb}
+use Rattle.std.specs.Prelude.{◌≡◌, Bool, ℕ, ◌≤◌, ◌<◌, leb, Some}
 use Rattle.std.proofs.Math.Path.{refl, ap, sym}
 use Rattle.std.proofs.Common.{◌∙◌, subst, arith}
 use Rattle.std.proofs.Math.Bool.{true, false, cond}
@@ -10,7 +10,6 @@ use Rattle.lists.specs.Tests.{◌and◌}
 use Rattle.lists.specs.Below.{any_below, any_cong}
 use Rattle.format.specs.Diskette.{Bytes, Geometry, Sound}
 use Rattle.format.specs.Entries.{entry_at, find_file_rule}
-use Rattle.format.specs.declared.Found.TheVariants.{At}
 use Rattle.facts.specs.Find.{file_says}
 use Rattle.model.specs.Lent.{ended}
 use Rattle.model.specs.Stamps.{Stamp}
@@ -56,7 +55,7 @@ never_logged a h =
     (λ y. cond_either (λ (p : Pick). is_logged p ≡ false) (eqb a 2 and eqb h 0) (λ z. refl) (λ z. refl)))
 
 -- the entry of extent 0 that was found, as a file
-pub first_at_law : (G : Geometry) (d : Disk) (name : Bytes) (e : ℕ) → extent_at G d name 0 ≡ At e → First G (seen_on G d) d.session.user (fcb_of_rule name)
+pub first_at_law : (G : Geometry) (d : Disk) (name : Bytes) (e : ℕ) → extent_at G d name 0 ≡ Some e → First G (seen_on G d) d.session.user (fcb_of_rule name)
 unfolding extent_at
 first_at_law G d name e q =
     let k = file_says G (entry_at G d.drive.image) d.session.user (fcb_of_rule name) 1 0 e q in record { entry = e; low = k.below; file = k.holds }
@@ -81,12 +80,12 @@ module _ {G : Geometry} (S : Sound G) (t : Time) (timed : Timed t) (w : Wanted) 
   sizes_small d sane = size_small G d sane log
 
   -- the entry that an open asked for
-  pub asked_is : (d : Disk) (e : ℕ) → asked_entry G (lent_to d (opening t w.log)) d.session.user ≡ At e → extent_at G d w.log 0 ≡ At e
+  pub asked_is : (d : Disk) (e : ℕ) → asked_entry G (lent_to d (opening t w.log)) d.session.user ≡ Some e → extent_at G d w.log 0 ≡ Some e
   unfolding asked_entry extent_at
   asked_is d e q = ap (find_file_rule G (entry_at G d.drive.image) d.session.user log 1) (sym (ex_fcb_of w.log nm.log)) ∙ q
 
   -- ---- a log that was searched
-  module _ (d : Disk) (f : Bytes) (e : ℕ) (k : Fresh G d f e) (same : SameName f 1 log 1) (at : extent_at G d w.log 0 ≡ At e)
+  module _ (d : Disk) (f : Bytes) (e : ℕ) (k : Fresh G d f e) (same : SameName f 1 log 1) (at : extent_at G d w.log 0 ≡ Some e)
       (name : name_is w.log ≡ true) (some : has_entry G d w.log ≡ true) where
     abbrev n : ℕ
     n = size_is G d w.log

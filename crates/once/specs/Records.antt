@@ -1,5 +1,5 @@
 -- The picker's record calls, 33 and 34 through an FCB that has nothing to close: what they answer, in words of the directory.
-use Rattle.std.specs.Prelude.{◌≡◌, false, cond, not, ℕ, ◌≤◌, ◌<◌, eqb, ltb, length}
+use Rattle.std.specs.Prelude.{◌≡◌, false, cond, not, ℕ, ◌≤◌, ◌<◌, eqb, ltb, length, Some}
 use Rattle.std.proofs.Math.Path.{refl}
 use Rattle.std.proofs.Common.{◌∙◌, arith, le-ltb}
 use Rattle.lists.specs.Tests.{◌and◌, ◌or◌}
@@ -7,7 +7,6 @@ use Rattle.format.specs.Diskette.{Bytes, Geometry, Sound, record_bytes, last_rec
 use Rattle.format.specs.Entries.{entry_at}
 use Rattle.format.specs.Fcb.{random_of_rule}
 use Rattle.format.specs.Found.{is_found}
-use Rattle.format.specs.declared.Found.TheVariants.{At}
 use Rattle.model.specs.Kinds.{kind_of, is_call, is_random_rule}
 use Rattle.model.specs.Lent.{protected}
 use Rattle.model.specs.Table.{time_right_rule}
@@ -51,7 +50,7 @@ module _ {A : Type 0} (went : A) (not_so : ℕ → ℕ → A) {G : Geometry} (S 
 
   -- 34, on a session that is not protected
   pub write_by : protected d.session ≡ false → answered went not_so G d (asking t 34 (at_record_rule f r) buffer)
-      ≡ cond (read_only_in (entry_at G d.drive.image) (At e)
+      ≡ cond (read_only_in (entry_at G d.drive.image) (Some e)
       or read_only_in (entry_at G d.drive.image) (extent_entry G (seen_on G d) d.session.user f r)) (not_so 255 3)
       (cond (not (is_found (extent_entry G (seen_on G d) d.session.user f r)) and not (some_empty G d)) (not_so 5 0)
       (cond (eqb (block_in G (entry_at G d.drive.image) r (extent_entry G (seen_on G d) d.session.user f r)) 0 and not (some_free G d)) (not_so 2 0) went))

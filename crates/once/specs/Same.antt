@@ -1,5 +1,5 @@
 -- Stamps change no row of the table of answers: a disk that differs in stamps alone has the same log and the same book.
-use Rattle.std.specs.Prelude.{◌≡◌, refl, true, false, ℕ, ◌/◌, ◌≤◌}
+use Rattle.std.specs.Prelude.{◌≡◌, refl, true, false, ℕ, ◌/◌, ◌≤◌, None, Option, Some}
 use Rattle.std.proofs.Math.Path.{ap}
 use Rattle.std.proofs.Common.{sym, ◌∙◌, subst}
 use Rattle.lists.specs.Cases.{bool_ext}
@@ -9,8 +9,6 @@ use Rattle.format.specs.Diskette.{Bytes, Geometry, Sound, extent_records}
 use Rattle.format.specs.Entries.{entry_at}
 use Rattle.format.specs.Notes.{find_free}
 use Rattle.format.specs.Found.{is_found}
-use Rattle.format.specs.declared.Found.{Found}
-use Rattle.format.specs.declared.Found.TheVariants.{At, Nothing}
 use Rattle.facts.specs.Find.{file_says}
 use Rattle.consistency.specs.Naming.{file_used}
 use Rattle.model.specs.Stamps.{Stamp}
@@ -80,24 +78,24 @@ module _ {G : Geometry} (S : Sound G) (P : Stamp → Type 0) (d t : Disk) (sane 
       bytes_same h = stored_bytes G (seen_on G t) t.session.user (fcb_of_rule name) r _ sane_t.good.inv.dir sane_t.range.user (on r _ (is_d h))
 
     -- the entry of an extent stays as it was
-    row_same : (ext e : ℕ) → extent_at G d name ext ≡ At e → entry_at G t.drive.image e ≡ entry_at G d.drive.image e
+    row_same : (ext e : ℕ) → extent_at G d name ext ≡ Some e → entry_at G t.drive.image e ≡ entry_at G d.drive.image e
     unfolding extent_at
     row_same ext e q =
         let k = file_says G (entry_at G d.drive.image) user (fcb_of_rule name) 1 ext e q in
         used_row G d.drive.image t.drive.image (restamped_alike S P d t sane w) e k.below
         (file_used G user (fcb_of_rule name) 1 ext (entry_at G d.drive.image e) k.holds hu)
 
-    locked_by : (ext : ℕ) (x : Found) → extent_at G d name ext ≡ x → read_only_in (entry_at G t.drive.image) x ≡ read_only_in (entry_at G d.drive.image) x
-    locked_by ext (At e) q = rw (row_same ext e q)
-    locked_by ext Nothing q = refl
+    locked_by : (ext : ℕ) (x : Option ℕ) → extent_at G d name ext ≡ x → read_only_in (entry_at G t.drive.image) x ≡ read_only_in (entry_at G d.drive.image) x
+    locked_by ext (Some e) q = rw (row_same ext e q)
+    locked_by ext None q = refl
 
     pub locked_same : (ext : ℕ) → read_only_in (entry_at G t.drive.image) (extent_at G t name ext) ≡ read_only_in (entry_at G d.drive.image) (extent_at G d name ext)
     locked_same ext = ap (read_only_in (entry_at G t.drive.image)) (extent_same ext) ∙ locked_by ext (extent_at G d name ext) refl
 
-    block_by : (r : ℕ) (x : Found) → extent_at G d name (r / extent_records) ≡ x
+    block_by : (r : ℕ) (x : Option ℕ) → extent_at G d name (r / extent_records) ≡ x
         → block_in G (entry_at G t.drive.image) r x ≡ block_in G (entry_at G d.drive.image) r x
-    block_by r (At e) q = rw (row_same (r / extent_records) e q)
-    block_by r Nothing q = refl
+    block_by r (Some e) q = rw (row_same (r / extent_records) e q)
+    block_by r None q = refl
 
     pub block_same : (r : ℕ) → block_in G (entry_at G t.drive.image) r (extent_at G t name (r / extent_records))
         ≡ block_in G (entry_at G d.drive.image) r (extent_at G d name (r / extent_records))

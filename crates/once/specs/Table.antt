@@ -1,6 +1,6 @@
 -- The picker's answers as a table, in words of the directory and the map: the first row that holds decides. Nothing here speaks of calls, but for the
 -- codes of the refusals that have no name of their own: 255, 4 for a length, the session or the time, 255, 1 for a damaged disk, 255, 9 for a bad name.
-use Rattle.std.specs.Prelude.{Bool, false, cond, not, ℕ, ◌/◌, eqb, leb, ltb, length}
+use Rattle.std.specs.Prelude.{Bool, false, cond, not, ℕ, ◌/◌, eqb, leb, ltb, length, Option}
 use Rattle.lists.specs.Tests.{◌and◌, ◌or◌}
 use Rattle.lists.specs.Below.{any_below}
 use Rattle.format.specs.Diskette.{Bytes, Geometry, is_long, record_bytes, extent_records}
@@ -10,7 +10,6 @@ use Rattle.format.specs.Dates.{bcd}
 use Rattle.format.specs.Consistent.{consistent}
 use Rattle.format.specs.Notes.{map_right, find_free}
 use Rattle.format.specs.Found.{is_found}
-use Rattle.format.specs.declared.Found.{Found}
 use Rattle.model.specs.Target.{read_only_in}
 use Rattle.model.specs.Calls.{file_size_rule}
 use Rattle.demands.specs.Runs.{Disk}
@@ -41,7 +40,7 @@ module _ (G : Geometry) (d : Disk) where
   unfoldable pub has_entry : Bytes → Bool
   has_entry name = is_found (find_named_rule G (entry_at G d.drive.image) false d.session.user (fcb_of_rule name) 1)
 
-  unfoldable pub extent_at : Bytes → ℕ → Found
+  unfoldable pub extent_at : Bytes → ℕ → Option ℕ
   extent_at name ext = find_file_rule G (entry_at G d.drive.image) d.session.user (fcb_of_rule name) 1 ext
 
   unfoldable pub size_is : Bytes → ℕ
@@ -67,7 +66,7 @@ module _ (G : Geometry) (w : Wanted) (d : Disk) where
   has_day = any_below (λ (r : ℕ). record_is G d w.log r and has_stamp_rule w.year w.day (bytes_are G d w.log r)) (size_is G d w.log)
 
   -- the entry of its next record, and t1' there or in its extent 0
-  abbrev pub next_entry : Found
+  abbrev pub next_entry : Option ℕ
   next_entry = extent_at G d w.log (size_is G d w.log / extent_records)
 
   unfoldable pub log_locked : Bool

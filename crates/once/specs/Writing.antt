@@ -1,5 +1,5 @@
 -- The log's record written and closed, with the protection lifted for each call: what is answered, and the disk that is left.
-use Rattle.std.specs.Prelude.{◌≡◌, false, cond, not, ℕ, ◌≤◌, eqb}
+use Rattle.std.specs.Prelude.{◌≡◌, false, cond, not, ℕ, ◌≤◌, eqb, Some}
 use Rattle.std.proofs.Math.Path.{refl, ap}
 use Rattle.std.proofs.Common.{sym, ◌∙◌, subst}
 use Rattle.std.proofs.Math.Bool.{true}
@@ -8,7 +8,6 @@ use Rattle.lists.specs.Tests.{◌and◌, ◌or◌}
 use Rattle.format.specs.Diskette.{Bytes, Geometry, Sound, last_record}
 use Rattle.format.specs.Entries.{entry_at}
 use Rattle.format.specs.Found.{is_found}
-use Rattle.format.specs.declared.Found.TheVariants.{At}
 use Rattle.model.specs.Kinds.{kind_of}
 use Rattle.model.specs.Lent.{Outcome, with_lifted}
 use Rattle.model.specs.Stamps.{Stamp}
@@ -141,7 +140,7 @@ module _ {G : Geometry} (S : Sound G) (t : Time) (timed : Timed t) (w : Wanted) 
   -- and in words of the directory
   module _ (e : ℕ) (k : Fresh G d f e) (low : n ≤ last_record) where
     pub written_by : (written G t w d f n).pick
-        ≡ cond (read_only_in (entry_at G d.drive.image) (At e)
+        ≡ cond (read_only_in (entry_at G d.drive.image) (Some e)
         or read_only_in (entry_at G d.drive.image) (extent_entry G (seen_on G d) d.session.user f n)) LogReadOnly
         (cond (not (is_found (extent_entry G (seen_on G d) d.session.user f n)) and not (some_empty G d)) DirectoryFull
         (cond (eqb (block_in G (entry_at G d.drive.image) n (extent_entry G (seen_on G d) d.session.user f n)) 0 and not (some_free G d)) DiskFull Logged))

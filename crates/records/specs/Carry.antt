@@ -1,6 +1,6 @@
 -- A plan carried out: the FCB comes to the target's extent, and the record is read or written there. The plan matters to the first
 -- half alone, and the kind of call to the second.
-use Rattle.std.specs.Prelude.{◌≡◌, refl, Bool, cond, ℕ, ◌<◌, length}
+use Rattle.std.specs.Prelude.{◌≡◌, refl, Bool, cond, ℕ, ◌<◌, length, Err, Ok}
 use Rattle.std.proofs.Math.Path.{sym}
 use Rattle.std.proofs.Common.{ap, ◌∙◌, arith}
 use Rattle.std.proofs.Math.Bool.{true, false}
@@ -33,7 +33,6 @@ use Rattle.table.specs.OwnStep.{ready_step, ready_stopped, ready_own}
 use Rattle.table.specs.Plans.{entry_of}
 use Rattle.targets.specs.declared.Target.{Target}
 use Rattle.targets.specs.Target.{TargetOf}
-use Rattle.rulings.specs.declared.Ruling.TheVariants.{Refuse, Follow}
 use Rattle.rulings.specs.Ruling.{ruling}
 use Rattle.rulings.specs.Bounds.{OnDisk, OwnExtent}
 use Rattle.rulings.specs.Own.{own_record}
@@ -107,15 +106,15 @@ module _ (G : Geometry) (s : Session) (l : Lent) (n : ℕ) where
 -- ---- a record call: refused with nothing changed, by its ruling or by the protection, or the plan carried out
 module _ (G : Geometry) (asked : Asked) (l : Lent) (s : Session) (r : Answer)
     (which : of_record (kind_of asked.number) ≡ true) (only : protected s ≡ true → kind_of asked.number ≡ Read) where
-  pub record_refused : (code : Code) → ruling G asked.number s.user l ≡ Refuse code → r ≡ answer_of code (refused_session code s)
+  pub record_refused : (code : Code) → ruling G asked.number s.user l ≡ Err code → r ≡ answer_of code (refused_session code s)
       → record { answer = r; lent = l } ≡ ready_step G asked l s
   record_refused code q h = rw (ready_own G asked l s (refuse_spared G asked l s only code q), own_record G asked l s which, q, h)
 
-  pub record_stopped : (p : Plan) → ruling G asked.number s.user l ≡ Follow p → (protected s and plan_changes G l p) ≡ true
+  pub record_stopped : (p : Plan) → ruling G asked.number s.user l ≡ Ok p → (protected s and plan_changes G l p) ≡ true
       → r ≡ answer_of Protected (refused_session Protected s) → record { answer = r; lent = l } ≡ ready_step G asked l s
   record_stopped p q held h = rw (ready_stopped G asked l s (follow_stopped G asked l s only p q held), h)
 
-  pub record_carried : (p : Plan) (t : Target) (left : Lent) → ruling G asked.number s.user l ≡ Follow p → (protected s and plan_changes G l p) ≡ false
+  pub record_carried : (p : Plan) (t : Target) (left : Lent) → ruling G asked.number s.user l ≡ Ok p → (protected s and plan_changes G l p) ≡ false
       → TargetOf asked.number l.fcb t
       → r ≡ answer_of (Accepted 0) (ended s) → left ≡ transferred G (same (kind_of asked.number) Write) p t (arrived G t.extent l p)
       → record { answer = r; lent = left } ≡ ready_step G asked l s

@@ -19,7 +19,6 @@ ghost use Rattle.rulings.specs.Bounds.{OnDisk, OwnExtent};
 ghost use Rattle.records.specs.Carry.{arrived, block_of, transferred};
 
 use model::{Answer, Asked, Code, Plan, Session};
-use rulings::Ruling;
 use targets::Target;
 
 // A move: the present extent, entry e, is closed, and the FCB takes entry t as it stands then, of its own extent.
@@ -156,8 +155,8 @@ pub fn record_call(
     let number = asked.number;
     let target = targets::target_of(number, fcb);
     match rulings::rule(number, target, image, map, chain, fcb, session.user) {
-        Ruling::Refuse(code) => answers::refuse(code, session),
-        Ruling::Follow(plan) => {
+        Err(code) => answers::refuse(code, session),
+        Ok(plan) => {
             if stopping::stops(session, plan, image, fcb) {
                 return answers::refuse(Code::Protected, session);
             }

@@ -1,5 +1,6 @@
 -- A plan that is to be followed names entries and a block of the disk, and a record of an extent below 2,048.
-use Rattle.std.specs.Prelude.{◌≡◌, refl, true, length}
+use Rattle.model.specs.declared.Code.{Code}
+use Rattle.std.specs.Prelude.{◌≡◌, refl, true, length, Some, None, Option, Ok}
 use Rattle.std.proofs.Common.{sym, subst, ◌∙◌, arith}
 use Rattle.std.proofs.Math.Path.{ap}
 use Prim.Native.Nat.{ℕ, ◌≤◌, ◌<◌}
@@ -11,9 +12,6 @@ use Rattle.format.specs.Entries.{entry_at, slot_of, extent_of, run_of, find_file
 use Rattle.format.specs.Consistent.{consistent}
 use Rattle.format.specs.Notes.{note_at_rule}
 use Rattle.facts.specs.Found.{FoundAt, found_cases}
-use Rattle.format.specs.declared.Found.TheVariants.{At}
-use Rattle.model.specs.declared.Verdict.{Verdict}
-use Rattle.model.specs.declared.Verdict.TheVariants.{Passed, Refused}
 use Rattle.model.specs.declared.Session.{Session}
 use Rattle.model.specs.declared.Plan.{Plan}
 use Rattle.model.specs.declared.Plan.TheVariants.{Stay, Move, Make}
@@ -39,7 +37,6 @@ use Rattle.table.specs.Present.{file_extent_below}
 use Rattle.table.specs.Facts.{Reads, Writes}
 use Rattle.table.specs.Reflect.{found, either_found}
 use Rattle.table.specs.Plans.{Block, there, free, There, Planned, stay, move, make, planned_read, planned_write}
-use Rattle.rulings.specs.declared.Ruling.TheVariants.{Follow}
 use Rattle.rulings.specs.Ruling.{ruling_of, read_rows, write_rows, ruling_rows, ruling}
 
 -- ---- the entries and the block of a plan
@@ -64,25 +61,25 @@ pub record Sure (G : Geometry) (n : ℕ) (img fcb : Bytes) (p : Plan) : Type 0 w
   pub after : cr_after n fcb ≤ 128
 
 -- ---- a ruling to follow a plan
-follow_passed : (v : Verdict) (q p : Plan) → ruling_of v q ≡ Follow p → v ≡ Passed
-follow_passed Passed q p h = refl
-follow_passed (Refused code) q p h = absurd (let z : ◌≡◌ {A = ℕ} 0 1 = cc in omega arith)
+follow_passed : (v : Option Code) (q p : Plan) → ruling_of v q ≡ Ok p → v ≡ None
+follow_passed None q p h = refl
+follow_passed (Some code) q p h = absurd (let z : ◌≡◌ {A = ℕ} 0 1 = cc in omega arith)
 
-follow_plan : (v : Verdict) (q p : Plan) → ruling_of v q ≡ Follow p → q ≡ p
-follow_plan Passed q p h = cc
-follow_plan (Refused code) q p h = absurd (let z : ◌≡◌ {A = ℕ} 0 1 = cc in omega arith)
+follow_plan : (v : Option Code) (q p : Plan) → ruling_of v q ≡ Ok p → q ≡ p
+follow_plan None q p h = cc
+follow_plan (Some code) q p h = absurd (let z : ◌≡◌ {A = ℕ} 0 1 = cc in omega arith)
 
 module _ {G : Geometry} (S : Sound G) (single : (x : ℕ) → run_of G x ≡ x) (n : ℕ) (l : Lent) (s : Session) (image_long : Long G l.drive.image)
     (map_long : length l.drive.map ≡ G.blocks) (right : consistent G l.drive.image ≡ true) (low : s.user ≤ 15) where
   -- the entry of a file that was found: a block in a slot of it
-  row_block : (name : Bytes) (q ext t j b : ℕ) → find_file_rule G (rows_of G l) s.user name q ext ≡ At t → j < slot_count → slot_of G (rows_of G l t) j ≡ b
+  row_block : (name : Bytes) (q ext t j b : ℕ) → find_file_rule G (rows_of G l) s.user name q ext ≡ Some t → j < slot_count → slot_of G (rows_of G l t) j ≡ b
       → (b ≡ 0 → ⊥) → b < G.blocks
   row_block name q ext t j b found h is real =
       let first = file_says G (rows_of G l) s.user name q ext t found in
       let fine = (image_facts G l.drive.image right).fine t first.below (file_used G s.user name q ext (rows_of G l t) first.holds low) in
       subst (λ (x : ℕ). x < G.blocks) is (fine.high j h (λ z. real (sym is ∙ z)))
 
-  module _ (e : ℕ) (at : present_entry G s.user l ≡ At e) where
+  module _ (e : ℕ) (at : present_entry G s.user l ≡ Some e) where
     present : Current G (rows_of G l) l.drive.map s.user l.fcb e
     unfolding present_entry
     present = current_says G (rows_of G l) l.drive.map s.user l.fcb e at
@@ -119,15 +116,15 @@ module _ {G : Geometry} (S : Sound G) (single : (x : ℕ) → run_of G x ≡ x) 
         row_block l.fcb 1 (target_extent n l.fcb) t (target_slot G n l.fcb) b w slot_low is real)
         (λ w. let is : 0 ≡ b = rw (f, w) at q in absurd (real (sym is))))
 
-  there_block : (e : ℕ) → present_entry G s.user l ≡ At e → (b : ℕ) → There G n s.user l b → b < G.blocks
+  there_block : (e : ℕ) → present_entry G s.user l ≡ Some e → (b : ℕ) → There G n s.user l b → b < G.blocks
   there_block e at b t = block_low e at b t.is t.real
 
-  some_block : (e : ℕ) → present_entry G s.user l ≡ At e → (b : ℕ) → Block G n s.user l b → b < G.blocks
+  some_block : (e : ℕ) → present_entry G s.user l ≡ Some e → (b : ℕ) → Block G n s.user l b → b < G.blocks
   some_block e at b (there q real) = block_low e at b q real
   some_block e at b (free z q) = (free_is G l.drive.map b q).below
 
   -- a plan whose block is one of the disk's
-  plan_on_disk : (B : ℕ → Type 0) → ((e : ℕ) → present_entry G s.user l ≡ At e → (b : ℕ) → B b → b < G.blocks)
+  plan_on_disk : (B : ℕ → Type 0) → ((e : ℕ) → present_entry G s.user l ≡ Some e → (b : ℕ) → B b → b < G.blocks)
       → (p : Plan) → Planned G n s.user l B p → OnDisk G p
   unfolding target_entry
   plan_on_disk B k p (stay e b at y target x) = (e_below e at, k e at b x)
@@ -136,7 +133,7 @@ module _ {G : Geometry} (S : Sound G) (single : (x : ℕ) → run_of G x ≡ x) 
   plan_on_disk B k p (make e t b at y target room x) = (e_below e at, (empty_says G (rows_of G l) t room).below, k e at b x)
 
   -- the FCB's entry, and the target's where there is a move to another: closing the one leaves the other
-  present_own : (e : ℕ) → present_entry G s.user l ≡ At e → extent_of (rows_of G l e) ≡ extent_of l.fcb
+  present_own : (e : ℕ) → present_entry G s.user l ≡ Some e → extent_of (rows_of G l e) ≡ extent_of l.fcb
   present_own e at = found_own G (rows_of G l) s.user l.fcb 1 (extent_of l.fcb) single e (present e at).found
 
   plan_own : (B : ℕ → Type 0) → (p : Plan) → Planned G n s.user l B p → OwnExtent G l.drive.image l.fcb (target_extent n l.fcb) p
@@ -151,7 +148,7 @@ module _ {G : Geometry} (S : Sound G) (single : (x : ℕ) → run_of G x ≡ x) 
   plan_own B p (make e t b at y target room x) = tt
 
   -- ---- the ruling
-  sure : (B : ℕ → Type 0) → ((e : ℕ) → present_entry G s.user l ≡ At e → (b : ℕ) → B b → b < G.blocks)
+  sure : (B : ℕ → Type 0) → ((e : ℕ) → present_entry G s.user l ≡ Some e → (b : ℕ) → B b → b < G.blocks)
       → Planned G n s.user l B (plan G n s.user l) → FoundAt (present_entry G s.user l) → target_extent n l.fcb < extents
       → (p : Plan) → plan G n s.user l ≡ p → Sure G n l.drive.image l.fcb p
   sure B k planned entry below p q = record {
@@ -184,10 +181,10 @@ module _ {G : Geometry} (S : Sound G) (single : (x : ℕ) → run_of G x ≡ x) 
         } in
         sure (Block G n s.user l) some_block (planned_write G n l s writes) entry below p is
 
-  pub ruling_sure : (p : Plan) → ruling G n s.user l ≡ Follow p → Sure G n l.drive.image l.fcb p
+  pub ruling_sure : (p : Plan) → ruling G n s.user l ≡ Ok p → Sure G n l.drive.image l.fcb p
   unfolding ruling ruling_rows
   ruling_sure p h =
-      let v : Verdict = first_row (ruling_rows G n s.user l) in
+      let v : Option Code = first_row (ruling_rows G n s.user l) in
       let none = passed_none (ruling_rows G n s.user l) (follow_passed v (plan G n s.user l) p h) in
       let is = follow_plan v (plan G n s.user l) p h in
       let entry = found _ none.1.0 in

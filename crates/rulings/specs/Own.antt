@@ -1,5 +1,5 @@
 -- A record call's own step goes by its ruling: the rows of the four calls decide as the one chain does.
-use Rattle.std.specs.Prelude.{◌≡◌, Bool, true, false, not, cond, ltb}
+use Rattle.std.specs.Prelude.{◌≡◌, Bool, true, false, not, cond, ltb, None, Option, Some, Err, Ok, Result}
 use Rattle.std.proofs.Math.Path.{refl, sym}
 use Rattle.std.proofs.Common.{◌∙◌, arith}
 use mathlib.Core.List.{List, [], ◌∷◌, ◌++◌}
@@ -14,8 +14,6 @@ use Rattle.model.specs.declared.Asked.{Asked}
 use Rattle.model.specs.declared.Session.{Session}
 use Rattle.model.specs.declared.Code.{Code}
 use Rattle.model.specs.declared.Code.TheVariants.{BadRecord, NoRecord}
-use Rattle.model.specs.declared.Verdict.{Verdict}
-use Rattle.model.specs.declared.Verdict.TheVariants.{Passed, Refused}
 use Rattle.model.specs.declared.Plan.{Plan}
 use Rattle.model.specs.Lent.{Lent, Outcome}
 use Rattle.model.specs.Target.{target_extent, plan}
@@ -30,8 +28,6 @@ use Rattle.table.specs.OwnStep.{own_step}
 use Rattle.fields.specs.Target.{extent_random}
 use Rattle.table.specs.Accept.{random_below}
 use Rattle.table.specs.Present.{there_target}
-use Rattle.rulings.specs.declared.Ruling.{Ruling}
-use Rattle.rulings.specs.declared.Ruling.TheVariants.{Refuse, Follow}
 use Rattle.targets.specs.Target.{over_last_rule, missing_code}
 use Rattle.rulings.specs.Ruling.{ruling_of, read_rows, write_rows, ruling_rows, ruling}
 
@@ -49,7 +45,7 @@ unfolding over_last_rule
 over_sequential n ext s = and_fails_left _ _ s
 
 -- what follows a row matters only where the row does not hold
-past_row : (b : Bool) (x v w : Verdict) → (b ≡ false → v ≡ w) → cond b x v ≡ cond b x w
+past_row : (b : Bool) (x v w : Option Code) → (b ≡ false → v ≡ w) → cond b x v ≡ cond b x w
 past_row true x v w h = refl
 past_row false x v w h = h refl
 
@@ -92,15 +88,15 @@ module _ (G : Geometry) (asked : Asked) (l : Lent) (s : Session) where
       (sym (gone (_ ∷ _ ∷ _ ∷ []) _ _ NoRecord (λ h. lt-leb _ _ (random_below 34 l.fcb refl h.0))))
 
   -- ---- what a ruling has a call do, by what a plan has it do
-  abbrev pub ruled : (Plan → Outcome) → Ruling → Outcome
-  ruled follow (Refuse code) = refused code s l
-  ruled follow (Follow p) = follow p
+  abbrev pub ruled : (Plan → Outcome) → Result Plan Code → Outcome
+  ruled follow (Err code) = refused code s l
+  ruled follow (Ok p) = follow p
 
   -- a step by its verdict is the same by its ruling
-  by_verdict : (n : ℕ) (v : Verdict) (follow : Plan → Outcome) → effect G (calling n asked) l s ≡ follow (plan G n s.user l)
+  by_verdict : (n : ℕ) (v : Option Code) (follow : Plan → Outcome) → effect G (calling n asked) l s ≡ follow (plan G n s.user l)
       → carried_out G (calling n asked) l s v ≡ ruled follow (ruling_of v (plan G n s.user l))
-  by_verdict n Passed follow h = h
-  by_verdict n (Refused code) follow h = refl
+  by_verdict n None follow h = h
+  by_verdict n (Some code) follow h = refl
 
   -- what a plan has a record call do
   abbrev pub following : ℕ → Plan → Outcome

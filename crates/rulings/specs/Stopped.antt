@@ -1,6 +1,6 @@
 -- The protection of a record call by its ruling. Of a protected session only reads come here: one that its ruling refuses is refused as ever, and of
 -- one that has a plan the plan tells whether the protection holds.
-use Rattle.std.specs.Prelude.{◌≡◌, refl, true, false, ℕ}
+use Rattle.std.specs.Prelude.{◌≡◌, refl, true, false, ℕ, None, Option, Some, Err, Ok}
 use Rattle.std.proofs.Common.{ap, ◌∙◌, arith}
 use Rattle.lists.specs.Cases.{split, bool_cases}
 use Rattle.lists.specs.Tests.{◌and◌, and_left, and_right, second_fails}
@@ -9,8 +9,6 @@ use Rattle.model.specs.declared.Asked.{Asked}
 use Rattle.model.specs.declared.Session.{Session}
 use Rattle.model.specs.declared.Code.{Code}
 use Rattle.model.specs.declared.Plan.{Plan}
-use Rattle.model.specs.declared.Verdict.{Verdict}
-use Rattle.model.specs.declared.Verdict.TheVariants.{Passed, Refused}
 use Rattle.model.specs.declared.Kind.TheVariants.{Read}
 use Rattle.model.specs.Kinds.{kind_of, one_of}
 use Rattle.model.specs.Lent.{Lent, protected}
@@ -20,18 +18,17 @@ use Rattle.table.specs.First.{◌&◌, passed_none, refused_decides}
 use Rattle.table.specs.Own.{calling, at_kind}
 use Rattle.table.specs.Protection.{reads_listed, plan_changes, lifted_spared, read_stopped, none_succeeds, unchanged_spared, failing_spared}
 use Rattle.table.proofs.Protection.{plan_changes_law}
-use Rattle.rulings.specs.declared.Ruling.TheVariants.{Refuse, Follow}
 use Rattle.rulings.specs.Ruling.{ruling_of, ruling_rows, ruling}
 use Rattle.rulings.specs.Own.{rows_20, rows_33}
 
 -- a ruling tells the verdict of its rows, and the plan
-ruling_refused : (v : Verdict) (p : Plan) (code : Code) → ruling_of v p ≡ Refuse code → v ≡ Refused code
-ruling_refused Passed p code h = absurd (let z : ◌≡◌ {A = ℕ} 0 1 = cc in omega arith)
-ruling_refused (Refused d) p code h = cc
+ruling_refused : (v : Option Code) (p : Plan) (code : Code) → ruling_of v p ≡ Err code → v ≡ Some code
+ruling_refused None p code h = absurd (let z : ◌≡◌ {A = ℕ} 0 1 = cc in omega arith)
+ruling_refused (Some d) p code h = cc
 
-ruling_passed : (v : Verdict) (q p : Plan) → ruling_of v q ≡ Follow p → (v ≡ Passed) × (q ≡ p)
-ruling_passed Passed q p h = (refl, cc)
-ruling_passed (Refused d) q p h = absurd (let z : ◌≡◌ {A = ℕ} 0 1 = cc in omega arith)
+ruling_passed : (v : Option Code) (q p : Plan) → ruling_of v q ≡ Ok p → (v ≡ None) × (q ≡ p)
+ruling_passed None q p h = (refl, cc)
+ruling_passed (Some d) q p h = absurd (let z : ◌≡◌ {A = ℕ} 0 1 = cc in omega arith)
 
 module _ (G : Geometry) (asked : Asked) (l : Lent) (s : Session) (only : protected s ≡ true → kind_of asked.number ≡ Read) where
   reader : protected s ≡ true → one_of asked.number readers ≡ true
@@ -44,7 +41,7 @@ module _ (G : Geometry) (asked : Asked) (l : Lent) (s : Session) (only : protect
       (rows_20 G asked l s & rows_33 G asked l s & tt) (only t)
 
   -- a refusal
-  pub refuse_spared : (code : Code) → ruling G asked.number s.user l ≡ Refuse code → protection_holds G asked l s ≡ false
+  pub refuse_spared : (code : Code) → ruling G asked.number s.user l ≡ Err code → protection_holds G asked l s ≡ false
   unfolding ruling
   refuse_spared code q =
       split (bool_cases (protected s))
@@ -53,8 +50,8 @@ module _ (G : Geometry) (asked : Asked) (l : Lent) (s : Session) (only : protect
       (λ f. lifted_spared G asked l s f)
 
   -- a plan
-  module _ (p : Plan) (q : ruling G asked.number s.user l ≡ Follow p) where
-    told : (first_row (ruling_rows G asked.number s.user l) ≡ Passed) × (plan G asked.number s.user l ≡ p)
+  module _ (p : Plan) (q : ruling G asked.number s.user l ≡ Ok p) where
+    told : (first_row (ruling_rows G asked.number s.user l) ≡ None) × (plan G asked.number s.user l ≡ p)
     unfolding ruling
     told = ruling_passed (first_row (ruling_rows G asked.number s.user l)) (plan G asked.number s.user l) p q
 

@@ -10,30 +10,22 @@ ghost use Rattle.chains.specs.Chain.{Findable};
 ghost use Rattle.targets.specs.Target.{TargetOf};
 ghost use Rattle.rulings.specs.Ruling.{read_to_rule, read_from, Among, guarded, block_for_rule, write_new_rule, write_to_rule, write_from, ruling};
 
-use format::Found;
 use model::{Code, Plan};
 use targets::Target;
 
-// What the state says of a record call.
-#[derive(Clone, Copy)]
-pub enum Ruling {
-    Refuse(Code),
-    Follow(Plan),
-}
-
 // Reading record r of an extent that has entry t, in slot j.
-fn read_to(image: &[u8], fcb: &[u8], e: usize, t: usize, j: usize, r: usize) -> Ruling
+fn read_to(image: &[u8], fcb: &[u8], e: usize, t: usize, j: usize, r: usize) -> Result<Plan, Code>
     requires { Long eight_inch image.now × (length fcb.now ≡ fcb_bytes) × (t < eight_inch.entries) × (j < slot_count) }
     ensures { result ≡ read_to_rule eight_inch (entry_at eight_inch image.now) fcb.now e t j r }
 {
     if lists::wide(targets::arrived_count(image, fcb, e, t)) <= r {
-        return Ruling::Refuse(Code::NoRecord);
+        return Err(Code::NoRecord);
     }
     let slot = targets::arrived_slot(image, fcb, e, t, j);
     if slot == 0 {
-        return Ruling::Refuse(Code::NoRecord);
+        return Err(Code::NoRecord);
     }
-    Ruling::Follow(targets::go_to(e, t, lists::wide(slot)))
+    Ok(targets::go_to(e, t, lists::wide(slot)))
 }
 
 // What a read is told once the FCB's entry e is known, and the target's as it was looked up.
@@ -44,54 +36,54 @@ fn rule_read(
     fcb: &[u8],
     e: usize,
     j: usize,
-    target: Found,
-) -> Ruling
+    target: Option<usize>,
+) -> Result<Plan, Code>
     requires { Long eight_inch image.now × (length fcb.now ≡ fcb_bytes) × (j < slot_count) × Among eight_inch.entries target }
     ensures { result ≡ read_from eight_inch (entry_at eight_inch image.now) fcb.now number e j at target }
 {
-    let Found::At(t) = target else {
-        return Ruling::Refuse(targets::missing(number, Code::NoExtent));
+    let Some(t) = target else {
+        return Err(targets::missing(number, Code::NoExtent));
     };
     read_to(image, fcb, e, t, j, at)
 }
 
 // Whether t1' is set in the FCB's entry or in the target's.
-fn is_guarded(image: &[u8], e: usize, target: Found) -> bool
+fn is_guarded(image: &[u8], e: usize, target: Option<usize>) -> bool
     requires { Long eight_inch image.now × (e < eight_inch.entries) × Among eight_inch.entries target }
     ensures { result ≡ guarded (entry_at eight_inch image.now) e target }
 {
     if entries::is_read_only(rows::row(image, e)) {
         return true;
     }
-    let Found::At(t) = target else {
+    let Some(t) = target else {
         return false;
     };
     entries::is_read_only(rows::row(image, t))
 }
 
 // The block for a slot: its own, or the first free one where it has none.
-fn block_for(map: &[u16], slot: u8) -> Found
+fn block_for(map: &[u16], slot: u8) -> Option<usize>
     requires { length map.now ≡ eight_inch.blocks }
     ensures { result ≡ block_for_rule eight_inch map.now slot }
 {
     if slot == 0 {
         return notes::first_free(map);
     }
-    Found::At(lists::wide(slot))
+    Some(lists::wide(slot))
 }
 
 // Writing into an extent that has no entry: one is made in the first empty place.
-fn write_new(image: &[u8], map: &[u16], code: Code, e: usize) -> Ruling
+fn write_new(image: &[u8], map: &[u16], code: Code, e: usize) -> Result<Plan, Code>
     requires { Long eight_inch image.now × (length map.now ≡ eight_inch.blocks) }
     ensures { result ≡ write_new_rule eight_inch (entry_at eight_inch image.now) map.now code e }
 {
-    let Found::At(t) = lookups::find_empty(image) else {
-        return Ruling::Refuse(code);
+    let Some(t) = lookups::find_empty(image) else {
+        return Err(code);
     };
-    let Found::At(b) = notes::first_free(map) else {
-        return Ruling::Refuse(Code::DiskFull);
+    let Some(b) = notes::first_free(map) else {
+        return Err(Code::DiskFull);
     };
-    Ruling::Follow(Plan::Make(e, t, b))
+    Ok(Plan::Make(e, t, b))
 }
 
 // Writing into slot j of the target's entry. A move goes by the slot of the entry moved to, not by the FCB's.
@@ -102,19 +94,19 @@ fn write_to(
     code: Code,
     e: usize,
     j: usize,
-    target: Found,
-) -> Ruling
+    target: Option<usize>,
+) -> Result<Plan, Code>
     requires { Long eight_inch image.now × (length map.now ≡ eight_inch.blocks) × (length fcb.now ≡ fcb_bytes) × (j < slot_count)
         × Among eight_inch.entries target }
     ensures { result ≡ write_to_rule eight_inch (entry_at eight_inch image.now) map.now fcb.now code e j target }
 {
-    let Found::At(t) = target else {
+    let Some(t) = target else {
         return write_new(image, map, code, e);
     };
-    let Found::At(b) = block_for(map, targets::arrived_slot(image, fcb, e, t, j)) else {
-        return Ruling::Refuse(Code::DiskFull);
+    let Some(b) = block_for(map, targets::arrived_slot(image, fcb, e, t, j)) else {
+        return Err(Code::DiskFull);
     };
-    Ruling::Follow(targets::go_to(e, t, b))
+    Ok(targets::go_to(e, t, b))
 }
 
 // What a write is told once the FCB's entry e is known, and the target's as it was looked up.
@@ -126,17 +118,17 @@ fn rule_write(
     fcb: &[u8],
     e: usize,
     j: usize,
-    target: Found,
-) -> Ruling
+    target: Option<usize>,
+) -> Result<Plan, Code>
     requires { Long eight_inch image.now × (length map.now ≡ eight_inch.blocks) × (length fcb.now ≡ fcb_bytes) × (e < eight_inch.entries) × (j < slot_count)
         × Among eight_inch.entries target }
     ensures { result ≡ write_from eight_inch (entry_at eight_inch image.now) map.now fcb.now number e j extent target }
 {
     if is_guarded(image, e, target) {
-        return Ruling::Refuse(Code::ReadOnly);
+        return Err(Code::ReadOnly);
     }
     if format::EXTENTS <= extent {
-        return Ruling::Refuse(Code::NoRecord);
+        return Err(Code::NoRecord);
     }
     let code = targets::missing(number, Code::NoEntry);
     write_to(image, map, fcb, code, e, j, target)
@@ -151,17 +143,17 @@ pub fn rule(
     chain: &[u8],
     fcb: &[u8],
     user: u8,
-) -> Ruling
+) -> Result<Plan, Code>
     requires { (length map.now ≡ eight_inch.blocks) × TargetOf number fcb.now target × Findable eight_inch image.now chain.now user fcb.now }
     ensures { (buffer : Bytes) → result ≡ ruling eight_inch number user (lend image.now map.now fcb.now buffer) }
 {
     let extent = target.extent;
     let at = target.at;
     if targets::over_last(number, extent) {
-        return Ruling::Refuse(Code::BadRecord);
+        return Err(Code::BadRecord);
     }
-    let Found::At(e) = current::current_entry(image, map, chain, user, fcb) else {
-        return Ruling::Refuse(Code::NotCurrent);
+    let Some(e) = current::current_entry(image, map, chain, user, fcb) else {
+        return Err(Code::NotCurrent);
     };
     let found = targets::target_entry(image, chain, user, fcb, e, extent);
     let j = entries::slot_for(extent, at);

@@ -1,5 +1,5 @@
 -- What calls 17 and 18 share: the search from a place on, which is over or finds a match.
-use Rattle.std.specs.Prelude.{◌≡◌, refl, Bool, false, cond, ℕ, ◌+◌, ◌/◌, eqb, leb, ltb}
+use Rattle.std.specs.Prelude.{◌≡◌, refl, Bool, false, cond, ℕ, ◌+◌, ◌/◌, eqb, leb, ltb, None, Option, Some}
 use Rattle.std.proofs.Math.Path.{sym, ap}
 use Rattle.std.proofs.Common.{◌∙◌, ne_eqb, le-ltb, lt-ltb, le-leb}
 use Rattle.std.proofs.Math.Bool.{true, not}
@@ -10,8 +10,6 @@ use Rattle.format.specs.Diskette.{Bytes, Geometry, record_at, entries_per_record
 use Rattle.format.specs.Names.{name_right_rule}
 use Rattle.format.specs.Entries.{ex_of}
 use Rattle.format.specs.Found.{number_of, is_found}
-use Rattle.format.specs.declared.Found.{Found}
-use Rattle.format.specs.declared.Found.TheVariants.{At, Nothing}
 use Rattle.model.specs.declared.Asked.{Asked}
 use Rattle.model.specs.declared.Session.{Session}
 use Rattle.model.specs.declared.Answer.{Answer}
@@ -55,19 +53,19 @@ module _ (G : Geometry) (s : Session) (l : Lent) where
   from_missing pattern place f = rw f
 
   -- nothing matches: an answer that changed nothing
-  pub answers_over : (pattern : Bytes) (place : ℕ) (r : Answer) → find_hit_rule G (rows_of G l) s.user pattern place ≡ Nothing
+  pub answers_over : (pattern : Bytes) (place : ℕ) (r : Answer) → find_hit_rule G (rows_of G l) s.user pattern place ≡ None
       → r ≡ answer_of SearchOver (ended s) → outcome r l.drive.image l.drive.map l.fcb l.buffer ≡ searched_from pattern place
   answers_over pattern place r q a =
       ap (λ (x : Answer). outcome x l.drive.image l.drive.map l.fcb l.buffer) a ∙ from_missing pattern place (ap is_found q)
 
   -- the match at e, answered
   pub answers_found : (pattern : Bytes) (place e : ℕ) (r : Answer) (after : Session) (buffer : Bytes)
-      → find_hit_rule G (rows_of G l) s.user pattern place ≡ At e
+      → find_hit_rule G (rows_of G l) s.user pattern place ≡ Some e
       → r ≡ answer_of (Accepted (entry_number e)) after → after ≡ searching s pattern (e + 1) → buffer ≡ record_at G l.drive.image (e / entries_per_record)
       → outcome r l.drive.image l.drive.map l.fcb buffer ≡ searched_from pattern place
   unfolding searched found_at
   answers_found pattern place e r after buffer q a n b =
-      rw (a, n, b) (ap (λ (f : Found). found_at G s l pattern (number_of G.entries f)) (sym q) ∙ from_found pattern place (ap is_found q))
+      rw (a, n, b) (ap (λ (f : Option ℕ). found_at G s l pattern (number_of G.entries f)) (sym q) ∙ from_found pattern place (ap is_found q))
 
   -- ---- 17
   pub first_refused : (asked : Asked) → pattern_right_rule l.fcb ≡ false → Decides BadName (own_rows G (calling 17 asked) l s)

@@ -10,7 +10,7 @@ ghost use Rattle.table.specs.OwnStep.{own_step};
 ghost use Rattle.searching.specs.Searches.{pattern_right_rule, searched_from};
 ghost use Rattle.model.specs.declared.Asked.{Asked};
 
-use format::{ENTRIES_PER_RECORD, Found};
+use format::ENTRIES_PER_RECORD;
 use model::{Answer, Code, Session};
 
 // The first match from a place on: its directory record goes into the buffer, and the search goes on one past it. Without a match the
@@ -27,7 +27,7 @@ fn first_match(
         ≡ searched_from eight_inch session (lend image.now map fcb buffer.old) pattern from }
 {
     let user = session.user;
-    let Found::At(e) = hits::find_hit(image, user, &pattern, from) else {
+    let Some(e) = hits::find_hit(image, user, &pattern, from) else {
         return answers::refuse(Code::SearchOver, session);
     };
     disk::read_record(image, e / ENTRIES_PER_RECORD, buffer);

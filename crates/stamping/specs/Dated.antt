@@ -1,6 +1,6 @@
 -- A disk with date entries: what its label asks, and that the entries which calls stamp have stamps beside them. They are used or empty, and
 -- each fourth position is a date entry.
-use Rattle.std.specs.Prelude.{◌≡◌, Bool, true, false, ℕ, suc, ◌%◌, ◌≤◌, ◌<◌}
+use Rattle.std.specs.Prelude.{◌≡◌, Bool, true, false, ℕ, suc, ◌%◌, ◌≤◌, ◌<◌, None, Some}
 use Rattle.std.proofs.Common.{ap, sym, ◌∙◌, arith}
 use Rattle.std.proofs.lemmas.Bool.{eqb-false}
 use Rattle.lists.specs.Cases.{split, bool_cases, lt_or_le, not_both}
@@ -10,7 +10,6 @@ use Rattle.format.specs.Entries.{entry_at, find_file_rule, find_empty_rule}
 use Rattle.format.specs.Fcb.{current}
 use Rattle.format.specs.Dates.{is_dates, is_fourth, dated, asks}
 use Rattle.format.specs.Consistent.{label_once, consistent}
-use Rattle.format.specs.declared.Found.TheVariants.{At, Nothing}
 use Rattle.facts.specs.Find.{file_says, empty_says}
 use Rattle.facts.specs.Found.{at_not_nothing, at_once}
 use Rattle.facts.specs.Current.{current_says}
@@ -43,10 +42,10 @@ module _ (G : Geometry) (img : Bytes) (label : ℕ) (d : Dated G img label) wher
             (λ k l p q. let w : f ≡ k = (image_facts G img d.right).label f k h (omega arith) p q in omega arith)
 
 -- ---- which entries are stamped
-pub nothing_beside : (G : Geometry) → BesideFound G Nothing
+pub nothing_beside : (G : Geometry) → BesideFound G None
 nothing_beside G e q = absurd (at_not_nothing e (sym q))
 
-pub at_beside : {G : Geometry} {e : ℕ} → Beside G e → BesideFound G (At e)
+pub at_beside : {G : Geometry} {e : ℕ} → Beside G e → BesideFound G (Some e)
 at_beside {G} {e} b k q = let z : e ≡ k = at_once e k q in rw z at b
 
 module _ {G : Geometry} (img : Bytes) (right : consistent G img ≡ true) (dates : dated (entry_at G img) ≡ true) where

@@ -1,5 +1,5 @@
 -- What is due is what the call makes, call by call.
-use Rattle.std.specs.Prelude.{◌≡◌, refl, Bool, true, false, cond, ℕ, ◌≤◌, ◌⊎◌}
+use Rattle.std.specs.Prelude.{◌≡◌, refl, Bool, true, false, cond, ℕ, ◌≤◌, ◌⊎◌, None, Option, Some}
 use Rattle.std.proofs.Common.{ap, ◌∙◌, ne_eqb, inl, inr}
 use Rattle.std.proofs.Math.Path.{sym}
 use Rattle.std.proofs.Math.Bool.{not}
@@ -13,8 +13,6 @@ use Rattle.format.specs.Diskette.{Bytes, Geometry}
 use Rattle.format.specs.Entries.{entry_at, find_empty_rule}
 use Rattle.format.specs.Dates.{asks_create, asks_update, asks_access, asks}
 use Rattle.format.specs.Consistent.{consistent}
-use Rattle.format.specs.declared.Found.{Found}
-use Rattle.format.specs.declared.Found.TheVariants.{At, Nothing}
 use Rattle.facts.specs.Found.{FoundAt, at_not_nothing}
 use Rattle.model.specs.declared.Asked.{Asked}
 use Rattle.model.specs.declared.Session.{Session}
@@ -38,28 +36,28 @@ use Rattle.stamping.specs.Made.{Dues}
 
 -- nothing is due
 abbrev pub no_due : Due
-no_due = record { update = Nothing; new = Nothing; first = Nothing }
+no_due = record { update = None; new = None; first = None }
 
 pub none_put : {G : Geometry} {due : Due} → due ≡ no_due → Puttable G due
 none_put {G} q = rw q record { update = nothing_beside G; new = nothing_beside G; first = nothing_beside G }
 
 -- an entry, where a test holds
-abbrev pub entry_if : Bool → ℕ → Found
-entry_if b e = cond b (At e) Nothing
+abbrev pub entry_if : Bool → ℕ → Option ℕ
+entry_if b e = cond b (Some e) None
 
 -- the entry that a close stamps, where there is one
-unfoldable pub updated_if : Geometry → Bytes → Bytes → ℕ → Found
+unfoldable pub updated_if : Geometry → Bytes → Bytes → ℕ → Option ℕ
 updated_if G img fcb e = entry_if (asks G (entry_at G img) asks_update and close_changes_rule G (entry_at G img e) fcb) e
 
-pub updated_beside : (G : Geometry) (img fcb : Bytes) (e : ℕ) {u : Found} → u ≡ updated_if G img fcb e → Beside G e → BesideFound G u
+pub updated_beside : (G : Geometry) (img fcb : Bytes) (e : ℕ) {u : Option ℕ} → u ≡ updated_if G img fcb e → Beside G e → BesideFound G u
 unfolding updated_if
 updated_beside G img fcb e {u} q b =
     split (bool_cases (asks G (entry_at G img) asks_update and close_changes_rule G (entry_at G img e) fcb))
-    (λ t. let w : u ≡ At e = q ∙ rw t in rw w (at_beside b)) (λ f. let w : u ≡ Nothing = q ∙ rw f in rw w (nothing_beside G))
+    (λ t. let w : u ≡ Some e = q ∙ rw t in rw w (at_beside b)) (λ f. let w : u ≡ None = q ∙ rw f in rw w (nothing_beside G))
 
 -- what a new entry is due, where there is one
-unfoldable pub new_due_rule : Geometry → Bytes → Found → Due
-new_due_rule G img new = record { update = Nothing; new = new; first = cond (asks G (entry_at G img) asks_create) new Nothing }
+unfoldable pub new_due_rule : Geometry → Bytes → Option ℕ → Due
+new_due_rule G img new = record { update = None; new = new; first = cond (asks G (entry_at G img) asks_create) new None }
 
 module _ (G : Geometry) (asked : Asked) (l : Lent) (s : Session) where
   -- ---- a close, and a move
@@ -68,18 +66,18 @@ module _ (G : Geometry) (asked : Asked) (l : Lent) (s : Session) where
   update_due e =
       split (bool_cases (asks G (rows_of G l) asks_update and close_changes_rule G (rows_of G l e) l.fcb)) (λ t. rw t) (λ f. rw f)
 
-  pub move_due : (u : Found) (e : ℕ) → u ≡ updated_if G l.drive.image l.fcb e
-      → due_stamps asked record { update = u; new = Nothing; first = Nothing } ≡ close_stamps G asked l s e
+  pub move_due : (u : Option ℕ) (e : ℕ) → u ≡ updated_if G l.drive.image l.fcb e
+      → due_stamps asked record { update = u; new = None; first = None } ≡ close_stamps G asked l s e
   unfolding due_stamps
   move_due u e q = rw q (append-nil (stamps_at (update_at (time_stamp_rule asked)) (updated_if G l.drive.image l.fcb e)) ∙ update_due e)
 
-  pub make_due : (u : Found) (e t : ℕ) → u ≡ updated_if G l.drive.image l.fcb e
-      → due_stamps asked record { update = u; new = At t; first = Nothing } ≡ (close_stamps G asked l s e ++ new_stamps G asked l s t)
+  pub make_due : (u : Option ℕ) (e t : ℕ) → u ≡ updated_if G l.drive.image l.fcb e
+      → due_stamps asked record { update = u; new = Some t; first = None } ≡ (close_stamps G asked l s e ++ new_stamps G asked l s t)
   unfolding due_stamps new_stamps
   make_due u e t q = rw q (ap (λ (xs : List Stamp). xs ++ blank_at t) (update_due e))
 
   -- ---- a new entry
-  new_due_law : (e : ℕ) → due_stamps asked (new_due_rule G l.drive.image (At e)) ≡ create_stamps G asked l s e
+  new_due_law : (e : ℕ) → due_stamps asked (new_due_rule G l.drive.image (Some e)) ≡ create_stamps G asked l s e
   unfolding due_stamps new_due_rule create_stamps new_stamps
   new_due_law e = split (bool_cases (asks G (rows_of G l) asks_create)) (λ t. rw t) (λ f. rw f)
 
@@ -101,27 +99,27 @@ module _ (G : Geometry) (asked : Asked) (l : Lent) (s : Session) where
         (λ t. (reads_of G asked l s none right low (same_is (kind_of asked.number) Read t)).entry)
         (λ f. (writes_by G asked l s none (same_is (kind_of asked.number) Write (rw f at which))).entry)
 
-    room : NoneHolds (own_rows G asked l s) → target_entry G asked.number s.user l ≡ Nothing → FoundAt (find_empty_rule G (rows_of G l))
+    room : NoneHolds (own_rows G asked l s) → target_entry G asked.number s.user l ≡ None → FoundAt (find_empty_rule G (rows_of G l))
     room none q =
         split (bool_cases (same (kind_of asked.number) Read))
         (λ t. let target = (reads_of G asked l s none right low (same_is (kind_of asked.number) Read t)).target in
         absurd (at_not_nothing target.place (sym target.is ∙ q)))
         (λ f. (writes_by G asked l s none (same_is (kind_of asked.number) Write (rw f at which))).room q)
 
-    pub not_current : (due : Due) → present_entry G s.user l ≡ Nothing → Dues G asked l s due
+    pub not_current : (due : Due) → present_entry G s.user l ≡ None → Dues G asked l s due
     not_current due q none = let f = present none in absurd (at_not_nothing f.place (sym f.is ∙ q))
 
-    module _ (u : Found) (e : ℕ) (is : u ≡ updated_if G l.drive.image l.fcb e) (at : present_entry G s.user l ≡ At e) (goes : stays asked.number l.fcb ≡ false) where
-      pub moves_due : (t : ℕ) → target_entry G asked.number s.user l ≡ At t → Dues G asked l s record { update = u; new = Nothing; first = Nothing }
+    module _ (u : Option ℕ) (e : ℕ) (is : u ≡ updated_if G l.drive.image l.fcb e) (at : present_entry G s.user l ≡ Some e) (goes : stays asked.number l.fcb ≡ false) where
+      pub moves_due : (t : ℕ) → target_entry G asked.number s.user l ≡ Some t → Dues G asked l s record { update = u; new = None; first = None }
       unfolding plan plan_from
       moves_due t there none = move_due u e is ∙ sym (record_stamps G asked l s (kind_of asked.number) which ∙ rw (at, goes, there))
 
-      pub makes_due : (new : Found) → new ≡ find_empty_rule G (rows_of G l) → target_entry G asked.number s.user l ≡ Nothing
-          → Dues G asked l s record { update = u; new = new; first = Nothing }
+      pub makes_due : (new : Option ℕ) → new ≡ find_empty_rule G (rows_of G l) → target_entry G asked.number s.user l ≡ None
+          → Dues G asked l s record { update = u; new = new; first = None }
       unfolding plan plan_from
       makes_due new free missing none =
           let f = room none missing in
-          let w : new ≡ At f.place = free ∙ f.is in
+          let w : new ≡ Some f.place = free ∙ f.is in
           rw w (make_due u e f.place is ∙ sym (record_stamps G asked l s (kind_of asked.number) which ∙ rw (at, goes, missing, f.is)))
 
 -- ---- 15, 16 and 22
@@ -135,31 +133,31 @@ module _ (G : Geometry) (asked : Asked) (l : Lent) (s : Session) where
   unfolding access_stamps
   open_unasked f = rw (and_fails_right (not (protected s)) _ f)
 
-  pub open_due_law : protected s ≡ false → asks G (rows_of G l) asks_access ≡ true → (f : Found) → f ≡ asked_entry G l s.user
-      → Dues G (calling 15 asked) l s record { update = Nothing; new = Nothing; first = f }
+  pub open_due_law : protected s ≡ false → asks G (rows_of G l) asks_access ≡ true → (f : Option ℕ) → f ≡ asked_entry G l s.user
+      → Dues G (calling 15 asked) l s record { update = None; new = None; first = f }
   unfolding due_stamps access_stamps kind_of
   open_due_law lifted wish f is none =
       let p = (opens_of G asked l s none).entry in
-      let w : f ≡ At p.place = is ∙ p.is in
+      let w : f ≡ Some p.place = is ∙ p.is in
       rw (w, p.is, and_both _ _ (ap not lifted) wish)
 
   pub quiet_none : (asked.number ≡ 15 → ⊥) → stamps_by G asked l s Quiet ≡ []
   quiet_none n = let t = ne_eqb asked.number 15 n in rw t
 
-  pub close_missed : (due : Due) → present_entry G s.user l ≡ Nothing → Dues G (calling 16 asked) l s due
+  pub close_missed : (due : Due) → present_entry G s.user l ≡ None → Dues G (calling 16 asked) l s due
   unfolding kind_of
   close_missed due q none = let f = (closes_of G (calling 16 asked) l s none refl).entry in absurd (at_not_nothing f.place (sym f.is ∙ q))
 
-  pub close_due_law : (u : Found) (e : ℕ) → present_entry G s.user l ≡ At e → u ≡ updated_if G l.drive.image l.fcb e
-      → Dues G (calling 16 asked) l s record { update = u; new = Nothing; first = Nothing }
+  pub close_due_law : (u : Option ℕ) (e : ℕ) → present_entry G s.user l ≡ Some e → u ≡ updated_if G l.drive.image l.fcb e
+      → Dues G (calling 16 asked) l s record { update = u; new = None; first = None }
   unfolding kind_of
   close_due_law u e at q none = move_due G (calling 16 asked) l s u e q ∙ rw at
 
-  pub create_due_law : (new : Found) (due : Due) → new ≡ find_empty_rule G (rows_of G l) → due ≡ new_due_rule G l.drive.image new → Dues G (calling 22 asked) l s due
+  pub create_due_law : (new : Option ℕ) (due : Due) → new ≡ find_empty_rule G (rows_of G l) → due ≡ new_due_rule G l.drive.image new → Dues G (calling 22 asked) l s due
   unfolding kind_of
   create_due_law new due at is none =
       let f = (makes_of G (calling 22 asked) l s none refl).entry in
-      let w : new ≡ At f.place = at ∙ f.is in
+      let w : new ≡ Some f.place = at ∙ f.is in
       rw (is, w) (new_due_law G (calling 22 asked) l s f.place ∙ rw f.is)
 
 -- ---- the kinds of calls that stamp nothing, by their places in the enum

@@ -1,7 +1,8 @@
 -- The stamps of a call that the first three rows have passed: none where the protection or its own rows refuse it, or where the disk has no
 -- date entries; else those of its kind. What is due is told from the state as it came, as if the call were accepted, and its answer then says
 -- whether it was.
-use Rattle.std.specs.Prelude.{◌≡◌, refl, true, false, List, [], ℕ}
+use Rattle.model.specs.declared.Code.{Code}
+use Rattle.std.specs.Prelude.{◌≡◌, refl, true, false, List, [], ℕ, None, Option, Some}
 use Rattle.std.proofs.Common.{ap, sym, ◌∙◌}
 use Rattle.lists.specs.Cases.{split, bool_cases, not_both}
 use Rattle.format.specs.Diskette.{Bytes, Geometry}
@@ -9,8 +10,6 @@ use Rattle.format.specs.Dates.{dated}
 use Rattle.model.specs.declared.Asked.{Asked}
 use Rattle.model.specs.declared.Session.{Session}
 use Rattle.model.specs.declared.Answer.{Answer}
-use Rattle.model.specs.declared.Verdict.{Verdict}
-use Rattle.model.specs.declared.Verdict.TheVariants.{Passed, Refused}
 use Rattle.model.specs.Kinds.{kind_of, is_call}
 use Rattle.model.specs.Lent.{Lent, rows_of, Outcome, outcome}
 use Rattle.model.specs.Table.{first_row, own_rows}
@@ -45,17 +44,17 @@ pub log_in_made : (G : Geometry) (asked : Asked) (l : Lent) (s : Session) → ma
 unfolding kind_of
 log_in_made G asked l s = none (first_row (ready_rows G (calling 13 asked) l s))
   where
-    none : (v : Verdict) → stamps_made G (calling 13 asked) l s v ≡ []
-    none Passed = refl
-    none (Refused code) = refl
+    none : (v : Option Code) → stamps_made G (calling 13 asked) l s v ≡ []
+    none None = refl
+    none (Some code) = refl
 
 module _ (G : Geometry) (asked : Asked) (l : Lent) (s : Session) where
   pub made_undated : dated (rows_of G l) ≡ false → made_by G asked l s ≡ []
   made_undated f = none (first_row (ready_rows G asked l s))
     where
-      none : (v : Verdict) → stamps_made G asked l s v ≡ []
-      none Passed = where_undated (dated (rows_of G l)) (stamps_by G asked l s (kind_of asked.number)) f
-      none (Refused code) = refl
+      none : (v : Option Code) → stamps_made G asked l s v ≡ []
+      none None = where_undated (dated (rows_of G l)) (stamps_by G asked l s (kind_of asked.number)) f
+      none (Some code) = refl
 
   module _ (t : is_call asked.number ≡ true) (r : Ready G asked l s) where
     -- ---- the answer says whether one of these rows has refused the call
@@ -68,11 +67,11 @@ module _ (G : Geometry) (asked : Asked) (l : Lent) (s : Session) where
     refused_none : accepted_answer asked.number (ready_step G asked l s).answer ≡ false → made_by G asked l s ≡ []
     refused_none h = none (first_row (ready_rows G asked l s)) refl
       where
-        none : (v : Verdict) → first_row (ready_rows G asked l s) ≡ v → stamps_made G asked l s v ≡ []
-        none Passed q =
+        none : (v : Option Code) → first_row (ready_rows G asked l s) ≡ v → stamps_made G asked l s v ≡ []
+        none None q =
             let says = carried_says G asked l s (total_accepted G asked l s (verdict_ready G asked l s t r ∙ q)) in
             not_both _ (ap (accepted_answer asked.number) (sym answers_ready) ∙ says) h
-        none (Refused code) q = refl
+        none (Some code) q = refl
 
     pub made_accepted : dated (rows_of G l) ≡ true → (due : Due) → Dues G asked l s due
         → accepted_stamps asked (ready_step G asked l s).answer due ≡ made_by G asked l s

@@ -2,7 +2,7 @@
 // answer says; so no row of the table is decided here.
 #![tactic(auto)]
 
-ghost use Rattle.std.specs.Prelude.{◌≡◌, true, false, ◌<◌, length};
+ghost use Rattle.std.specs.Prelude.{◌≡◌, true, false, ◌<◌, length, Some};
 ghost use Rattle.format.specs.Diskette.{Bytes, eight_inch, Long};
 ghost use Rattle.format.specs.Entries.{entry_at};
 ghost use Rattle.format.specs.Dates.{asks};
@@ -20,7 +20,6 @@ ghost use Rattle.stamping.specs.Made.{Dues};
 ghost use Rattle.stamping.specs.Dated.{Dated};
 ghost use Rattle.stamping.specs.Due.{no_due, updated_if, new_due_rule};
 
-use format::Found;
 use model::{Asked, Kind, Session};
 use stamps::Due;
 
@@ -29,9 +28,9 @@ fn none_due() -> Due
     ensures { result ≡ no_due }
 {
     Due {
-        update: Found::Nothing,
-        new: Found::Nothing,
-        first: Found::Nothing,
+        update: None,
+        new: None,
+        first: None,
     }
 }
 
@@ -60,8 +59,8 @@ fn open_due(image: &[u8], fcb: &[u8], session: Session, chain: &[u8], label: u8)
     }
     let first = asking::find_asked(image, chain, session.user, fcb);
     Due {
-        update: Found::Nothing,
-        new: Found::Nothing,
+        update: None,
+        new: None,
         first,
     }
 }
@@ -87,17 +86,17 @@ fn quiet_due(
 }
 
 // The entry that a close stamps: e, where the label asks and the close changes it.
-fn updated(image: &[u8], fcb: &[u8], e: usize, label: u8) -> Found
+fn updated(image: &[u8], fcb: &[u8], e: usize, label: u8) -> Option<usize>
     requires { Long eight_inch image.now × (length fcb.now ≡ fcb_bytes) × (e < eight_inch.entries) × Dated eight_inch image.now label }
     ensures { result ≡ updated_if eight_inch image.now fcb.now e }
 {
     if !label_asks(image, label, dates::UPDATE) {
-        return Found::Nothing;
+        return None;
     }
     if !merging::close_changes(rows::row(image, e), fcb) {
-        return Found::Nothing;
+        return None;
     }
-    Found::At(e)
+    Some(e)
 }
 
 // 16: update of the entry closed.
@@ -113,33 +112,33 @@ fn close_due(
     ensures { Puttable eight_inch result × ((asked : Asked) (buffer : Bytes)
         → Dues eight_inch (calling 16 asked) (lend image.now map.now fcb.now buffer) session result) }
 {
-    let Found::At(e) = current::current_entry(image, map, chain, session.user, fcb) else {
+    let Some(e) = current::current_entry(image, map, chain, session.user, fcb) else {
         return none_due();
     };
     let update = updated(image, fcb, e, label);
     Due {
         update,
-        new: Found::Nothing,
-        first: Found::Nothing,
+        new: None,
+        first: None,
     }
 }
 
 // A new entry, where there is one: both stamps become zero, and then create gets the time where the label asks.
-fn new_due(image: &[u8], new: Found, label: u8) -> Due
+fn new_due(image: &[u8], new: Option<usize>, label: u8) -> Due
     requires { Long eight_inch image.now × Dated eight_inch image.now label × BesideFound eight_inch new }
     ensures { Puttable eight_inch result × (result ≡ new_due_rule eight_inch image.now new) }
 {
     if label_asks(image, label, dates::CREATE) {
         return Due {
-            update: Found::Nothing,
+            update: None,
             new,
             first: new,
         };
     }
     Due {
-        update: Found::Nothing,
+        update: None,
         new,
-        first: Found::Nothing,
+        first: None,
     }
 }
 
@@ -166,23 +165,23 @@ fn move_due(
     requires { (of_record (kind_of asked.number) ≡ true) × (stays asked.number fcb.now ≡ false)
         × Findable eight_inch image.now chain.now session.user fcb.now × Dated eight_inch image.now label × Beside eight_inch e }
     ensures { Puttable eight_inch result × ((map buffer : Bytes)
-        → current eight_inch (entry_at eight_inch image.now) map session.user fcb.now ≡ Found.At e
+        → current eight_inch (entry_at eight_inch image.now) map session.user fcb.now ≡ Some e
         → Dues eight_inch asked (lend image.now map fcb.now buffer) session result) }
 {
     let target = targets::target_of(asked.number, fcb);
     let update = updated(image, fcb, e, label);
-    let Found::Nothing = chains::find_file(image, chain, session.user, fcb, 1, target.extent) else {
+    let None = chains::find_file(image, chain, session.user, fcb, 1, target.extent) else {
         return Due {
             update,
-            new: Found::Nothing,
-            first: Found::Nothing,
+            new: None,
+            first: None,
         };
     };
     let made = lookups::find_empty(image);
     Due {
         update,
         new: made,
-        first: Found::Nothing,
+        first: None,
     }
 }
 
@@ -205,7 +204,7 @@ fn record_due(
     if target.extent == entries::extent(fcb) {
         return none_due();
     }
-    let Found::At(e) = current::current_entry(image, map, chain, session.user, fcb) else {
+    let Some(e) = current::current_entry(image, map, chain, session.user, fcb) else {
         return none_due();
     };
     move_due(asked, image, fcb, session, chain, label, e)

@@ -1,9 +1,7 @@
 -- The stamps that are due, as a list, and what it takes to put them.
-use Rattle.std.specs.Prelude.{◌≡◌, refl, cond, List, [], ◌∷◌, ◌++◌, ℕ}
+use Rattle.std.specs.Prelude.{◌≡◌, refl, cond, List, [], ◌∷◌, ◌++◌, ℕ, None, Option, Some}
 use Rattle.std.proofs.Common.{sym, ◌∙◌}
 use Rattle.format.specs.Diskette.{Bytes, Geometry}
-use Rattle.format.specs.declared.Found.{Found}
-use Rattle.format.specs.declared.Found.TheVariants.{At, Nothing}
 use Rattle.model.specs.declared.Asked.{Asked}
 use Rattle.model.specs.declared.Answer.{Answer}
 use Rattle.model.specs.Stamps.{Stamp, time_stamp_rule, no_stamp, first, update, stamped_with}
@@ -12,9 +10,9 @@ use Rattle.stamps.specs.declared.Due.{Due}
 use Rattle.facts.specs.Beside.{Beside}
 
 -- the stamps of an entry, where there is one
-abbrev pub stamps_at : (ℕ → List Stamp) → Found → List Stamp
-stamps_at f (At e) = f e
-stamps_at f Nothing = []
+abbrev pub stamps_at : (ℕ → List Stamp) → Option ℕ → List Stamp
+stamps_at f (Some e) = f e
+stamps_at f None = []
 
 -- one stamp of an entry, and both stamps of a new one
 abbrev pub update_at : Bytes → ℕ → List Stamp
@@ -31,8 +29,8 @@ due_stamps asked due =
     stamps_at (update_at (time_stamp_rule asked)) due.update ++ (stamps_at blank_at due.new ++ stamps_at (first_at (time_stamp_rule asked)) due.first)
 
 -- each stands beside an entry
-abbrev pub BesideFound : Geometry → Found → Type 0
-BesideFound G r = (e : ℕ) → r ≡ At e → Beside G e
+abbrev pub BesideFound : Geometry → Option ℕ → Type 0
+BesideFound G r = (e : ℕ) → r ≡ Some e → Beside G e
 
 pub record Puttable (G : Geometry) (due : Due) : Type 0 where
   pub update : BesideFound G due.update
@@ -49,10 +47,10 @@ stamped_join G [] ys img = refl
 stamped_join G (x ∷ xs) ys img = stamped_join G xs ys _
 
 -- ---- what the steps come to
-pub blank_put : (G : Geometry) (r : Found) (img a b : Bytes) → a ≡ stamped_with G (stamps_at (first_at no_stamp) r) img
+pub blank_put : (G : Geometry) (r : Option ℕ) (img a b : Bytes) → a ≡ stamped_with G (stamps_at (first_at no_stamp) r) img
     → b ≡ stamped_with G (stamps_at (update_at no_stamp) r) a → b ≡ stamped_with G (stamps_at blank_at r) img
-blank_put G (At e) img a b p q = rw (q, p)
-blank_put G Nothing img a b p q = q ∙ p
+blank_put G (Some e) img a b p q = rw (q, p)
+blank_put G None img a b p q = q ∙ p
 
 pub due_put : (G : Geometry) (asked : Asked) (due : Due) (time img a b c : Bytes) → time ≡ time_stamp_rule asked
     → a ≡ stamped_with G (stamps_at (update_at time) due.update) img → b ≡ stamped_with G (stamps_at blank_at due.new) a

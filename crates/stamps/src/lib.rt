@@ -9,16 +9,16 @@ ghost use Rattle.facts.specs.Beside.{Beside};
 ghost use Rattle.stamps.specs.Place.{place_of};
 ghost use Rattle.stamps.specs.Due.{stamps_at, update_at, first_at, blank_at, BesideFound, due_stamps, Puttable, accepted_stamps};
 
-use format::{ENTRIES_PER_RECORD, Found};
+use format::ENTRIES_PER_RECORD;
 use model::{Answer, Asked};
 
 // The stamps that are due, in the order in which they are put: an entry's update gets the time, both stamps of a new entry become zero,
 // and an entry's create or access gets the time.
 #[derive(Clone, Copy)]
 pub struct Due {
-    pub update: Found,
-    pub new: Found,
-    pub first: Found,
+    pub update: Option<usize>,
+    pub new: Option<usize>,
+    pub first: Option<usize>,
 }
 
 // The place in the image of a stamp beside an entry: create or access is 0, update 1.
@@ -49,29 +49,29 @@ fn time_stamp(asked: Asked) -> [u8; 4]
 }
 
 // The update stamp of an entry, where there is one.
-fn put_update(image: &mut [u8], entry: Found, stamp: [u8; 4])
+fn put_update(image: &mut [u8], entry: Option<usize>, stamp: [u8; 4])
     requires { Long eight_inch image.old × BesideFound eight_inch entry }
     ensures { image.new ≡ stamped_with eight_inch (stamps_at (update_at stamp) entry) image.old }
 {
-    let Found::At(e) = entry else {
+    let Some(e) = entry else {
         return;
     };
     put_stamp(image, e, 1, stamp);
 }
 
 // The create or access stamp of an entry, where there is one.
-fn put_first(image: &mut [u8], entry: Found, stamp: [u8; 4])
+fn put_first(image: &mut [u8], entry: Option<usize>, stamp: [u8; 4])
     requires { Long eight_inch image.old × BesideFound eight_inch entry }
     ensures { image.new ≡ stamped_with eight_inch (stamps_at (first_at stamp) entry) image.old }
 {
-    let Found::At(e) = entry else {
+    let Some(e) = entry else {
         return;
     };
     put_stamp(image, e, 0, stamp);
 }
 
 // Both stamps of a new entry, where there is one, become zero.
-fn put_blank(image: &mut [u8], entry: Found)
+fn put_blank(image: &mut [u8], entry: Option<usize>)
     requires { Long eight_inch image.old × BesideFound eight_inch entry }
     ensures { image.new ≡ stamped_with eight_inch (stamps_at blank_at entry) image.old }
 {

@@ -1,6 +1,6 @@
 -- Calls that are accepted: the close after a write, and a write through a fresh FCB in its own extent where a block is free; what a make hands
 -- back, and what 46 tells of free blocks.
-use Rattle.std.specs.Prelude.{◌≡◌, true, ℕ, ◌*◌, ◌/◌, ◌%◌, ◌≤◌, ◌<◌, eqb, length, get_or}
+use Rattle.std.specs.Prelude.{◌≡◌, true, ℕ, ◌*◌, ◌/◌, ◌%◌, ◌≤◌, ◌<◌, eqb, length, get_or, None, Option, Some}
 use Rattle.std.proofs.Math.Path.{refl, ap, sym, subst}
 use Rattle.std.proofs.Common.{◌∙◌}
 use Rattle.std.proofs.Math.Bool.{false}
@@ -17,8 +17,6 @@ use Rattle.format.specs.Dates.{is_dates}
 use Rattle.format.specs.Notes.{note_at_rule, free_note, find_free, free_count_rule, is_free}
 use Rattle.format.specs.Fcb.{fcb_end, fcb_right_rule, current}
 use Rattle.format.specs.Found.{number_of}
-use Rattle.format.specs.declared.Found.{Found}
-use Rattle.format.specs.declared.Found.TheVariants.{At, Nothing}
 use Rattle.facts.specs.Counts.{count_by_end, end_none}
 use Rattle.facts.specs.Names.{name_bits, like_intro}
 use Rattle.facts.specs.Naming.{named_intro, file_intro}
@@ -91,7 +89,7 @@ module _ {G : Geometry} (S : Sound G) (d : Disk) (w : Request) (writes : kind_of
   k : Wrote G d w
   k = wrote S d w writes accepted
 
-  found_mid : present_entry G mid.session.user (lent_to mid c) ≡ At k.entry
+  found_mid : present_entry G mid.session.user (lent_to mid c) ≡ Some k.entry
   unfolding present_entry
   found_mid =
       ap (λ (u : ℕ). current G (entry_at G mid.drive.image) mid.drive.map u (outcome_of G d w).lent.fcb) (user_left G d w Write writes refl)
@@ -124,7 +122,7 @@ module _ {G : Geometry} (S : Sound G) (d : Disk) (f : Bytes) (e : ℕ) (k : Fres
   small = let l = low in omega arith
 
   -- the record's extent is the FCB's own
-  own : extent_entry G (seen_on G d) d.session.user f r ≡ At e
+  own : extent_entry G (seen_on G d) d.session.user f r ≡ Some e
   unfolding extent_entry
   own =
       ap (find_file_rule G (entry_at G d.drive.image) d.session.user f 1) here
@@ -206,7 +204,7 @@ module _ {G : Geometry} (S : Sound G) (d : Disk) (q : Request) (number : q.asked
 
   own_is : created G d.session lm ≡ created_at G d.session lm new
   unfolding created new
-  own_is = ap (λ (r : Found). created_at G d.session lm (number_of G.entries r)) makes.entry.is
+  own_is = ap (λ (r : Option ℕ). created_at G d.session lm (number_of G.entries r)) makes.entry.is
 
   -- its own rule, and then the stamps
   alike : Alike G (with_entry G d.drive.image new row) (left (outcome_of G d q)).drive.image
@@ -355,7 +353,7 @@ module _ (G : Geometry) (d : Disk) (q : Request) (number : q.asked.number ≡ 46
       absurd (n (space_three ∙ omega arith)))
 
   -- and where it tells of none, there is none: on a disk whose records three bytes can count
-  pub space_none : Sound G → G.per_block * G.blocks < 16777216 → three_of (outcome_of G d q).lent.buffer ≡ 0 → find_free G d.drive.map ≡ Nothing
+  pub space_none : Sound G → G.per_block * G.blocks < 16777216 → three_of (outcome_of G d q).lent.buffer ≡ 0 → find_free G d.drive.map ≡ None
   unfolding free_count_rule is_free
   space_none S small z =
       found_cases (find_free G d.drive.map)

@@ -1,5 +1,5 @@
 -- An accepted write through a fresh FCB and the close after it: the file gained the record, and nothing else of it changed.
-use Rattle.std.specs.Prelude.{◌≡◌, true, false, ℕ, ◌+◌, ◌/◌, ◌%◌, ◌≤◌, ◌<◌, length}
+use Rattle.std.specs.Prelude.{◌≡◌, true, false, ℕ, ◌+◌, ◌/◌, ◌%◌, ◌≤◌, ◌<◌, length, Option, Some}
 use Rattle.std.proofs.Math.Path.{refl, ap, subst}
 use Rattle.std.proofs.Common.{sym, ◌∙◌, inl, arith}
 use Rattle.lists.specs.Cases.{split, eq_or_ne}
@@ -9,8 +9,6 @@ use Rattle.format.specs.Dates.{is_dates}
 use Rattle.format.specs.Names.{seven_bits}
 use Rattle.format.specs.Fcb.{current}
 use Rattle.format.specs.Found.{number_of}
-use Rattle.format.specs.declared.Found.{Found}
-use Rattle.format.specs.declared.Found.TheVariants.{At}
 use Rattle.facts.specs.Found.{at_once}
 use Rattle.facts.specs.Naming.{file_run}
 use Rattle.consistency.specs.Naming.{file_used, file_found}
@@ -201,7 +199,7 @@ module _ {G : Geometry} (S : Sound G) (d : Disk) (f : Bytes) (e : ℕ) (k : Fres
     close_facts : AcceptedCall G c.asked lc mid.session
     close_facts = (carried G mid c then_closes).facts
 
-    present : present_entry G mid.session.user lc ≡ At t
+    present : present_entry G mid.session.user lc ≡ Some t
     unfolding present_entry
     present =
         ap (λ (u : ℕ). current G (entry_at G mid.drive.image) mid.drive.map u (outcome_of G d q).lent.fcb) write_user
@@ -209,7 +207,7 @@ module _ {G : Geometry} (S : Sound G) (d : Disk) (f : Bytes) (e : ℕ) (k : Fres
 
     own_is : closed G mid.session lc ≡ closed_at G mid.session lc t
     unfolding closed
-    own_is = ap (λ (r : Found). closed_at G mid.session lc (number_of G.entries r)) present
+    own_is = ap (λ (r : Option ℕ). closed_at G mid.session lc (number_of G.entries r)) present
 
     end_is : outcome_of G mid c ≡ stamped_as G c.asked lc mid.session Close
     end_is = carried_is G mid c then_closes Close shuts
@@ -273,7 +271,7 @@ module _ {G : Geometry} (S : Sound G) (d : Disk) (f : Bytes) (e : ℕ) (k : Fres
         g = write_close_grown
 
         found : (i : ℕ) → i < G.entries → is_file_rule G user f 1 (x / 128) (entry_at G end.drive.image i) ≡ true
-            → find_file_rule G (entry_at G end.drive.image) user f 1 (x / 128) ≡ At i
+            → find_file_rule G (entry_at G end.drive.image) user f 1 (x / 128) ≡ Some i
         found i h w = file_found G (entry_at G end.drive.image) user hu f 1 (x / 128) i h w end_sane.good.inv.dir
 
     -- names stay

@@ -1,5 +1,5 @@
 -- What 33 and 34 meet through a fresh FCB: at any record, what the entry of its extent says.
-use Rattle.std.specs.Prelude.{◌≡◌, refl, true, ℕ, ◌/◌, ◌%◌, ◌<◌, max}
+use Rattle.std.specs.Prelude.{◌≡◌, refl, true, ℕ, ◌/◌, ◌%◌, ◌<◌, max, None, Option, Some}
 use Rattle.std.proofs.Math.Path.{ap}
 use Rattle.std.proofs.Common.{sym, ◌∙◌, arith}
 use Rattle.lists.specs.Cases.{split, bool_cases}
@@ -7,8 +7,6 @@ use Rattle.lists.specs.Tests.{◌or◌}
 use Rattle.format.specs.Diskette.{Bytes, Geometry, Sound, extent_records}
 use Rattle.format.specs.Entries.{entry_at, find_file_rule, slot_of, slot_for_rule, count_in}
 use Rattle.format.specs.Fcb.{fcb_count_in}
-use Rattle.format.specs.declared.Found.{Found}
-use Rattle.format.specs.declared.Found.TheVariants.{At, Nothing}
 use Rattle.facts.specs.Slots.{slot_for_low}
 use Rattle.rows.specs.Entries.{length_entry_at}
 use Rattle.model.specs.Kinds.{is_random_rule}
@@ -36,7 +34,7 @@ module _ {G : Geometry} (S : Sound G) (n : ℕ) (random : is_random_rule n ≡ t
   abbrev l : Lent
   l = lend d.drive.image d.drive.map (at_record_rule f r) buffer
 
-  abbrev there : Found
+  abbrev there : Option ℕ
   there = extent_entry G (seen_on G d) d.session.user f r
 
   k_record : Fresh G d g e
@@ -52,7 +50,7 @@ module _ {G : Geometry} (S : Sound G) (n : ℕ) (random : is_random_rule n ≡ t
   unfolding target_slot
   met_slot = rw (met_extent, met_record)
 
-  pub met_present : present_entry G user l ≡ At e
+  pub met_present : present_entry G user l ≡ Some e
   met_present = fresh_present G d g e k_record buffer
 
   same_name : SameName g 1 f 1
@@ -64,12 +62,12 @@ module _ {G : Geometry} (S : Sound G) (n : ℕ) (random : is_random_rule n ≡ t
   met_entry = ap (find_file_rule G (entry_at G d.drive.image) user g 1) met_extent ∙ entry_named G (seen_on G d) user f g same_name r
 
   -- which is the FCB's own where that covers the extent
-  met_within : within G n g ≡ true → there ≡ At e
+  met_within : within G n g ≡ true → there ≡ Some e
   met_within t = sym met_entry ∙ target_present G n user l e met_present t
 
-  row_slot_law : (x : Found) → row_slot G n user l x ≡ block_in G (entry_at G d.drive.image) r x
-  row_slot_law (At t) = ap (slot_of G (entry_at G d.drive.image t)) met_slot
-  row_slot_law Nothing = refl
+  row_slot_law : (x : Option ℕ) → row_slot G n user l x ≡ block_in G (entry_at G d.drive.image) r x
+  row_slot_law (Some t) = ap (slot_of G (entry_at G d.drive.image t)) met_slot
+  row_slot_law None = refl
 
   pub met_block : block_there G n user l ≡ block_in G (entry_at G d.drive.image) r there
   unfolding block_there
@@ -80,9 +78,9 @@ module _ {G : Geometry} (S : Sound G) (n : ℕ) (random : is_random_rule n ≡ t
       ∙ ap (block_in G (entry_at G d.drive.image) r) (sym (met_within t))))
       (λ t. rw t (ap (row_slot G n user l) met_entry ∙ row_slot_law there))
 
-  count_at_law : (x : Found) → count_at G n user l x ≡ counted_in G (entry_at G d.drive.image) r x
-  count_at_law (At t) = ap (count_in (entry_at G d.drive.image t)) met_extent
-  count_at_law Nothing = refl
+  count_at_law : (x : Option ℕ) → count_at G n user l x ≡ counted_in G (entry_at G d.drive.image) r x
+  count_at_law (Some t) = ap (count_in (entry_at G d.drive.image t)) met_extent
+  count_at_law None = refl
 
   -- the FCB counts no more than its entry, since a close would leave that as it is
   own_count : (ext : ℕ) → max (fcb_count_in g ext) (count_in (entry_at G d.drive.image e) ext) ≡ count_in (entry_at G d.drive.image e) ext
@@ -98,7 +96,7 @@ module _ {G : Geometry} (S : Sound G) (n : ℕ) (random : is_random_rule n ≡ t
   met_count =
       split (bool_cases (within G n g))
       (λ t. rw t (ap (max (fcb_count_in g (target_extent n g))) (ap (count_at G n user l) met_entry ∙ ap (count_at G n user l) (met_within t))
-      ∙ own_count (target_extent n g) ∙ count_at_law (At e) ∙ ap (counted_in G (entry_at G d.drive.image) r) (sym (met_within t))))
+      ∙ own_count (target_extent n g) ∙ count_at_law (Some e) ∙ ap (counted_in G (entry_at G d.drive.image) r) (sym (met_within t))))
       (λ t. rw t (ap (count_at G n user l) met_entry ∙ count_at_law there))
 
   -- the record is there exactly where it is stored
@@ -106,6 +104,6 @@ module _ {G : Geometry} (S : Sound G) (n : ℕ) (random : is_random_rule n ≡ t
   unfolding record_there is_stored
   met_there = rw (met_record, met_count, met_block)
 
-  pub met_locked : read_only_there G n user l ≡ (read_only_in (entry_at G d.drive.image) (At e) or read_only_in (entry_at G d.drive.image) there)
+  pub met_locked : read_only_there G n user l ≡ (read_only_in (entry_at G d.drive.image) (Some e) or read_only_in (entry_at G d.drive.image) there)
   unfolding read_only_there
   met_locked = rw (met_present, met_entry)

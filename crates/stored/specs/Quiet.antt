@@ -1,6 +1,6 @@
 -- Calls that change image and map by no more than access stamps: refused ones, quiet ones, and 33 through a fresh FCB, such as an accepted 15
 -- hands back.
-use Rattle.std.specs.Prelude.{◌≡◌, refl, ◌⊎◌, true, false, not, List, [], ℕ, ◌≤◌, ◌<◌, length, get_or}
+use Rattle.std.specs.Prelude.{◌≡◌, refl, ◌⊎◌, true, false, not, List, [], ℕ, ◌≤◌, ◌<◌, length, get_or, Some}
 use Rattle.std.proofs.Math.Path.{ap, sym, subst}
 use Rattle.std.proofs.Common.{◌∙◌, inl, inr, arith}
 use borrow.Author.Tests.{eq-eqb, ne_eqb, not-true}
@@ -10,7 +10,6 @@ use Rattle.format.specs.Diskette.{Bytes, Geometry, Sound, record_bytes, slot_cou
 use Rattle.format.specs.Entries.{entry_at, ex_of, slot_of, end_of}
 use Rattle.format.specs.Dates.{dated, asks, asks_access}
 use Rattle.format.specs.Fcb.{fcb_bytes, fcb_end}
-use Rattle.format.specs.declared.Found.TheVariants.{At}
 use Rattle.facts.specs.Found.{FirstAt}
 use Rattle.facts.specs.Find.{file_test, file_says}
 use Rattle.facts.specs.Naming.{file_user, file_run}
@@ -186,7 +185,7 @@ module _ (G : Geometry) (d : Disk) (f : Bytes) (e : ℕ) (k : Fresh G d f e) whe
       → Ready G a (record { drive = d.drive; fcb = f; buffer = buffer }) d.session
   fresh_ready a time buffer hb = sane_ready G d k.sane f k.long k.drive a time buffer hb
 
-  pub fresh_present : (buffer : Bytes) → present_entry G d.session.user (record { drive = d.drive; fcb = f; buffer = buffer }) ≡ At e
+  pub fresh_present : (buffer : Bytes) → present_entry G d.session.user (record { drive = d.drive; fcb = f; buffer = buffer }) ≡ Some e
   unfolding present_entry
   fresh_present buffer =
       cur_current G d.drive.image d.drive.map d.session.user f e k.sane.good.inv.dir k.sane.range.user k.cur
@@ -199,7 +198,7 @@ module _ (G : Geometry) (d : Disk) (f : Bytes) (e : ℕ) (k : Fresh G d f e) whe
 -- ---- 15: what it stamps, and what it hands back
 pub record OpenedAt (G : Geometry) (d : Disk) (q : Request) : Type 0 where
   pub entry : ℕ
-  pub asked : asked_entry G (lent_to d q) d.session.user ≡ At entry
+  pub asked : asked_entry G (lent_to d q) d.session.user ≡ Some entry
   pub fcb : (outcome_of G d q).lent.fcb ≡ entered q.fcb (entry_at G d.drive.image entry) (ex_of q.fcb)
   pub fresh : Fresh G (left (outcome_of G d q)) (outcome_of G d q).lent.fcb entry
 

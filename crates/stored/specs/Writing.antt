@@ -1,6 +1,6 @@
 -- A write, by its own rule, through an FCB that says what its entry says: wherever the call came to, a close of what it leaves gives the file the
 -- record, whatever stamps are put in between.
-use Rattle.std.specs.Prelude.{◌≡◌, ◌⊎◌, true, false, eqb, length}
+use Rattle.std.specs.Prelude.{◌≡◌, ◌⊎◌, true, false, eqb, length, None, Some}
 use Rattle.std.proofs.Math.Path.{refl, ap, sym, subst}
 use Rattle.std.proofs.Common.{◌∙◌, length-set}
 use Rattle.std.proofs.Math.Logic.{inl, inr}
@@ -12,7 +12,6 @@ use Rattle.format.specs.Entries.{entry_at, with_entry, slot_of, slot_for_rule, e
 use Rattle.format.specs.Dates.{is_dates}
 use Rattle.format.specs.Notes.{note_at_rule, free_note, recorded_note, with_note, pending_for}
 use Rattle.format.specs.Fcb.{fcb_end, fcb_right_rule, cr_of}
-use Rattle.format.specs.declared.Found.TheVariants.{At, Nothing}
 use Rattle.facts.specs.Counts.{count_is, count_high, count_by_end, end_some}
 use Rattle.facts.specs.Found.{at_once}
 use Rattle.facts.specs.Find.{empty_says}
@@ -343,7 +342,7 @@ pub record Closable (G : Geometry) (user x : ℕ) (l left : Lent) : Type 0 where
       (view_of G (closed_image G img entry left.fcb) (closed_map G (entry_at G img entry) left.fcb left.drive.map)) user l.fcb x l.buffer
 
 module _ {G : Geometry} (S : Sound G) (n : ℕ) (l : Lent) (s : Session) (g : Good G l.drive.image l.drive.map) (f : Fits G l s) (e : ℕ)
-    (at : present_entry G s.user l ≡ At e) (low : e < G.entries) (cr : cr_of l.fcb ≤ 128) (says : Says G (entry_at G l.drive.image e) l.fcb)
+    (at : present_entry G s.user l ≡ Some e) (low : e < G.entries) (cr : cr_of l.fcb ≤ 128) (says : Says G (entry_at G l.drive.image e) l.fcb)
     (same : close_changes_rule G (entry_at G l.drive.image e) l.fcb ≡ false) (low-extent : target_extent n l.fcb < extents)
     (x : ℕ) (ext-is : target_extent n l.fcb ≡ x / extent_records) (rec-is : target_record n l.fcb ≡ x % extent_records) where
   hf : 32 ≤ length l.fcb
@@ -374,7 +373,7 @@ module _ {G : Geometry} (S : Sound G) (n : ℕ) (l : Lent) (s : Session) (g : Go
         grown = came_grown S n l s g f cr l e b _ _ came k says x ext-is rec-is (λ i h q. refl) (λ i a h. refl) refl (inl refl);
       }
 
-  moving : (t b : ℕ) → stays n l.fcb ≡ false → target_entry G n s.user l ≡ At t → Block G n s.user l b
+  moving : (t b : ℕ) → stays n l.fcb ≡ false → target_entry G n s.user l ≡ Some t → Block G n s.user l b
       → Closable G s.user x l (written_at G s l n t b (moved G (target_extent n l.fcb) l e t)).lent
   unfolding written_at have_written moved
   moving t b go target k =
@@ -393,7 +392,7 @@ module _ {G : Geometry} (S : Sound G) (n : ℕ) (l : Lent) (s : Session) (g : Go
       }
 
   -- the entry that a move makes
-  module _ (t b : ℕ) (go : stays n l.fcb ≡ false) (none : target_entry G n s.user l ≡ Nothing) (room : find_empty_rule G (rows_of G l) ≡ At t)
+  module _ (t b : ℕ) (go : stays n l.fcb ≡ false) (none : target_entry G n s.user l ≡ None) (room : find_empty_rule G (rows_of G l) ≡ Some t)
       (k : Block G n s.user l b) where
     abbrev img : Bytes
     img = closed_image G l.drive.image e l.fcb

@@ -1,12 +1,11 @@
 -- A passed table taken apart, and a call none of whose rows holds.
-use Rattle.std.specs.Prelude.{◌≡◌, true, false}
+use Rattle.std.specs.Prelude.{◌≡◌, true, false, None}
 use Rattle.std.proofs.Math.Path.{refl, ap}
 use Rattle.std.proofs.Common.{sym, ◌∙◌}
 use Rattle.std.proofs.Math.Bool.{not}
 use borrow.Author.Tests.{not-false}
 use Rattle.format.specs.Diskette.{Geometry}
 use Rattle.model.specs.declared.Session.{Session}
-use Rattle.model.specs.declared.Verdict.TheVariants.{Passed}
 use Rattle.model.specs.Lent.{Lent}
 use Rattle.model.specs.declared.Asked.{Asked}
 use Rattle.model.specs.Kinds.{kind_of, is_call}
@@ -19,7 +18,7 @@ use Rattle.table.specs.Accept.{passed_call, own_of}
 
 module _ (G : Geometry) (asked : Asked) (l : Lent) (s : Session) where
   -- a passed table taken apart
-  pub accepted : verdict G asked l s ≡ Passed → AcceptedCall G asked l s
+  pub accepted : verdict G asked l s ≡ None → AcceptedCall G asked l s
   accepted q =
       let t = passed_call G asked l s q in
       let none = passed_none (rows_for G asked l s) (sym (verdict_rows G asked l s t) ∙ q) in
@@ -28,7 +27,7 @@ module _ (G : Geometry) (asked : Asked) (l : Lent) (s : Session) where
       record { listed = t; ready = ready; spared = none.1.1.0; none = own; own = own_of G asked l s own t ready (kind_of asked.number) refl }
 
   -- a call none of whose rows holds is passed
-  pub passes : is_call asked.number ≡ true → Ready G asked l s → protection_holds G asked l s ≡ false → NoneHolds (own_rows G asked l s) → verdict G asked l s ≡ Passed
+  pub passes : is_call asked.number ≡ true → Ready G asked l s → protection_holds G asked l s ≡ false → NoneHolds (own_rows G asked l s) → verdict G asked l s ≡ None
   passes t r p o =
       verdict_rows G asked l s t
       ∙ none_passed (rows_for G asked l s)

@@ -1,5 +1,5 @@
 -- What an answer says of its call: it was carried out exactly when A and H say so.
-use Rattle.std.specs.Prelude.{◌≡◌, Bool, true, not, cond, List, [], ◌∷◌, ℕ, ◌%◌, ◌≤◌}
+use Rattle.std.specs.Prelude.{◌≡◌, Bool, true, not, cond, List, [], ◌∷◌, ℕ, ◌%◌, ◌≤◌, Option}
 use Rattle.std.proofs.Math.Path.{refl, ap}
 use Rattle.std.proofs.Common.{sym, ◌∙◌, arith, eq-eqb, eqb-true, ne_eqb}
 use Rattle.std.proofs.Math.Bool.{false}
@@ -7,7 +7,6 @@ use Rattle.std.proofs.Math.Dec.{eqb}
 use Rattle.lists.specs.Cases.{split, bool_cases, not_both, clash, cond_either}
 use Rattle.lists.specs.Tests.{and_both, and_then, and_fails_left}
 use Rattle.format.specs.Diskette.{Geometry}
-use Rattle.format.specs.declared.Found.{Found}
 use Rattle.model.specs.declared.Asked.{Asked}
 use Rattle.model.specs.declared.Session.{Session}
 use Rattle.model.specs.declared.Answer.{Answer}
@@ -67,7 +66,7 @@ unfolding accepted_answer
 record_accepted n k q a o h z = and_both _ _ (eq-eqb _ _ h) (rw (q, o) (eq-eqb a.a 0 z))
 
 module _ (G : Geometry) (asked : Asked) (l : Lent) (s : Session) (low : s.user ≤ 15) where
-  entry_low : (r : Found) (a : ℕ) → AnswersEntry r a → a ≡ 255 → ⊥
+  entry_low : (r : Option ℕ) (a : ℕ) → AnswersEntry r a → a ≡ 255 → ⊥
   entry_low r a w q = let m : a ≡ w.entry % 4 = w.mod_four in omega arith
 
   zero_low : (a : ℕ) → a ≡ 0 → a ≡ 255 → ⊥

@@ -1,5 +1,5 @@
 -- The first three rows and the protection, which come before any call's own: what they refuse.
-use Rattle.std.specs.Prelude.{◌≡◌, true, false, not}
+use Rattle.std.specs.Prelude.{◌≡◌, true, false, not, Some}
 use Rattle.std.proofs.Common.{ap, ◌∙◌}
 use Rattle.format.specs.Diskette.{Geometry}
 use Rattle.model.specs.declared.Asked.{Asked}
@@ -7,7 +7,6 @@ use Rattle.model.specs.declared.Session.{Session}
 use Rattle.model.specs.declared.Answer.{Answer}
 use Rattle.model.specs.declared.Code.{Code}
 use Rattle.model.specs.declared.Code.TheVariants.{NotListed, BadParameter, BadDisk, Protected}
-use Rattle.model.specs.declared.Verdict.TheVariants.{Refused}
 use Rattle.model.specs.Lent.{Lent, outcome, answer_of}
 use Rattle.model.specs.Kinds.{is_call}
 use Rattle.model.specs.Table.{parameters_right_rule, disk_right_rule, protection_holds, verdict}
@@ -19,7 +18,7 @@ use Rattle.table.proofs.OwnStep.{verdict_stopped}
 
 module _ (G : Geometry) (asked : Asked) (l : Lent) (s : Session) where
   -- an answer that changed nothing
-  pub refuses_step : (code : Code) (r : Answer) → verdict G asked l s ≡ Refused code
+  pub refuses_step : (code : Code) (r : Answer) → verdict G asked l s ≡ Some code
       → r ≡ answer_of code (refused_session code s) → outcome r l.drive.image l.drive.map l.fcb l.buffer ≡ step G asked l s
   unfolding step
   refuses_step code r v q = rw (v, q)

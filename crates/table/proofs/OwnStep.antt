@@ -1,12 +1,11 @@
 -- The table decides a call that the first three rows have passed as the protection's row and the call's own do, and so does its step.
-use Rattle.std.specs.Prelude.{◌≡◌, true, not}
+use Rattle.std.specs.Prelude.{◌≡◌, true, not, Some}
 use Rattle.std.proofs.Math.Path.{ap}
 use Rattle.std.proofs.Common.{◌∙◌}
 use Rattle.format.specs.Diskette.{Geometry}
 use Rattle.model.specs.declared.Asked.{Asked}
 use Rattle.model.specs.declared.Session.{Session}
 use Rattle.model.specs.declared.Code.TheVariants.{BadParameter, BadDisk, Protected}
-use Rattle.model.specs.declared.Verdict.TheVariants.{Refused}
 use Rattle.model.specs.Kinds.{is_call}
 use Rattle.model.specs.Lent.{Lent}
 use Rattle.model.specs.Table.{parameters_right_rule, disk_right_rule, when, first_row, protection_holds, verdict}
@@ -25,7 +24,7 @@ module _ (G : Geometry) (asked : Asked) (l : Lent) (s : Session) where
       ∙ first_passes (when (not (parameters_right_rule G l asked s)) BadParameter) _ (ap not (parameters_right_law G asked l s r.fits r.time r.drive))
       ∙ first_passes (when (not (disk_right_rule G l asked)) BadDisk) _ (ap not (disk_right_law G asked l s r.image_right r.map_right_law))
 
-  pub verdict_stopped : is_call asked.number ≡ true → Ready G asked l s → protection_holds G asked l s ≡ true → verdict G asked l s ≡ Refused Protected
+  pub verdict_stopped : is_call asked.number ≡ true → Ready G asked l s → protection_holds G asked l s ≡ true → verdict G asked l s ≡ Some Protected
   verdict_stopped t r h = verdict_ready t r ∙ first_holds _ _ h
 
   -- the step of a call is what they leave, stamped

@@ -1,13 +1,11 @@
 -- The row of 255, 2, of a read: the move that it asks for is that of the call's plan.
-use Rattle.std.specs.Prelude.{◌≡◌, ℕ}
+use Rattle.std.specs.Prelude.{◌≡◌, ℕ, None, Option, Some}
 use Rattle.std.proofs.Math.Path.{refl, sym}
 use Rattle.std.proofs.Common.{◌∙◌}
 use Rattle.lists.specs.Cases.{split, bool_cases}
 use Rattle.lists.specs.Tests.{and_fails_left, and_then}
 use Rattle.format.specs.Diskette.{Geometry}
 use Rattle.format.specs.Found.{number_of}
-use Rattle.format.specs.declared.Found.{Found}
-use Rattle.format.specs.declared.Found.TheVariants.{At, Nothing}
 use Rattle.model.specs.declared.Asked.{Asked}
 use Rattle.model.specs.declared.Session.{Session}
 use Rattle.model.specs.Lent.{Lent, rows_of}
@@ -17,9 +15,9 @@ use Rattle.model.specs.Table.{move_changes}
 use Rattle.table.specs.Protection.{plan_changes}
 
 module _ (G : Geometry) (asked : Asked) (l : Lent) (s : Session) where
-  planned_to : (e : ℕ) (r : Found) → plan_changes G l (plan_to G asked.number s.user l e r) ≡ close_changes_rule G (rows_of G l e) l.fcb
-  planned_to e (At t) = refl
-  planned_to e Nothing = refl
+  planned_to : (e : ℕ) (r : Option ℕ) → plan_changes G l (plan_to G asked.number s.user l e r) ≡ close_changes_rule G (rows_of G l e) l.fcb
+  planned_to e (Some t) = refl
+  planned_to e None = refl
 
   pub plan_changes_law : move_changes G asked l s ≡ plan_changes G l (plan G asked.number s.user l)
   unfolding move_changes plan plan_from

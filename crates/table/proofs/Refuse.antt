@@ -1,5 +1,5 @@
 -- A refusal comes from one row of the table, with a code that the table has for the call.
-use Rattle.std.specs.Prelude.{◌≡◌, Bool, true, false, cond, List, [], ◌∷◌, ◌++◌, ℕ, ◌<◌, eqb, ltb}
+use Rattle.std.specs.Prelude.{◌≡◌, Bool, true, false, cond, List, [], ◌∷◌, ◌++◌, ℕ, ◌<◌, eqb, ltb, None, Option, Some}
 use Rattle.std.proofs.Math.Path.{refl}
 use Rattle.std.proofs.Common.{sym, ap, subst, ◌∙◌, ltb-true, eq-eqb, eqb-true}
 use Rattle.std.proofs.Math.Bool.{not}
@@ -11,12 +11,9 @@ use Rattle.format.specs.Notes.{map_right}
 use Rattle.format.specs.Fcb.{random_of_rule}
 use Rattle.format.specs.Found.{is_found}
 use Rattle.facts.specs.Found.{not_found, missed_row}
-use Rattle.format.specs.declared.Found.{Found}
-use Rattle.format.specs.declared.Found.TheVariants.{Nothing}
 use Rattle.model.specs.declared.Asked.{Asked}
 use Rattle.model.specs.declared.Session.{Session}
 use Rattle.model.specs.declared.Code.{Code}
-use Rattle.model.specs.declared.Verdict.TheVariants.{Refused}
 use Rattle.model.specs.Codes.{says_of, h_of}
 use Rattle.model.specs.Kinds.{kind_of, is_call, one_of}
 use Rattle.model.specs.Lent.{Lent, rows_of}
@@ -88,7 +85,7 @@ module _ (G : Geometry) (asked : Asked) (l : Lent) (s : Session) where
   refuses_call code c (later f (later g (here t q))) = protection (sym q) (stopped_call G asked l s t) (ready_of G asked l s (not-false _ f) (not-false _ g)) t
   refuses_call code c (later f (later g (later p d))) = own (own_given code d) (ready_of G asked l s (not-false _ f) (not-false _ g)) p d
 
-  pub refuses : (code : Code) → verdict G asked l s ≡ Refused code → Refuses G asked l s code
+  pub refuses : (code : Code) → verdict G asked l s ≡ Some code → Refuses G asked l s code
   refuses code q =
       split (bool_cases (is_call asked.number))
       (λ t. refuses_call code t (refused_decides code (rows_for G asked l s) (sym (verdict_rows G asked l s t) ∙ q)))
@@ -104,12 +101,12 @@ module _ (G : Geometry) (asked : Asked) (l : Lent) (s : Session) where
   own_decides t code h u p d v (own g r o w) = (r, w)
 
   -- ---- no call is refused with an acceptance
-  pub never_accepted : (k : ℕ) → verdict G asked l s ≡ Refused (Code.Accepted k) → ⊥
+  pub never_accepted : (k : ℕ) → verdict G asked l s ≡ Some (Code.Accepted k) → ⊥
   never_accepted k q = clash (sym (own_given (Code.Accepted k) (own_decides (is_code (Code.Accepted k)) (Code.Accepted k) refl refl refl refl refl (refuses (Code.Accepted k) q)).1))
 
   -- a row of the call's own decides, once those before have failed
   pub refused_own : (code : Code) → is_call asked.number ≡ true → Ready G asked l s → protection_holds G asked l s ≡ false → Decides code (own_rows G asked l s)
-      → verdict G asked l s ≡ Refused code
+      → verdict G asked l s ≡ Some code
   refused_own code t r p d =
       verdict_rows G asked l s t
       ∙ decides_refused code (rows_for G asked l s)
@@ -126,13 +123,13 @@ module _ (G : Geometry) (asked : Asked) (l : Lent) (s : Session) where
       (not-true _ (row_of (λ (cs : List ℕ) (c : Code). not (eqb (h_of c) 1)) asked.number code (call_rows G asked l s) refl d).passes)
 
   pub never_bad_disk : (code : Code) → h_of code ≡ 1 → consistent G l.drive.image ≡ true → map_right G (rows_of G l) l.drive.map ≡ true
-      → verdict G asked l s ≡ Refused code → ⊥
+      → verdict G asked l s ≡ Some code → ⊥
   never_bad_disk code h right map q =
       not_both (disk_right_rule G l asked) (disk_right_law G asked l s right (λ z. map)) (bad_disk code (eq-eqb _ _ h) (refuses code q))
 
 module _ (G : Geometry) (asked : Asked) (l : Lent) (s : Session) where
   -- ---- code 6 comes out only where the random record is over 262,143
-  pub random_over : verdict G asked l s ≡ Refused Code.BadRecord → last_record < random_of_rule l.fcb
+  pub random_over : verdict G asked l s ≡ Some Code.BadRecord → last_record < random_of_rule l.fcb
   random_over q =
       let d = (own_decides G asked l s (is_code Code.BadRecord) Code.BadRecord refl refl refl refl refl (refuses G asked l s Code.BadRecord q)).1 in
       ltb-true _ _ (at_one (λ (n : ℕ). Decides Code.BadRecord (own_rows G (calling n asked) l s) → ltb last_record (random_of_rule l.fcb) ≡ true) asked.number (gives Code.BadRecord)
@@ -152,10 +149,10 @@ module _ (G : Geometry) (asked : Asked) (l : Lent) (s : Session) where
       & (λ r v. let p = behind (λ (c : Code). (says_of c).over) code h (_ ∷ []) _ refl v in ends18 r (not-false _ p.failed.0) (last_row _ _ p.rest)) & tt)
       d.0 d.1
     where
-      last_row : (r : Found) (c : Code) → Decides code (when (not (is_found r)) c ∷ []) → r ≡ Nothing
+      last_row : (r : Option ℕ) (c : Code) → Decides code (when (not (is_found r)) c ∷ []) → r ≡ None
       last_row r c v = not_found r (not-true _ (only_row (λ (x : Code). (says_of x).over) code h _ c [] v refl))
 
-  pub over_search : (n : ℕ) → SearchEnds G asked l s n → verdict G (calling n asked) l s ≡ Refused Code.SearchOver
+  pub over_search : (n : ℕ) → SearchEnds G asked l s n → verdict G (calling n asked) l s ≡ Some Code.SearchOver
   unfolding is_call kind_of
   over_search n (ends17 r name ex none) =
       refused_own G (calling 17 asked) l s Code.SearchOver refl r (other_spared G (calling 17 asked) l s refl) (later (ap not name) (later (pattern_right_law _ ex) (here (missed_row _ none) refl)))

@@ -1,5 +1,5 @@
 -- Demand 1: every call either is refused, by the first row of the table that holds, with nothing changed, or is carried out.
-use Rattle.std.specs.Prelude.{◌≡◌, ◌⊎◌, true, false, cond, ◌≤◌, ◌<◌, eqb}
+use Rattle.std.specs.Prelude.{◌≡◌, ◌⊎◌, true, false, cond, ◌≤◌, ◌<◌, eqb, None, Option, Some}
 use Rattle.std.proofs.Math.Path.{refl}
 use Rattle.std.proofs.Common.{sym, ap, ◌∙◌, inl, inr, eq-eqb, ne_eqb}
 use native.Mathlib.Omega.{arith}
@@ -10,8 +10,6 @@ use Rattle.model.specs.declared.Asked.{Asked}
 use Rattle.model.specs.declared.Session.{Session}
 use Rattle.model.specs.declared.Code.{Code}
 use Rattle.model.specs.declared.Code.TheVariants.{SearchOver}
-use Rattle.model.specs.declared.Verdict.{Verdict}
-use Rattle.model.specs.declared.Verdict.TheVariants.{Passed, Refused}
 use Rattle.model.specs.Codes.{says_of}
 use Rattle.model.specs.Kinds.{kind_of, is_call}
 use Rattle.model.specs.Lent.{Lent, ended, with_user}
@@ -29,26 +27,26 @@ use Rattle.table.proofs.Carried.{carried_done}
 use Rattle.table.specs.Total.{RefusedBy, CarriedOut, InRange}
 
 module _ (G : Geometry) (asked : Asked) (l : Lent) (s : Session) where
-  refused_is : (c : Code) → verdict G asked l s ≡ Refused c → step G asked l s ≡ refused c s l
+  refused_is : (c : Code) → verdict G asked l s ≡ Some c → step G asked l s ≡ refused c s l
   unfolding step
   refused_is c q = rw q
 
-  passed_is : verdict G asked l s ≡ Passed → step G asked l s ≡ stamped G asked l s
+  passed_is : verdict G asked l s ≡ None → step G asked l s ≡ stamped G asked l s
   unfolding step stamped
   passed_is q = rw q
 
   -- a code that ends no search is another than that of a search that is over
-  not_over : (c : Code) → (says_of c).over ≡ false → verdict G asked l s ≡ Refused c → SearchEnds G asked l s asked.number → ⊥
+  not_over : (c : Code) → (says_of c).over ≡ false → verdict G asked l s ≡ Some c → SearchEnds G asked l s asked.number → ⊥
   not_over c f q e =
       let z : SearchOver ≡ c = refused_same SearchOver c (sym (over_search G asked l s asked.number e) ∙ q) in
       not_both (says_of c).over (ap (λ (x : Code). (says_of x).over) (sym z)) f
 
-  session_of : (c : Code) → verdict G asked l s ≡ Refused c
+  session_of : (c : Code) → verdict G asked l s ≡ Some c
       → (SearchEnds G asked l s asked.number × (refused_session c s ≡ ended s)) ⊎ ((SearchEnds G asked l s asked.number → ⊥) × (refused_session c s ≡ s))
   session_of c q =
       split (bool_cases (says_of c).over) (λ t. inl (search_over G asked l s c t (refuses G asked l s c q), rw t)) (λ f. inr (not_over c f q, rw f))
 
-  pub total_refused : (c : Code) → verdict G asked l s ≡ Refused c → RefusedBy G asked l s c
+  pub total_refused : (c : Code) → verdict G asked l s ≡ Some c → RefusedBy G asked l s c
   unfolding verdict
   total_refused c q =
       let is = refused_is c q in
@@ -67,7 +65,7 @@ module _ (G : Geometry) (asked : Asked) (l : Lent) (s : Session) where
   effect_done c =
       let d = carried_done G asked l s c (kind_of asked.number) refl in record { answers = d.answers; no_error = d.no_error; leaves = d.leaves }
 
-  pub total_accepted : verdict G asked l s ≡ Passed → CarriedOut G asked l s
+  pub total_accepted : verdict G asked l s ≡ None → CarriedOut G asked l s
   unfolding verdict
   total_accepted q =
       let facts = accepted G asked l s q in
@@ -93,9 +91,9 @@ module _ (G : Geometry) (asked : Asked) (l : Lent) (s : Session) where
   pub total : ((c : Code) × RefusedBy G asked l s c) ⊎ CarriedOut G asked l s
   total = go (verdict G asked l s) refl
     where
-      go : (v : Verdict) → verdict G asked l s ≡ v → ((c : Code) × RefusedBy G asked l s c) ⊎ CarriedOut G asked l s
-      go Passed q = inr (total_accepted q)
-      go (Refused c) q = inl (c, total_refused c q)
+      go : (v : Option Code) → verdict G asked l s ≡ v → ((c : Code) × RefusedBy G asked l s c) ⊎ CarriedOut G asked l s
+      go None q = inr (total_accepted q)
+      go (Some c) q = inl (c, total_refused c q)
 
 -- ---- the session stays in range
 ended_range : (G : Geometry) (s : Session) → InRange G s → InRange G (ended s)

@@ -1,5 +1,5 @@
 -- What it says of a call that none of its own rows holds: its facts, by its kind; and back: such facts leave no row that holds.
-use Rattle.std.specs.Prelude.{◌≡◌, ◌⊎◌, true, false, ℕ, ◌/◌, ◌≤◌, ◌<◌, eqb, ltb}
+use Rattle.std.specs.Prelude.{◌≡◌, ◌⊎◌, true, false, ℕ, ◌/◌, ◌≤◌, ◌<◌, eqb, ltb, None}
 use Rattle.std.proofs.Math.Path.{refl, ap}
 use Rattle.std.proofs.Common.{sym, subst, ◌∙◌, arith}
 use Rattle.std.proofs.Math.Bool.{not}
@@ -15,7 +15,6 @@ use Rattle.format.specs.Found.{is_found}
 use Rattle.facts.specs.Found.{FoundAt, not_found}
 use Rattle.model.specs.declared.Session.{Session}
 use Rattle.model.specs.declared.Code.TheVariants.{NotListed}
-use Rattle.model.specs.declared.Verdict.TheVariants.{Passed}
 use Rattle.model.specs.Lent.{Lent, rows_of}
 use Rattle.model.specs.Target.{target_extent, present_entry, target_entry, record_there, block_there, read_only_there}
 use Rattle.model.specs.declared.Asked.{Asked}
@@ -186,7 +185,7 @@ module _ (G : Geometry) (asked : Asked) (l : Lent) (s : Session) where
 
 -- ---- the table
 module _ (G : Geometry) (asked : Asked) (l : Lent) (s : Session) where
-  pub passed_call : verdict G asked l s ≡ Passed → is_call asked.number ≡ true
+  pub passed_call : verdict G asked l s ≡ None → is_call asked.number ≡ true
   passed_call q =
       split (bool_cases (is_call asked.number)) (λ t. t) (λ f. passed_refused NotListed (sym q ∙ verdict_unlisted G asked l s f))
 

@@ -1,5 +1,5 @@
 -- What an accepted call answers, and the session that it leaves.
-use Rattle.std.specs.Prelude.{◌≡◌, cond, [], ◌∷◌, ℕ, ◌+◌}
+use Rattle.std.specs.Prelude.{◌≡◌, cond, [], ◌∷◌, ℕ, ◌+◌, Option, Some}
 use Rattle.std.proofs.Math.Path.{refl}
 use Rattle.std.proofs.Math.Bool.{true, false}
 use Rattle.std.proofs.Math.Dec.{eqb}
@@ -7,8 +7,6 @@ use borrow.Author.Tests.{eq-eqb, ne_eqb}
 use Rattle.lists.specs.Cases.{split, eq_or_ne}
 use Rattle.format.specs.Diskette.{Bytes, Geometry}
 use Rattle.format.specs.Entries.{find_empty_rule}
-use Rattle.format.specs.declared.Found.{Found}
-use Rattle.format.specs.declared.Found.TheVariants.{At}
 use Rattle.model.specs.declared.Session.{Session}
 use Rattle.model.specs.declared.Plan.{Plan}
 use Rattle.model.specs.declared.Plan.TheVariants.{Stay, Move, Make}
@@ -24,15 +22,15 @@ use Rattle.model.specs.Calls.{entry_number, user_set, read_at, reading, read, wr
 use Rattle.model.specs.Step.{told, pattern, place}
 
 -- the entry that was looked for was found, and A is its number mod 4
-pub record AnswersEntry (r : Found) (a : ℕ) : Type 0 where
+pub record AnswersEntry (r : Option ℕ) (a : ℕ) : Type 0 where
   pub entry : ℕ
-  pub found : r ≡ At entry
+  pub found : r ≡ Some entry
   pub mod_four : a ≡ entry_number entry
 
 -- the search goes on one past the entry that was found
-pub record GoesOn (s : Session) (pattern : Bytes) (r : Found) (after : Session) : Type 0 where
+pub record GoesOn (s : Session) (pattern : Bytes) (r : Option ℕ) (after : Session) : Type 0 where
   pub entry : ℕ
-  pub found : r ≡ At entry
+  pub found : r ≡ Some entry
   pub on : after ≡ searching s pattern (entry + 1)
 
 -- an outcome of acceptance: A, H and the session

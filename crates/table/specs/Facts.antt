@@ -1,5 +1,5 @@
 -- What a table that passed says of each call, as facts that later laws use.
-use Rattle.std.specs.Prelude.{◌≡◌, ◌⊎◌, Bool, true, false, ℕ, ◌≤◌, ◌<◌, length, get_or}
+use Rattle.std.specs.Prelude.{◌≡◌, ◌⊎◌, Bool, true, false, ℕ, ◌≤◌, ◌<◌, length, get_or, None}
 use Rattle.format.specs.Diskette.{Geometry, record_bytes, extents, Long}
 use Rattle.format.specs.Names.{name_right_rule}
 use Rattle.format.specs.Entries.{ex_of, s2_of, named, read_only, find_named_rule, find_empty_rule}
@@ -7,7 +7,6 @@ use Rattle.format.specs.Consistent.{consistent}
 use Rattle.format.specs.Notes.{map_right, find_free}
 use Rattle.format.specs.Fcb.{fcb_bytes, cr_of}
 use Rattle.facts.specs.Found.{FoundAt}
-use Rattle.format.specs.declared.Found.TheVariants.{Nothing}
 use Rattle.model.specs.declared.Session.{Session}
 use Rattle.model.specs.Lent.{Lent, rows_of, search_on, with_lifted}
 use Rattle.model.specs.Target.{target_extent, present_entry, target_entry, block_there, record_there, read_only_there}
@@ -69,7 +68,7 @@ module _ (G : Geometry) (l : Lent) (s : Session) where
   pub record Makes : Type 0 where
     pub name : name_right_rule false l.fcb 1 ≡ true
     pub ex : ex_of l.fcb ≤ 31
-    pub new : asked_entry G l s.user ≡ Nothing
+    pub new : asked_entry G l s.user ≡ None
     pub entry : FoundAt (find_empty_rule G (rows_of G l))
 
   pub record Renames : Type 0 where
@@ -99,7 +98,7 @@ module _ (G : Geometry) (l : Lent) (s : Session) where
     pub entry : FoundAt (present_entry G s.user l)
     pub writable : read_only_there G n s.user l ≡ false
     pub extent : target_extent n l.fcb < extents
-    pub room : target_entry G n s.user l ≡ Nothing → FoundAt (find_empty_rule G (rows_of G l))
+    pub room : target_entry G n s.user l ≡ None → FoundAt (find_empty_rule G (rows_of G l))
     pub block : block_there G n s.user l ≡ 0 → FoundAt (find_free G l.drive.map)
 
 -- what the first three rows say of every call that they pass

@@ -1,9 +1,8 @@
 -- The first row that holds, of any list of rows: what it says that a table passed, and what a refusal says.
-use Rattle.std.specs.Prelude.{◌≡◌, refl, true, false, List, [], ◌∷◌, ℕ}
+use Rattle.std.specs.Prelude.{◌≡◌, refl, true, false, List, [], ◌∷◌, ℕ, None, Some}
 use Rattle.std.proofs.Common.{sym, ◌∙◌, arith}
 use Rattle.lists.specs.Cases.{split, bool_cases}
 use Rattle.model.specs.declared.Code.{Code}
-use Rattle.model.specs.declared.Verdict.TheVariants.{Passed, Refused}
 use Rattle.model.specs.Table.{Row, first_row}
 
 -- a pair, for chains of facts
@@ -22,14 +21,14 @@ pub data Decides (c : Code) : List Row → Type 0 where
   later : {r : Row} {rs : List Row} → r.holds ≡ false → Decides c rs → Decides c (r ∷ rs)
 
 -- a verdict is one of the two
-pub passed_refused : {A : Type 0} (c : Code) → Passed ≡ Refused c → A
+pub passed_refused : {A : Type 0} (c : Code) → None ≡ Some c → A
 passed_refused c q = absurd (let z : ◌≡◌ {A = ℕ} 0 1 = cc in omega arith)
 
-pub refused_same : (c d : Code) → Refused c ≡ Refused d → c ≡ d
+pub refused_same : (c d : Code) → Some c ≡ Some d → c ≡ d
 refused_same c d q = cc
 
 -- the first row, by whether it holds
-pub first_holds : (r : Row) (rs : List Row) → r.holds ≡ true → first_row (r ∷ rs) ≡ Refused r.code
+pub first_holds : (r : Row) (rs : List Row) → r.holds ≡ true → first_row (r ∷ rs) ≡ Some r.code
 unfolding first_row
 first_holds r rs h = rw h
 
@@ -38,25 +37,25 @@ unfolding first_row
 first_passes r rs h = rw h
 
 -- ---- a table passes exactly when no row holds
-pub passed_none : (rs : List Row) → first_row rs ≡ Passed → NoneHolds rs
+pub passed_none : (rs : List Row) → first_row rs ≡ None → NoneHolds rs
 passed_none [] q = tt
 passed_none (r ∷ rs) q =
     split (bool_cases r.holds) (λ t. passed_refused r.code (sym q ∙ first_holds r rs t))
     (λ f. (f, passed_none rs (sym (first_passes r rs f) ∙ q)))
 
-pub none_passed : (rs : List Row) → NoneHolds rs → first_row rs ≡ Passed
+pub none_passed : (rs : List Row) → NoneHolds rs → first_row rs ≡ None
 unfolding first_row
 none_passed [] n = refl
 none_passed (r ∷ rs) n = first_passes r rs n.0 ∙ none_passed rs n.1
 
 -- ---- it refuses exactly by the first row that holds
-pub refused_decides : (c : Code) (rs : List Row) → first_row rs ≡ Refused c → Decides c rs
+pub refused_decides : (c : Code) (rs : List Row) → first_row rs ≡ Some c → Decides c rs
 unfolding first_row
 refused_decides c [] q = passed_refused c q
 refused_decides c (r ∷ rs) q =
     split (bool_cases r.holds) (λ t. here t (refused_same r.code c (sym (first_holds r rs t) ∙ q)))
     (λ f. later f (refused_decides c rs (sym (first_passes r rs f) ∙ q)))
 
-pub decides_refused : (c : Code) (rs : List Row) → Decides c rs → first_row rs ≡ Refused c
+pub decides_refused : (c : Code) (rs : List Row) → Decides c rs → first_row rs ≡ Some c
 decides_refused c rs (here {r = r} {rs = ts} t q) = first_holds r ts t ∙ (rw q)
 decides_refused c rs (later {r = r} {rs = ts} f d) = first_passes r ts f ∙ decides_refused c ts d

@@ -1,5 +1,5 @@
 -- The calls by their kinds, and the rows of the table that apply to a call: the whole table decides as they do.
-use Rattle.std.specs.Prelude.{◌≡◌, refl, ◌⊎◌, Bool, true, false, not, cond, List, [], ◌∷◌, ℕ, eqb}
+use Rattle.std.specs.Prelude.{◌≡◌, refl, ◌⊎◌, Bool, true, false, not, cond, List, [], ◌∷◌, ℕ, eqb, Some}
 use Rattle.std.proofs.Common.{sym, ap, subst, ◌∙◌, inl, inr, eqb-true, eq-eqb}
 use Rattle.lists.specs.Cases.{split, clash, not_both, bool_cases}
 use Rattle.format.specs.Diskette.{Geometry}
@@ -8,7 +8,6 @@ use Rattle.model.specs.declared.Session.{Session}
 use Rattle.model.specs.declared.Kind.{Kind}
 use Rattle.model.specs.declared.Kind.TheVariants.{Unlisted, Quiet, Search, User, Settle, Close, Delete, Create, Rename, Read, Write}
 use Rattle.model.specs.declared.Code.TheVariants.{NotListed, BadParameter, BadDisk, Protected}
-use Rattle.model.specs.declared.Verdict.TheVariants.{Refused}
 use Rattle.model.specs.Kinds.{Listed, calls, line_in, kind_of, kind_number, same, is_call, keep_number, numbers_in, one_of}
 use Rattle.model.specs.Lent.{Lent}
 use Rattle.model.specs.Table.{parameters_right_rule, disk_right_rule, Row, when, first_row, own_rows, protection_holds, table, verdict}
@@ -117,6 +116,6 @@ module _ (G : Geometry) (asked : Asked) (l : Lent) (s : Session) where
   verdict_rows t = rw t
 
   -- and refuses every other
-  pub verdict_unlisted : is_call asked.number ≡ false → verdict G asked l s ≡ Refused NotListed
+  pub verdict_unlisted : is_call asked.number ≡ false → verdict G asked l s ≡ Some NotListed
   unfolding verdict table first_row
   verdict_unlisted h = rw h

@@ -1,5 +1,5 @@
 -- The plan of a record call that the table has passed: every entry and block that it names was found.
-use Rattle.std.specs.Prelude.{◌≡◌, ℕ, ◌<◌}
+use Rattle.std.specs.Prelude.{◌≡◌, ℕ, ◌<◌, None, Option, Some}
 use Rattle.std.proofs.Math.Path.{refl}
 use Rattle.std.proofs.Common.{sym, ◌∙◌}
 use Rattle.std.proofs.Math.Bool.{true, false}
@@ -11,8 +11,6 @@ use Rattle.format.specs.Diskette.{Geometry}
 use Rattle.format.specs.Entries.{find_empty_rule}
 use Rattle.format.specs.Notes.{find_free}
 use Rattle.facts.specs.Found.{FoundAt, at_not_nothing}
-use Rattle.format.specs.declared.Found.{Found}
-use Rattle.format.specs.declared.Found.TheVariants.{At, Nothing}
 use Rattle.model.specs.declared.Session.{Session}
 use Rattle.model.specs.declared.Plan.{Plan}
 use Rattle.model.specs.declared.Plan.TheVariants.{Stay, Move, Make}
@@ -31,20 +29,20 @@ module _ (G : Geometry) (n user : ℕ) (l : Lent) where
   -- the target's block: the one in its slot, or the first free one
   pub data Block (b : ℕ) : Type 0 where
     there : block_there G n user l ≡ b → (b ≡ 0 → ⊥) → Block b
-    free : block_there G n user l ≡ 0 → find_free G l.drive.map ≡ At b → Block b
+    free : block_there G n user l ≡ 0 → find_free G l.drive.map ≡ Some b → Block b
 
   -- where the target is: in the present extent, in another one, or in one to be made
   pub data Planned (B : ℕ → Type 0) : Plan → Type 0 where
-    stay : (e b : ℕ) → present_entry G user l ≡ At e → stays n l.fcb ≡ true → target_entry G n user l ≡ At e → B b → Planned B (Stay e b)
-    move : (e t b : ℕ) → present_entry G user l ≡ At e → stays n l.fcb ≡ false → target_entry G n user l ≡ At t → B b → Planned B (Move e t b)
-    make : (e t b : ℕ) → present_entry G user l ≡ At e → stays n l.fcb ≡ false → target_entry G n user l ≡ Nothing
-        → find_empty_rule G (rows_of G l) ≡ At t → B b → Planned B (Make e t b)
+    stay : (e b : ℕ) → present_entry G user l ≡ Some e → stays n l.fcb ≡ true → target_entry G n user l ≡ Some e → B b → Planned B (Stay e b)
+    move : (e t b : ℕ) → present_entry G user l ≡ Some e → stays n l.fcb ≡ false → target_entry G n user l ≡ Some t → B b → Planned B (Move e t b)
+    make : (e t b : ℕ) → present_entry G user l ≡ Some e → stays n l.fcb ≡ false → target_entry G n user l ≡ None
+        → find_empty_rule G (rows_of G l) ≡ Some t → B b → Planned B (Make e t b)
 
-  module _ (B : ℕ → Type 0) (block : B (target_block G n user l)) (e : ℕ) (at : present_entry G user l ≡ At e)
-      (room : target_entry G n user l ≡ Nothing → FoundAt (find_empty_rule G (rows_of G l))) where
-    planned_to : stays n l.fcb ≡ false → (r : Found) → target_entry G n user l ≡ r → Planned B (plan_to G n user l e r)
-    planned_to s (At t) q = move e t (target_block G n user l) at s q block
-    planned_to s Nothing q =
+  module _ (B : ℕ → Type 0) (block : B (target_block G n user l)) (e : ℕ) (at : present_entry G user l ≡ Some e)
+      (room : target_entry G n user l ≡ None → FoundAt (find_empty_rule G (rows_of G l))) where
+    planned_to : stays n l.fcb ≡ false → (r : Option ℕ) → target_entry G n user l ≡ r → Planned B (plan_to G n user l e r)
+    planned_to s (Some t) q = move e t (target_block G n user l) at s q block
+    planned_to s None q =
         let f = room q in
         rw f.is (make e f.place (target_block G n user l) at s q f.is block)
 

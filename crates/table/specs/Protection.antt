@@ -1,5 +1,5 @@
 -- The row of 255, 2: of which calls and sessions it can hold at all, and of which it does.
-use Rattle.std.specs.Prelude.{◌≡◌, Bool, true, false, List, ◌++◌, ℕ}
+use Rattle.std.specs.Prelude.{◌≡◌, Bool, true, false, List, ◌++◌, ℕ, None, Option, Some}
 use Rattle.std.proofs.Math.Path.{refl, sym, ap}
 use Rattle.std.proofs.Common.{subst, ◌∙◌}
 use Rattle.std.proofs.Math.Bool.{not}
@@ -11,8 +11,6 @@ use Rattle.model.specs.declared.Session.{Session}
 use Rattle.model.specs.declared.Plan.{Plan}
 use Rattle.model.specs.declared.Plan.TheVariants.{Stay, Move, Make}
 use Rattle.model.specs.declared.Code.{Code}
-use Rattle.model.specs.declared.Verdict.{Verdict}
-use Rattle.model.specs.declared.Verdict.TheVariants.{Passed, Refused}
 use Rattle.model.specs.declared.Kind.{Kind}
 use Rattle.model.specs.declared.Kind.TheVariants.{Unlisted, Quiet, Search, User, Settle, Close, Delete, Create, Rename, Read, Write}
 use Rattle.model.specs.Kinds.{kind_of, same, of_record, one_of}
@@ -84,9 +82,9 @@ record_reads n h f =
     split (bool_cases (same (kind_of n) Read)) (λ t. same_is (kind_of n) Read t)
     (λ g. not_both (one_of n changers) (sym (by_kind n Write (same_is (kind_of n) Write (rw g at h)))) f)
 
-passed_verdict : (v : Verdict) → is_passed v ≡ true → v ≡ Passed
-passed_verdict Passed h = refl
-passed_verdict (Refused c) h = clash (sym h)
+passed_verdict : (v : Option Code) → is_passed v ≡ true → v ≡ None
+passed_verdict None h = refl
+passed_verdict (Some c) h = clash (sym h)
 
 -- on a protected session the call is none of those that change the disk
 abbrev pub Unchanging : Session → ℕ → Type 0

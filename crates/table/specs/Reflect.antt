@@ -1,5 +1,5 @@
 -- The tests of single rows and the facts imply each other.
-use Rattle.std.specs.Prelude.{◌≡◌, refl, ◌⊎◌, Bool, true, false, ℕ, ◌≤◌, ◌<◌, eqb, leb, ltb, get_or}
+use Rattle.std.specs.Prelude.{◌≡◌, refl, ◌⊎◌, Bool, true, false, ℕ, ◌≤◌, ◌<◌, eqb, leb, ltb, get_or, None, Option, Some}
 use Rattle.std.proofs.Math.Path.{sym, ap}
 use Rattle.std.proofs.Common.{◌∙◌, inl, inr, arith}
 use Rattle.std.proofs.Math.Bool.{not}
@@ -14,8 +14,6 @@ use Rattle.format.specs.Notes.{map_right}
 use Rattle.format.specs.Found.{is_found}
 use Rattle.facts.specs.Long.{long_says, long_is}
 use Rattle.facts.specs.Found.{FoundAt, found_row, missed_row, is_found_law, not_found, none_says}
-use Rattle.format.specs.declared.Found.{Found}
-use Rattle.format.specs.declared.Found.TheVariants.{At, Nothing}
 use Rattle.model.specs.declared.Session.{Session}
 use Rattle.model.specs.Lent.{Lent, rows_of}
 use Rattle.model.specs.declared.Asked.{Asked}
@@ -25,18 +23,18 @@ use Rattle.model.specs.Table.{time_right_rule, lengths_right_rule, parameters_ri
 use Rattle.table.specs.Facts.{Fits, Positions, Ready}
 
 -- ---- tests of look-ups
-pub found : (r : Found) → not (is_found r) ≡ false → FoundAt r
+pub found : (r : Option ℕ) → not (is_found r) ≡ false → FoundAt r
 found r h = is_found_law r (not-false _ h)
 
-pub missed : (r : Found) → FoundAt r → not (is_found r) ≡ false
+pub missed : (r : Option ℕ) → FoundAt r → not (is_found r) ≡ false
 missed r f = found_row r f.is
 
-pub either_found : (r q : Found) → (not (is_found r) and not (is_found q)) ≡ false → r ≡ Nothing → FoundAt q
+pub either_found : (r q : Option ℕ) → (not (is_found r) and not (is_found q)) ≡ false → r ≡ None → FoundAt q
 either_found r q h z = found q (second_fails _ _ h (missed_row r z))
 
-pub either_missed : (r q : Found) → (r ≡ Nothing → FoundAt q) → (not (is_found r) and not (is_found q)) ≡ false
-either_missed (At k) q f = and_fails_left _ _ refl
-either_missed Nothing q f = and_fails_right _ _ (missed q (f refl))
+pub either_missed : (r q : Option ℕ) → (r ≡ None → FoundAt q) → (not (is_found r) and not (is_found q)) ≡ false
+either_missed (Some k) q f = and_fails_left _ _ refl
+either_missed None q f = and_fails_right _ _ (missed q (f refl))
 
 -- ---- tests of numbers
 pub pattern_of_law : (x : ℕ) → (ltb 31 x and not (eqb x 63)) ≡ false → (x ≤ 31) ⊎ (x ≡ 63)

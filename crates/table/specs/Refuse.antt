@@ -1,5 +1,5 @@
 -- What a refusal says: which row it came from, and which codes a call can be refused with at all.
-use Rattle.std.specs.Prelude.{◌≡◌, ◌⊎◌, Bool, true, false, cond, List, [], ◌∷◌, ℕ, ◌≤◌, eqb}
+use Rattle.std.specs.Prelude.{◌≡◌, ◌⊎◌, Bool, true, false, cond, List, [], ◌∷◌, ℕ, ◌≤◌, eqb, None}
 use Rattle.std.proofs.Math.Path.{refl}
 use Rattle.std.proofs.Common.{sym, subst}
 use denote.Enum.Declared.{tag_of}
@@ -7,7 +7,6 @@ use Rattle.lists.specs.Cases.{cond_both}
 use Rattle.format.specs.Diskette.{Geometry}
 use Rattle.format.specs.Names.{name_right_rule}
 use Rattle.format.specs.Entries.{ex_of}
-use Rattle.format.specs.declared.Found.TheVariants.{Nothing}
 use Rattle.model.specs.declared.Asked.{Asked}
 use Rattle.model.specs.declared.Session.{Session}
 use Rattle.model.specs.declared.Code.{Code}
@@ -53,8 +52,8 @@ is_code c d = eqb (code_number c) (code_number d)
 -- a search is over: a 17 whose name and byte 12 are right finds no entry, or an 18, with a search on, finds no more from its place on
 pub data SearchEnds (G : Geometry) (asked : Asked) (l : Lent) (s : Session) : ℕ → Type 0 where
   ends17 : Ready G (calling 17 asked) l s → name_right_rule true l.fcb 1 ≡ true → (ex_of l.fcb ≤ 31) ⊎ (ex_of l.fcb ≡ 63)
-      → find_hit_rule G (rows_of G l) s.user (pattern_of l.fcb) 0 ≡ Nothing → SearchEnds G asked l s 17
-  ends18 : Ready G (calling 18 asked) l s → search_on s ≡ true → find_hit_rule G (rows_of G l) s.user s.pattern s.place ≡ Nothing
+      → find_hit_rule G (rows_of G l) s.user (pattern_of l.fcb) 0 ≡ None → SearchEnds G asked l s 17
+  ends18 : Ready G (calling 18 asked) l s → search_on s ≡ true → find_hit_rule G (rows_of G l) s.user s.pattern s.place ≡ None
       → SearchEnds G asked l s 18
 
 -- a row of this code is among them

@@ -1,14 +1,13 @@
 // Where the record calls 20, 21, 33 and 34 go: the target, its entry, and its slot and count as the FCB will have them there.
 #![tactic(auto)]
 
-ghost use Rattle.std.specs.Prelude.{◌≡◌, ◌<◌, max, length};
+ghost use Rattle.std.specs.Prelude.{◌≡◌, ◌<◌, max, length, Some};
 ghost use Rattle.format.specs.Diskette.{eight_inch, Long, slot_count};
 ghost use Rattle.format.specs.Entries.{entry_at, extent_of, find_file_rule};
 ghost use Rattle.format.specs.Fcb.{fcb_bytes, random_of_rule};
 ghost use Rattle.chains.specs.Chain.{Findable};
 ghost use Rattle.targets.specs.Target.{TargetOf, over_last_rule, missing_code, arrived_slot_rule, arrived_count_rule, go_to_rule};
 
-use format::Found;
 use model::{Code, Plan};
 
 // Where a record call goes: the extent, the record in it, and cr afterwards.
@@ -84,13 +83,13 @@ pub fn target_entry(
     fcb: &[u8],
     e: usize,
     extent: usize,
-) -> Found
-    requires { (find_file_rule eight_inch (entry_at eight_inch image.now) user fcb.now 1 (extent_of fcb.now) ≡ Found.At e)
+) -> Option<usize>
+    requires { (find_file_rule eight_inch (entry_at eight_inch image.now) user fcb.now 1 (extent_of fcb.now) ≡ Some e)
         × Findable eight_inch image.now chain.now user fcb.now }
     ensures { result ≡ find_file_rule eight_inch (entry_at eight_inch image.now) user fcb.now 1 extent }
 {
     if entries::extent(fcb) == extent {
-        return Found::At(e);
+        return Some(e);
     }
     chains::find_file(image, chain, user, fcb, 1, extent)
 }

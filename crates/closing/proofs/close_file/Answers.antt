@@ -16,8 +16,8 @@ pub close_entry-requires : goal.close_entry-requires
 close_entry-requires c =
     let a = c.args in
     let found = c.current_entry in
-    let low : c.in-At.e < eight_inch.entries =
-    close_low eight_inch a.image.now a.map.now a.fcb.now a.session found.result found.ensures c.in-At.e c.in-At.is in
+    let low : c.in-Some.e < eight_inch.entries =
+    close_low eight_inch a.image.now a.map.now a.fcb.now a.session found.result found.ensures c.in-Some.e c.in-Some.is in
     search rules
 
 pub returns : goal.returns
@@ -25,6 +25,6 @@ returns c asked buffer =
     let a = c.args in
     let found = c.current_entry in
     let closed = c.close_entry in
-    close_carried eight_inch a.image.now a.map.now a.fcb.now a.session found.result found.ensures asked buffer c.in-At.e c.done.result
-    closed.new.image closed.new.map c.clear_attributes.new.fcb c.in-At.is c.done.ensures closed.ensures.0 closed.ensures.1
+    close_carried eight_inch a.image.now a.map.now a.fcb.now a.session found.result found.ensures asked buffer c.in-Some.e c.done.result
+    closed.new.image closed.new.map c.clear_attributes.new.fcb c.in-Some.is c.done.ensures closed.ensures.0 closed.ensures.1
     c.clear_attributes.ensures

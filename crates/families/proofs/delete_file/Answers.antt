@@ -21,12 +21,12 @@ returns-in_default c = λ asked buffer.
 pub returns-then-any_read_only : goal.returns-then-any_read_only
 returns-then-any_read_only c = λ asked buffer.
     let k = c in
-    delete_guarded eight_inch asked _ _ _ ((let right' : name_right_rule true k.args.fcb.now 1 ≡ true = let u = k in sym u.name_right.ensures ∙ u.if-not-name_right.false in right')) ((let some' : (buffer : Bytes) → let a = k.args in any_named eight_inch (lend a.image.now a.map.now a.fcb.now buffer) true a.session.user 1 ≡ true = λ buffer. some_named eight_inch _ true _ 1 _ (sym k.find_named.ensures ∙ k.in-At.is) in some') buffer) (sym (c.any_read_only.ensures _ buffer) ∙ c.if-any_read_only.true)
+    delete_guarded eight_inch asked _ _ _ ((let right' : name_right_rule true k.args.fcb.now 1 ≡ true = let u = k in sym u.name_right.ensures ∙ u.if-not-name_right.false in right')) ((let some' : (buffer : Bytes) → let a = k.args in any_named eight_inch (lend a.image.now a.map.now a.fcb.now buffer) true a.session.user 1 ≡ true = λ buffer. some_named eight_inch _ true _ 1 _ (sym k.find_named.ensures ∙ k.in-Some.is) in some') buffer) (sym (c.any_read_only.ensures _ buffer) ∙ c.if-any_read_only.true)
     c.refuse-then-any_read_only.ensures
 
 pub returns : goal.returns
 returns c = λ asked buffer.
     let k = c in
     let t = c.erase_entries.ensures in
-    delete_done eight_inch asked _ _ _ ((let right' : name_right_rule true k.args.fcb.now 1 ≡ true = let u = k in sym u.name_right.ensures ∙ u.if-not-name_right.false in right')) ((let some' : (buffer : Bytes) → let a = k.args in any_named eight_inch (lend a.image.now a.map.now a.fcb.now buffer) true a.session.user 1 ≡ true = λ buffer. some_named eight_inch _ true _ 1 _ (sym k.find_named.ensures ∙ k.in-At.is) in some') buffer) _ _ (sym (c.any_read_only.ensures _ buffer) ∙ c.if-any_read_only.false)
+    delete_done eight_inch asked _ _ _ ((let right' : name_right_rule true k.args.fcb.now 1 ≡ true = let u = k in sym u.name_right.ensures ∙ u.if-not-name_right.false in right')) ((let some' : (buffer : Bytes) → let a = k.args in any_named eight_inch (lend a.image.now a.map.now a.fcb.now buffer) true a.session.user 1 ≡ true = λ buffer. some_named eight_inch _ true _ 1 _ (sym k.find_named.ensures ∙ k.in-Some.is) in some') buffer) _ _ (sym (c.any_read_only.ensures _ buffer) ∙ c.if-any_read_only.false)
     c.done.ensures t.0 t.1

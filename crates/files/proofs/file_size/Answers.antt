@@ -32,5 +32,5 @@ returns c = λ asked map buffer.
     let k = p in
     let u = k in
     quiet_own eight_inch (calling 35 asked) _ _ _ refl
-    (ap not (sym u.name_right.ensures) ∙ u.if-not-name_right.false-raw, (rw (← k.find_named.ensures, k.in-At.is), tt))
+    (ap not (sym u.name_right.ensures) ∙ u.if-not-name_right.false-raw, (rw (← k.find_named.ensures, k.in-Some.is), tt))
     (rw (c.done.ensures, p.put_three.ensures, p.largest_size-size.ensures))

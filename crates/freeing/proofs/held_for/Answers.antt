@@ -23,10 +23,10 @@ returns-in_default c =
 pub bounds-marks-e : goal.bounds-marks-e
 bounds-marks-e c =
     let s = c in let f = c in
-    omega (arith, s.requires, holder_low eight_inch s.args.n f.in-At.e (sym f.holder.ensures ∙ f.in-At.is))
+    omega (arith, s.requires, holder_low eight_inch s.args.n f.in-Some.e (sym f.holder.ensures ∙ f.in-Some.is))
 
 pub returns : goal.returns
 unfolding marks_pick
 returns c =
     let s = c in let f = c in
-    sym (held_at eight_inch s.args.n (marks_pick s.args.marks.now) f.in-At.e (sym f.holder.ensures ∙ f.in-At.is))
+    sym (held_at eight_inch s.args.n (marks_pick s.args.marks.now) f.in-Some.e (sym f.holder.ensures ∙ f.in-Some.is))

@@ -1,4 +1,5 @@
 -- An entry past the last is not used; of another, byte 0 of its row tells its user.
+use Rattle.std.specs.Prelude.{Some}
 use mathlib.Core.Bool.{Bool, true}
 use mathlib.Core.Path.{◌≡◌, sym, ap, ◌∙◌}
 use Prim.Native.Nat.{ℕ, ◌%◌, ◌<◌}
@@ -11,7 +12,6 @@ use Rattle.format.specs.Diskette.{Bytes, eight_inch, slots_on}
 use Rattle.format.specs.Entries.{entry_at, used}
 use Rattle.format.specs.Notes.{held_for_rule, held_by_used_rule, pending_slot}
 use Rattle.notes.specs.Holder.{holder_of, holder_low, held_at, held_none}
-use Rattle.format.specs.declared.Found.TheVariants.{At}
 use Rattle.maps.proofs.held_by_used.Goals as goal
 
 -- the test of the entry; every slot number that a note can hold is one of the sixteen
@@ -30,11 +30,11 @@ returns-in_default c =
     (sym c.holder.ensures ∙ c.in_default.is))
 
 pub row-requires : goal.row-requires
-row-requires c = let l = (let low' : c.in-At.e < eight_inch.entries = holder_low eight_inch c.args.n c.in-At.e ((let known' : holder_of eight_inch c.args.n ≡ At c.in-At.e = sym c.holder.ensures ∙ c.in-At.is in known')) in low') in search rules
+row-requires c = let l = (let low' : c.in-Some.e < eight_inch.entries = holder_low eight_inch c.args.n c.in-Some.e ((let known' : holder_of eight_inch c.args.n ≡ Some c.in-Some.e = sym c.holder.ensures ∙ c.in-Some.is in known')) in low') in search rules
 
 pub returns : goal.returns
 unfolding held_by_used_rule held_for_rule used
 returns c =
-    let k = c in let s = k in let e = k.in-At.e in
+    let k = c in let s = k in let e = k.in-Some.e in
     ap used c.row.ensures.0
-    ∙ sym (held_at eight_inch s.args.n (usedIn s.args.image.now s.args.n) e ((let known' : holder_of eight_inch k.args.n ≡ At k.in-At.e = sym k.holder.ensures ∙ k.in-At.is in known')) ∙ and_then _ _ (lt-ltb _ _ ((let low' : k.in-At.e < eight_inch.entries = holder_low eight_inch k.args.n k.in-At.e ((let known' : holder_of eight_inch k.args.n ≡ At k.in-At.e = sym k.holder.ensures ∙ k.in-At.is in known')) in low'))) ∙ and_first _ _ (slot_low s.args.n))
+    ∙ sym (held_at eight_inch s.args.n (usedIn s.args.image.now s.args.n) e ((let known' : holder_of eight_inch k.args.n ≡ Some k.in-Some.e = sym k.holder.ensures ∙ k.in-Some.is in known')) ∙ and_then _ _ (lt-ltb _ _ ((let low' : k.in-Some.e < eight_inch.entries = holder_low eight_inch k.args.n k.in-Some.e ((let known' : holder_of eight_inch k.args.n ≡ Some k.in-Some.e = sym k.holder.ensures ∙ k.in-Some.is in known')) in low'))) ∙ and_first _ _ (slot_low s.args.n))

@@ -10,11 +10,11 @@ returns-in_default c = let q = sym c.find_empty.ensures ∙ c.in_default.is in r
 pub returns-in_default-first_free : goal.returns-in_default-first_free
 unfolding write_new_rule
 returns-in_default-first_free c =
-    let q = sym c.find_empty.ensures ∙ c.in-At.is in
+    let q = sym c.find_empty.ensures ∙ c.in-Some.is in
     let f = sym c.first_free.ensures ∙ c.in_default-first_free.is in rw (q, f)
 
 pub returns : goal.returns
 unfolding write_new_rule
 returns c =
-    let q = sym c.find_empty.ensures ∙ c.in-At.is in
-    let f = sym c.first_free.ensures ∙ c.in-At-first_free.is in rw (q, f)
+    let q = sym c.find_empty.ensures ∙ c.in-Some.is in
+    let f = sym c.first_free.ensures ∙ c.in-Some-first_free.is in rw (q, f)

@@ -34,5 +34,5 @@ returns c =
         first = nothing_beside eight_inch;
       },
       λ map buffer at. makes_due eight_inch s.args.asked _ _ d.right s.requires.2.user_low s.requires.0 _ _ u at s.requires.1 _ c.find_empty-made.ensures
-          (sym ((let target' : let a = c.args in c.find_file.result ≡ find_file_rule eight_inch (entry_at eight_inch a.image.now) a.session.user a.fcb.now 1 (target_extent a.asked.number a.fcb.now) = rw c.target_of-target.ensures.extent at c.find_file.ensures in target')) ∙ c.in-Nothing.is),
+          (sym ((let target' : let a = c.args in c.find_file.result ≡ find_file_rule eight_inch (entry_at eight_inch a.image.now) a.session.user a.fcb.now 1 (target_extent a.asked.number a.fcb.now) = rw c.target_of-target.ensures.extent at c.find_file.ensures in target')) ∙ c.in-None.is),
     )

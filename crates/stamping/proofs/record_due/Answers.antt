@@ -1,11 +1,11 @@
 -- A call that stays stamps nothing; one that moves goes by its FCB's entry, and without one is refused.
+use Rattle.std.specs.Prelude.{Some}
 use mathlib.Core.Path.{◌≡◌, sym, ◌∙◌}
 use mathlib.Core.Bool.{false}
 use borrow.Author.Tests.{eq-eqb, ne_eqb}
 use Rattle.format.specs.Diskette.{eight_inch}
 use Rattle.format.specs.Entries.{entry_at}
 use Rattle.format.specs.Fcb.{current}
-use Rattle.format.specs.declared.Found.TheVariants.{At}
 use Rattle.model.specs.Lent.{lend}
 use Rattle.model.specs.Target.{present_entry, stays}
 use Rattle.stamping.specs.Dated.{current_beside}
@@ -42,8 +42,8 @@ move_due-requires c =
       (let moves' : let a = c.args in stays a.asked.number a.fcb.now ≡ false = rw (← c.target_of-target.ensures.extent, ← c.extent.ensures.0) (ne_eqb _ _ c.if-target-extent.false) in moves'),
       s.requires.1,
       d,
-      current_beside s.args.image.now d.right d.dates s.args.map.now s.args.session.user s.args.fcb.now s.requires.1.user_low _ ((let found' : let a = c.args in current eight_inch (entry_at eight_inch a.image.now) a.map.now a.session.user a.fcb.now ≡ At c.in-At.e = sym c.current_entry.ensures ∙ c.in-At.is in found')),
+      current_beside s.args.image.now d.right d.dates s.args.map.now s.args.session.user s.args.fcb.now s.requires.1.user_low _ ((let found' : let a = c.args in current eight_inch (entry_at eight_inch a.image.now) a.map.now a.session.user a.fcb.now ≡ Some c.in-Some.e = sym c.current_entry.ensures ∙ c.in-Some.is in found')),
     )
 
 pub returns : goal.returns
-returns c = (c.move_due.ensures.0, λ buffer. c.move_due.ensures.1 c.args.map.now buffer ((let found' : let a = c.args in current eight_inch (entry_at eight_inch a.image.now) a.map.now a.session.user a.fcb.now ≡ At c.in-At.e = sym c.current_entry.ensures ∙ c.in-At.is in found')))
+returns c = (c.move_due.ensures.0, λ buffer. c.move_due.ensures.1 c.args.map.now buffer ((let found' : let a = c.args in current eight_inch (entry_at eight_inch a.image.now) a.map.now a.session.user a.fcb.now ≡ Some c.in-Some.e = sym c.current_entry.ensures ∙ c.in-Some.is in found')))

@@ -5,8 +5,8 @@ use Rattle.stamps.proofs.put_update.Goals as goal
 pub put_stamp-requires : goal.put_stamp-requires
 put_stamp-requires c =
     let s = c in
-    let b = s.requires.1 c.in-At.e c.in-At.is in
+    let b = s.requires.1 c.in-Some.e c.in-Some.is in
     search rules
 
 pub returns : goal.returns
-returns c = rw c.in-At.is c.put_stamp.ensures
+returns c = rw c.in-Some.is c.put_stamp.ensures
