@@ -8,7 +8,6 @@ ghost use Rattle.format.specs.Fcb.{fcb_bytes, fcb_right_rule, current};
 ghost use Rattle.slots.specs.Slots.{slots_same_rule};
 ghost use Rattle.chains.specs.Chain.{Findable};
 
-
 // Whether an FCB's name, ex, s2 and cr are in range.
 fn fcb_right(fcb: &[u8]) -> bool
     requires { length fcb.now ≡ fcb_bytes }

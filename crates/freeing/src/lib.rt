@@ -6,7 +6,6 @@ ghost use Rattle.format.specs.Diskette.{eight_inch};
 ghost use Rattle.format.specs.Notes.{settled_note_rule, freed_map, held_for_rule};
 ghost use Rattle.freeing.specs.Freeing.{unlisted_slot, unlisted_map, unheld_note_rule, unheld_map, marks_pick};
 
-
 // The note without what is pending.
 fn settled_note(n: u16) -> u16
     ensures { result ≡ settled_note_rule n }

@@ -9,7 +9,6 @@ ghost use Rattle.format.specs.Notes.{held_by_used_rule, note_right_rule, map_rig
 ghost use Rattle.fresh.specs.Note.{told_note_rule};
 ghost use Rattle.maps.specs.Told.{difference_count, area_right_rule};
 
-
 // Whether a note is pending for a used entry.
 fn held_by_used(n: u16, image: &[u8]) -> bool
     requires { Long eight_inch image.now }

@@ -6,7 +6,6 @@ ghost use Rattle.format.specs.Diskette.{eight_inch, slot_count};
 ghost use Rattle.format.specs.Notes.{free_note, note_at_rule, pending_for, with_note, find_free, free_count_rule};
 ghost use Rattle.notes.specs.Holder.{holder_of};
 
-
 // The numbers of notes. From PENDING on, each entry has PLACES of them, one for each of its slots.
 pub const FREE: u16 = 0;
 
