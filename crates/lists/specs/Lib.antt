@@ -1,3 +1,4 @@
+pub mod Ranges
 pub mod Cases
 pub mod Tests
 pub mod Below

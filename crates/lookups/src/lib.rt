@@ -38,14 +38,7 @@ pub fn find_named(image: &[u8], wild: bool, user: u8, s: &[u8], q: usize) -> Opt
     requires { Long eight_inch image.now × (q + name_bytes ≤ length s.now) }
     ensures { result ≡ find_named_rule eight_inch (entry_at eight_inch image.now) wild user s.now q }
 {
-    let mut e = 0;
-    while e < ENTRIES {
-        if is_named(wild, user, s, q, rows::row(image, e)) {
-            return Some(e);
-        }
-        e += 1;
-    }
-    None
+    (0..ENTRIES).find(|&e| is_named(wild, user, s, q, rows::row(image, e)))
 }
 
 // The first empty entry.
@@ -53,12 +46,5 @@ pub fn find_empty(image: &[u8]) -> Option<usize>
     requires { Long eight_inch image.now }
     ensures { result ≡ find_empty_rule eight_inch (entry_at eight_inch image.now) }
 {
-    let mut e = 0;
-    while e < ENTRIES {
-        if rows::row(image, e)[0] == 0xE5 {
-            return Some(e);
-        }
-        e += 1;
-    }
-    None
+    (0..ENTRIES).find(|&e| rows::row(image, e)[0] == 0xE5)
 }
