@@ -22,6 +22,7 @@ use chains::CHAIN_BYTES;
 
 // What a pass over the directory has seen: a mark for each block that is listed, the entries by their keys, the label's entry, and how many
 // date entries were met. Where the image is consistent, calls go by it.
+#[derive(Drop)]
 pub struct Seen {
     pub marks: [u8; MARKS],
     pub chain: [u8; CHAIN_BYTES],
