@@ -48,8 +48,7 @@ pub fn parameters_right(
     if 15 < session.user {
         return false;
     }
-    let place = session.place as usize;
-    if format::ENTRIES < place {
+    if format::ENTRIES < usize::from(session.place) {
         return false;
     }
     if !time_right(asked) {

@@ -12,29 +12,29 @@ use model::{Answer, Code, Session};
 fn end_search(s: Session) -> Session
     ensures { result ≡ ended s }
 {
-    let mut t = s;
-    t.place = 0;
-    t.on = 0;
-    t
+    Session {
+        place: 0,
+        on: 0,
+        ..s
+    }
 }
 
 // The session with a search that goes on from a place.
 pub fn search_from(s: Session, pattern: [u8; 12], place: u16) -> Session
     ensures { result ≡ searching s pattern place }
 {
-    let mut t = s;
-    t.pattern = pattern;
-    t.place = place;
-    t.on = 1;
-    t
+    Session {
+        pattern,
+        place,
+        on: 1,
+        ..s
+    }
 }
 
 pub fn set_user(s: Session, user: u8) -> Session
     ensures { result ≡ with_user s user }
 {
-    let mut t = s;
-    t.user = user;
-    t
+    Session { user, ..s }
 }
 
 // A code's line: A, H, and whether a search is over with it, as document 01 has them.
@@ -68,19 +68,15 @@ fn line_of(code: Code) -> Line
 pub fn refuse(code: Code, session: Session) -> Answer
     ensures { result ≡ answer_of code (refused_session code session) }
 {
-    let said = line_of(code);
-    if said.2 {
+    let Line(a, h, over) = line_of(code);
+    if over {
         return Answer {
-            a: said.0,
-            h: said.1,
+            a,
+            h,
             session: end_search(session),
         };
     }
-    Answer {
-        a: said.0,
-        h: said.1,
-        session,
-    }
+    Answer { a, h, session }
 }
 
 // A call accepted, with the session that it leaves: A is a, H is 0.

@@ -13,6 +13,7 @@ ghost use Rattle.chains.specs.Chain.{Indexed};
 ghost use Rattle.table.specs.Facts.{Ready};
 ghost use Rattle.table.specs.Protection.{Unchanging};
 
+use consistent::Seen;
 use model::{Answer, Asked, Code, Kind, Session};
 
 // A call other than 13 that the first three rows have passed; of a protected session, one that does not change the disk. Its own function and, on a
@@ -26,7 +27,7 @@ fn passed_call(
     buffer: &mut [u8],
     session: Session,
     chain: &[u8],
-    label: u8,
+    label: Option<usize>,
 ) -> Answer
     requires { (kind ≡ kind_of asked.number) × (is_call asked.number ≡ true) × (asked.number ≡ 13 → ⊥)
         × Ready eight_inch asked (lend image.old map.old fcb.old buffer.old) session
@@ -57,7 +58,7 @@ fn ready_call(
     buffer: &mut [u8],
     session: Session,
     chain: &[u8],
-    label: u8,
+    label: Option<usize>,
 ) -> Answer
     requires { (kind ≡ kind_of asked.number) × (is_call asked.number ≡ true) × (asked.number ≡ 13 → ⊥)
         × Ready eight_inch asked (lend image.old map.old fcb.old buffer.old) session
@@ -92,15 +93,12 @@ pub fn call(
     if !admission::parameters_right(asked, image, map, fcb, buffer, session) {
         return answers::refuse(Code::BadParameter, session);
     }
-    let mut marks = [0u8; format::MARKS];
-    let mut chain = [0u8; chains::CHAIN_BYTES];
-    let mut aside = [0u8; 2];
-    if !checking::disk_right(asked, image, map, &mut marks, &mut chain, &mut aside) {
+    let mut seen = Seen::new();
+    if !checking::disk_right(asked, image, map, &mut seen) {
         return answers::refuse(Code::BadDisk, session);
     }
     if number == 13 {
-        return plain::log_in(map, &marks, session);
+        return plain::log_in(map, &seen.marks, session);
     }
-    let label = aside[0];
-    ready_call(kind, asked, image, map, fcb, buffer, session, &chain, label)
+    ready_call(kind, asked, image, map, fcb, buffer, session, &seen.chain, seen.label)
 }

@@ -30,7 +30,8 @@ fn same_file(r: &[u8], t: &[u8]) -> bool
     lookups::is_file(t[0], t, 1, entries::extent(t), r)
 }
 
-// Whether no entry before e, whose row is r, is of the same file: only those of its key are looked at.
+// Whether no entry before e, whose row is r, is of the same file: only those of its key are looked at. A link says where the next look is, so
+// the walk is a `while`: no range or list has its places.
 fn is_alone(image: &[u8], e: usize, r: &[u8], chain: &[u8]) -> bool
     requires { Long eight_inch image.now × (e < eight_inch.entries)
         × (entry_bytes ≤ length r.now) × (r.now ≡ entry_at eight_inch image.now e) × (used r.now ≡ true)
@@ -61,7 +62,7 @@ pub fn take_key(image: &[u8], e: usize, r: &[u8], chain: &mut [u8]) -> bool
     is_alone(image, e, r, chain)
 }
 
-// The entry of this user, name and extent: only those of its key are looked at.
+// The entry of this user, name and extent: only those of its key are looked at, again from link to link.
 pub fn find_file(
     image: &[u8],
     chain: &[u8],

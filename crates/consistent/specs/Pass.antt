@@ -1,18 +1,20 @@
 -- The pass over the directory: what is tested at each entry, and what stands after the first n entries.
-use Rattle.std.specs.Prelude.{◌≡◌, refl, Bool, true, false, cond, eqb, get_or, length, set}
+use Rattle.std.specs.Option.{is_some}
+use Rattle.std.specs.Prelude.{◌≡◌, refl, Bool, true, false, not, cond, eqb, get_or, None, Option, Some}
 use Rattle.std.proofs.Math.Path.{ap, sym}
-use Rattle.std.proofs.Common.{◌∙◌, add-zero, length-set, get_or-set_same, get_or-set_other, eqb-true, eq-eqb}
+use Rattle.std.proofs.Common.{◌∙◌, add-zero, eqb-true, eq-eqb}
 use Prim.Native.Nat.{ℕ, zero, suc, ◌+◌, ◌*◌, ◌/◌, ◌%◌, ◌≤◌, ◌<◌}
 use native.Mathlib.Omega.{arith}
 use Rattle.std.proofs.lemmas.Bool.{eqb-false}
-use Rattle.lists.specs.Cases.{split, bool_cases, bool_ext, refute, not_both}
+use Rattle.lists.specs.Cases.{split, bool_cases, bool_ext, refute, not_both, clash}
 use Rattle.lists.specs.Tests.{◌and◌, and_left, and_right, and_both, and_then, and_assoc, and_first, and_fails_left, and_fails_right, or_left, or_then, or_first}
 use Rattle.lists.specs.Below.{all_below, all_none, all_at, all_intro, all_more, all_fails}
-use Rattle.format.specs.Diskette.{Bytes, Geometry, Sound, Long, record_at, slot_count, entries_per_record}
+use Rattle.format.specs.Diskette.{Bytes, eight_inch, Geometry, Sound, Long, record_at, slot_count, entries_per_record}
 use Rattle.format.specs.Entries.{Rows, entry_at, slot_of, empty, used}
 use Rattle.format.specs.Dates.{is_label, label_right_rule, dates_right_rule}
 use Rattle.format.specs.Consistent.{slots_right, file_right, aside_right, entry_right, slots_in_all, listed_once, alone, dates_placed, label_once, places_right, consistent_rows}
 use Rattle.facts.specs.Marks.{mark_count}
+use Rattle.facts.specs.Slots.{slot_byte}
 use Rattle.rows.specs.Entries.{row_of, row_in_record}
 use Rattle.dates.specs.Label.{Labelled, labelled_start, labelled_skip, labelled_take, plain_once, first_once, again_fails}
 use Rattle.consistency.specs.Listed.{listed_unused}
@@ -20,29 +22,44 @@ use Rattle.consistency.specs.Reflect.{used_full, empty_unused, empty_right, empt
 use Rattle.heads.specs.Head.{fields_right_rule, row_right_rule}
 use Rattle.blocks.specs.BlockMarks.{BlockMarks, mark_slots, slots_free, marks_skip, marks_row, slots_right_law}
 use Rattle.chains.specs.Chain.{Chained, chained_skip, Indexed}
-use Rattle.consistent.specs.Dating.{Dating, next_dates, dating_start, dating_skip, dating_take, dating_wrong}
+use Rattle.consistent.specs.declared.Seen.{Seen}
+use Rattle.consistent.specs.Dating.{Dating, next_dates, dating_start, dating_skip, dating_take, dating_wrong, dating_none, dating_end}
+
+-- a look-up that has found nothing
+missed : (b : Option ℕ) → not (is_some b) ≡ true → b ≡ None
+missed None t = refl
+missed (Some e) t = clash (sym t)
+
+-- the slots of a row that is an entry's, one byte each, can be taken among the marks
+pub slots_low : (d : Rows) (e : ℕ) (r : Bytes) → r ≡ d e → ((i : ℕ) → get_or r i 0 < 256) → (j : ℕ) → j < slot_count → slot_of eight_inch (d e) j < mark_count
+slots_low d e r q bytes j h = rw (slot_byte (d e) j h) (rw q at (bytes (16 + j)))
 
 -- entry e passes: it is right, its blocks do not stand before, it is alone, and the first label if it is one
 unfoldable pub entry_fits : Geometry → Rows → ℕ → Bool
 entry_fits G d e =
     entry_right G (d e) and all_below (λ (j : ℕ). listed_once G d (slot_count * e + j)) slot_count and alone G d e and label_once d e
 
--- what stands after the first n entries; of the bytes aside, byte 0 is one more than the label's entry or 0, and byte 1 is how many date
--- entries were met
-pub record Passed (G : Geometry) (d : Rows) (n : ℕ) (marks chain aside : Bytes) : Type 0 where
+-- what stands after the first n entries, by what was seen of them
+pub record Passed (G : Geometry) (d : Rows) (n : ℕ) (s : Seen) : Type 0 where
   pub fits : all_below (entry_fits G d) n ≡ true
-  pub blocks : BlockMarks G d (slot_count * n) marks
-  pub chained : Chained G d n chain
-  pub two : length aside ≡ 2
-  pub labelled : Labelled d n (get_or aside 0 0)
-  pub dating : Dating d n (get_or aside 1 0)
+  pub blocks : BlockMarks G d (slot_count * n) s.marks
+  pub chained : Chained G d n s.chain
+  pub labelled : Labelled d n s.label
+  pub dating : Dating d n s.dates
 
--- whether entry e, whose row is neither empty nor a file's, is a right date entry or the first label, and then the bytes aside after it
-unfoldable pub aside_taken : ℕ → Bytes → Bytes → Bool
-aside_taken e r aside = cond (dates_right_rule r) (eqb e (next_dates (get_or aside 1 0))) (eqb (get_or aside 0 0) 0 and label_right_rule r)
+-- the same, but for the count of the date entries, or for the label
+abbrev pub with_dates : Seen → ℕ → Seen
+with_dates s k = record { marks = s.marks; chain = s.chain; label = s.label; dates = k }
 
-unfoldable pub aside_after : ℕ → Bytes → Bytes → Bytes
-aside_after e r aside = cond (dates_right_rule r) (set aside 1 (get_or aside 1 0 + 1)) (set aside 0 (e + 1))
+abbrev pub with_label : Seen → Option ℕ → Seen
+with_label s b = record { marks = s.marks; chain = s.chain; label = b; dates = s.dates }
+
+-- whether entry e, whose row is neither empty nor a file's, is a right date entry or the first label, and then what was seen with it
+unfoldable pub aside_taken : ℕ → Bytes → Seen → Bool
+aside_taken e r s = cond (dates_right_rule r) (eqb e (next_dates s.dates)) (not (is_some s.label) and label_right_rule r)
+
+unfoldable pub aside_after : ℕ → Bytes → Seen → Seen
+aside_after e r s = cond (dates_right_rule r) (with_dates s (s.dates + 1)) (with_label s (Some e))
 
 -- ---- the directory is consistent when each entry passes and the date entries stand where they have to
 module _ (G : Geometry) (d : Rows) where
@@ -121,12 +138,12 @@ module _ (G : Geometry) (d : Rows) (e : ℕ) where
       let file = sym (and_assoc _ _ _ ∙ ap (λ (b : Bool). used (d e) and b) (and_assoc _ _ _)) ∙ and_fails_left _ _ r in
       sym (or_first _ _ n) ∙ sym (or_then _ _ file) ∙ sym (or_then _ _ h) ∙ t
 
-  first_label : (b : ℕ) → Labelled d e b → is_label (d e) ≡ true → label_once d e ≡ true → eqb b 0 ≡ true
-  first_label zero l i o = refl
-  first_label (suc b) l i o = not_both (label_once d e) o (again_fails d e b l i)
+  first_label : (b : Option ℕ) → Labelled d e b → is_label (d e) ≡ true → label_once d e ≡ true → not (is_some b) ≡ true
+  first_label None l i o = refl
+  first_label (Some b) l i o = not_both (label_once d e) o (again_fails d e b l i)
 
   -- so of such a row being the first label, and a right one, decides
-  label_fails : (b : ℕ) → empty (d e) ≡ false → row_right_rule (d e) ≡ false → dates_right_rule (d e) ≡ false → Labelled d e b → (eqb b 0 and label_right_rule (d e)) ≡ false → entry_fits G d e ≡ false
+  label_fails : (b : Option ℕ) → empty (d e) ≡ false → row_right_rule (d e) ≡ false → dates_right_rule (d e) ≡ false → Labelled d e b → (not (is_some b) and label_right_rule (d e)) ≡ false → entry_fits G d e ≡ false
   label_fails b h r n l f =
       sym (refute _ (λ t. let a = left_label h r n (fits_right t) in
       not_both _ (and_both _ _ (first_label b l (label_is (d e) a) (fits_labelled t)) a) f))
@@ -160,99 +177,98 @@ module _ (G : Geometry) (d : Rows) (e : ℕ) where
 
 -- ---- what stands before the first entry, and after one more
 module _ (G : Geometry) (d : Rows) where
-  pub passed_none : (marks chain aside : Bytes) → BlockMarks G d 0 marks → Chained G d 0 chain → length aside ≡ 2 → Passed G d 0 marks chain (set (set aside 0 0) 1 0)
-  passed_none marks chain aside m c o =
-      let w : length (set aside 0 0) ≡ 2 = simp length-set o in
-      record {
-        fits = all_none _;
-        blocks = m;
-        chained = c;
-        two = simp length-set o;
-        labelled = rw (get_or-set_other (set aside 0 0) 1 0 0 0 (λ z. omega arith), get_or-set_same aside 0 0 0 (omega arith)) (labelled_start d);
-        dating = rw (get_or-set_same (set aside 0 0) 1 0 0 (omega arith)) (dating_start d);
-      }
+  pub passed_none : (marks chain : Bytes) → BlockMarks G d 0 marks → Chained G d 0 chain
+      → Passed G d 0 record { marks = marks; chain = chain; label = None; dates = 0 }
+  passed_none marks chain m c = record { fits = all_none _; blocks = m; chained = c; labelled = labelled_start d; dating = dating_start d }
 
-  module _ (e : ℕ) (marks chain aside : Bytes) (p : Passed G d e marks chain aside) where
+  module _ (e : ℕ) (s : Seen) (p : Passed G d e s) where
     -- an entry that is not used leaves marks and chain
-    unused_passed : (after : Bytes) → entry_fits G d e ≡ true → used (d e) ≡ false → length after ≡ 2 → Labelled d (e + 1) (get_or after 0 0) → Dating d (e + 1) (get_or after 1 0)
-        → Passed G d (e + 1) marks chain after
-    unused_passed after f u o l t = record {
+    unused_passed : (b : Option ℕ) (k : ℕ) → entry_fits G d e ≡ true → used (d e) ≡ false → Labelled d (e + 1) b → Dating d (e + 1) k
+        → Passed G d (e + 1) record { marks = s.marks; chain = s.chain; label = b; dates = k }
+    unused_passed b k f u l t = record {
       fits = all_more _ e p.fits f;
-      blocks = marks_skip G d e marks u p.blocks;
-      chained = chained_skip G d e chain u p.chained;
-      two = o;
+      blocks = marks_skip G d e s.marks u p.blocks;
+      chained = chained_skip G d e s.chain u p.chained;
       labelled = l;
       dating = t;
     }
 
-    pub passed_empty : empty (d e) ≡ true → Passed G d (e + 1) marks chain aside
+    pub passed_empty : empty (d e) ≡ true → Passed G d (e + 1) s
     passed_empty z =
         let label = empty_no_label (d e) z in let u = empty_unused (d e) z in
-        unused_passed aside (unused_fits G d e (empty_right G (d e) z) u (plain_once d e label)) u p.two
+        unused_passed s.label s.dates (unused_fits G d e (empty_right G (d e) z) u (plain_once d e label)) u
         (labelled_skip d e _ label p.labelled) (dating_skip d e _ (empty_no_dates (d e) z) p.dating)
 
-    dates_passed : dates_right_rule (d e) ≡ true → e ≡ next_dates (get_or aside 1 0) → Passed G d (e + 1) marks chain (set aside 1 (get_or aside 1 0 + 1))
+    dates_passed : dates_right_rule (d e) ≡ true → e ≡ next_dates s.dates → Passed G d (e + 1) (with_dates s (s.dates + 1))
     dates_passed h q =
-        let i = dates_is (d e) h in let a = dates_aside (d e) h in let label = dates_no_label (d e) i in let o : length aside ≡ 2 = p.two in
-        unused_passed (set aside 1 (get_or aside 1 0 + 1)) (aside_fits G d e a (plain_once d e label)) (aside_unused (d e) a) (simp length-set o)
-        (rw (get_or-set_other aside 1 0 (get_or aside 1 0 + 1) 0 (λ z. omega arith)) (labelled_skip d e _ label p.labelled))
-        (rw (get_or-set_same aside 1 (get_or aside 1 0 + 1) 0 (omega arith)) (dating_take d e _ i q p.dating))
+        let i = dates_is (d e) h in let a = dates_aside (d e) h in let label = dates_no_label (d e) i in
+        unused_passed s.label (s.dates + 1) (aside_fits G d e a (plain_once d e label)) (aside_unused (d e) a)
+        (labelled_skip d e _ label p.labelled) (dating_take d e _ i q p.dating)
 
-    label_passed : label_right_rule (d e) ≡ true → get_or aside 0 0 ≡ 0 → Passed G d (e + 1) marks chain (set aside 0 (e + 1))
+    label_passed : label_right_rule (d e) ≡ true → not (is_some s.label) ≡ true → Passed G d (e + 1) (with_label s (Some e))
     label_passed h z =
-        let i = label_is (d e) h in let a = label_aside (d e) h in let o : length aside ≡ 2 = p.two in
-        unused_passed (set aside 0 (e + 1)) (aside_fits G d e a (first_once d e (rw z at p.labelled))) (aside_unused (d e) a) (simp length-set o)
-        (rw (get_or-set_same aside 0 (e + 1) 0 (omega arith)) (labelled_take d e i))
-        (rw (get_or-set_other aside 0 1 (e + 1) 0 (λ q. omega arith)) (dating_skip d e _ (label_no_dates (d e) i) p.dating))
+        let i = label_is (d e) h in let a = label_aside (d e) h in
+        unused_passed (Some e) s.dates (aside_fits G d e a (first_once d e (rw (missed s.label z) at p.labelled))) (aside_unused (d e) a)
+        (labelled_take d e i) (dating_skip d e _ (label_no_dates (d e) i) p.dating)
 
-    pub aside_passed : aside_taken e (d e) aside ≡ true → Passed G d (e + 1) marks chain (aside_after e (d e) aside)
+    pub aside_passed : aside_taken e (d e) s ≡ true → Passed G d (e + 1) (aside_after e (d e) s)
     unfolding aside_taken aside_after
     aside_passed t =
         split (bool_cases (dates_right_rule (d e))) (λ q. rw q (dates_passed q (eqb-true _ _ (rw q at t))))
-        (λ q. let both = rw q at t in rw q (label_passed (and_right _ _ both) (eqb-true _ _ (and_left _ _ both))))
+        (λ q. let both = rw q at t in rw q (label_passed (and_right _ _ both) (and_left _ _ both)))
 
-    pub aside_fails : Sound G → e < G.entries → empty (d e) ≡ false → row_right_rule (d e) ≡ false → aside_taken e (d e) aside ≡ false → consistent_rows G d ≡ false
+    pub aside_fails : Sound G → e < G.entries → empty (d e) ≡ false → row_right_rule (d e) ≡ false → aside_taken e (d e) s ≡ false → consistent_rows G d ≡ false
     unfolding aside_taken
     aside_fails S h z r t =
         split (bool_cases (dates_right_rule (d e)))
-        (λ q. pass_all G d ∙ and_fails_right _ _ (dating_wrong S d e (get_or aside 1 0) h (dates_is (d e) q) (eqb-false _ _ (rw q at t)) p.dating))
-        (λ q. entry_fails G d e h (label_fails G d e (get_or aside 0 0) z r q p.labelled (rw q at t)))
+        (λ q. pass_all G d ∙ and_fails_right _ _ (dating_wrong S d e s.dates h (dates_is (d e) q) (eqb-false _ _ (rw q at t)) p.dating))
+        (λ q. entry_fails G d e h (label_fails G d e s.label z r q p.labelled (rw q at t)))
 
     -- an entry that is a file's, on a disk whose block numbers are one byte
-    pub passed_used : (narrow : (r : Bytes) (j : ℕ) → j < slot_count → slot_of G r j ≡ get_or r (16 + j) 0) (marks' chain' : Bytes) → row_right_rule (d e) ≡ true
-        → ((j : ℕ) → j < slot_count → slot_of G (d e) j < mark_count) → entry_fits G d e ≡ true → marks' ≡ mark_slots marks (d e) slot_count
-        → Chained G d (e + 1) chain' → Passed G d (e + 1) marks' chain' aside
-    passed_used narrow marks' chain' r bytes f q l =
+    pub passed_used : (narrow : (r : Bytes) (j : ℕ) → j < slot_count → slot_of G r j ≡ get_or r (16 + j) 0) (marks chain : Bytes) → row_right_rule (d e) ≡ true
+        → ((j : ℕ) → j < slot_count → slot_of G (d e) j < mark_count) → entry_fits G d e ≡ true → marks ≡ mark_slots s.marks (d e) slot_count
+        → Chained G d (e + 1) chain → Passed G d (e + 1) record { marks = marks; chain = chain; label = s.label; dates = s.dates }
+    passed_used narrow marks chain r bytes f q l =
         let u = row_used (d e) r in
         record {
           fits = all_more _ e p.fits f;
-          blocks = rw q (marks_row G d narrow e marks u bytes p.blocks);
+          blocks = rw q (marks_row G d narrow e s.marks u bytes p.blocks);
           chained = l;
-          two = p.two;
           labelled = labelled_skip d e _ (used_no_label (d e) u) p.labelled;
           dating = dating_skip d e _ (used_no_dates (d e) u) p.dating;
         }
 
   -- entries that are all empty
-  passed_empties : (m n : ℕ) → ((i : ℕ) → i < n → empty (d (m + i)) ≡ true) → (marks chain aside : Bytes) → Passed G d m marks chain aside → Passed G d (m + n) marks chain aside
-  passed_empties m zero h marks chain aside p = rw add-zero p
-  passed_empties m (suc n) h marks chain aside p =
+  passed_empties : (m n : ℕ) → ((i : ℕ) → i < n → empty (d (m + i)) ≡ true) → (s : Seen) → Passed G d m s → Passed G d (m + n) s
+  passed_empties m zero h s p = rw add-zero p
+  passed_empties m (suc n) h s p =
       let q : m + n + 1 ≡ m + suc n = omega arith in
-      rw q at (passed_empty (m + n) marks chain aside (passed_empties m n (λ i l. h i (omega arith)) marks chain aside p) (h n (omega arith)))
+      rw q at (passed_empty (m + n) s (passed_empties m n (λ i l. h i (omega arith)) s p) (h n (omega arith)))
 
   -- ---- what stands at the end: a look-up can go by the chains
-  pub passed_all : (marks chain aside : Bytes) → Passed G d G.entries marks chain aside → Indexed G d chain
+  pub passed_all : (s : Seen) → Passed G d G.entries s → Indexed G d s.chain
   unfolding entry_fits
-  passed_all marks chain aside p = record {
+  passed_all s p = record {
     chained = p.chained;
     single = λ e h. and_left _ _ (and_right _ _ (and_right _ _ (all_at _ G.entries p.fits e h)));
   }
 
+  -- and the count of the date entries tells the rest
+  module _ (S : Sound G) (s : Seen) (p : Passed G d G.entries s) where
+    dates_left : consistent_rows G d ≡ all_below (dates_placed d) G.entries
+    dates_left = pass_all G d ∙ and_then _ _ p.fits
+
+    pub passed_undated : s.dates ≡ 0 → consistent_rows G d ≡ true
+    passed_undated z = dates_left ∙ dating_none S d (rw z at p.dating)
+
+    pub passed_dated : (s.dates ≡ 0 → ⊥) → consistent_rows G d ≡ eqb s.dates (G.entries / entries_per_record)
+    passed_dated some = dates_left ∙ dating_end S d s.dates some p.dating
+
 -- the first n rows of a record, where they are all empty
 pub passed_rows : {G : Geometry} → Sound G → (img : Bytes) → Long G img → (k : ℕ) → entries_per_record * k < G.entries → (n : ℕ) → n ≤ entries_per_record → (four : Bytes) → four ≡ record_at G img k
-    → all_below (λ (i : ℕ). empty (row_of four i)) n ≡ true → (marks chain aside : Bytes) → Passed G (entry_at G img) (entries_per_record * k) marks chain aside
-    → Passed G (entry_at G img) (entries_per_record * k + n) marks chain aside
-passed_rows {G} S img long k h n l four q z marks chain aside p =
+    → all_below (λ (i : ℕ). empty (row_of four i)) n ≡ true → (s : Seen) → Passed G (entry_at G img) (entries_per_record * k) s
+    → Passed G (entry_at G img) (entries_per_record * k + n) s
+passed_rows {G} S img long k h n l four q z s p =
     let fours = S.fours in
     passed_empties G (entry_at G img) (entries_per_record * k) n
-    (λ i w. ap empty (sym (row_in_record S img long k i (omega arith) (omega arith)) ∙ ap (λ (f : Bytes). row_of f i) (sym q)) ∙ all_at _ n z i w) marks chain aside p
+    (λ i w. ap empty (sym (row_in_record S img long k i (omega arith) (omega arith)) ∙ ap (λ (f : Bytes). row_of f i) (sym q)) ∙ all_at _ n z i w) s p

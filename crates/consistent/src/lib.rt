@@ -1,148 +1,154 @@
 // Whether an image is consistent, decided in one pass over the directory. Every call of the file system asks this first.
 #![tactic(auto)]
 
-ghost use Rattle.std.specs.Prelude.{◌≡◌, true, false, ℕ, ◌+◌, ◌*◌, ◌/◌, ◌%◌, ◌≤◌, ◌<◌, eqb, length, get_or, set};
+ghost use Rattle.std.specs.Prelude.{◌≡◌, true, false, ℕ, ◌+◌, ◌*◌, ◌≤◌, ◌<◌, not, eqb, length, Some};
+ghost use Rattle.std.specs.Option.{is_some};
 ghost use Rattle.lists.specs.Tests.{◌and◌};
 ghost use Rattle.lists.specs.Below.{all_below};
 ghost use Rattle.format.specs.Diskette.{eight_inch, Long, record_bytes, entry_bytes, entries_per_record};
 ghost use Rattle.format.specs.Entries.{entry_at, empty};
 ghost use Rattle.format.specs.Dates.{label_right_rule};
 ghost use Rattle.format.specs.Consistent.{consistent, consistent_rows};
-ghost use Rattle.facts.specs.Marks.{mark_count, Marked};
+ghost use Rattle.facts.specs.Marks.{Marked};
 ghost use Rattle.rows.specs.Entries.{row_of};
 ghost use Rattle.dates.specs.Label.{Labelled};
-ghost use Rattle.chains.specs.Chain.{chain_bytes, Indexed};
+ghost use Rattle.chains.specs.Chain.{Indexed};
 ghost use Rattle.consistent.specs.Dating.{next_dates};
-ghost use Rattle.consistent.specs.Pass.{Passed, aside_taken, aside_after};
+ghost use Rattle.consistent.specs.Pass.{Passed, with_dates, with_label, aside_taken, aside_after};
 
-use format::{DIRECTORY_RECORDS, ENTRIES_PER_RECORD, ENTRY_BYTES, RECORD_BYTES};
+use format::{DIRECTORY_RECORDS, ENTRIES_PER_RECORD, ENTRY_BYTES, MARKS};
 
-// Whether entry e, a right date entry, stands where the next one has to: in the fourth position of the first record without one. Then byte 1
-// counts it.
-fn take_dates(e: usize, aside: &mut [u8]) -> bool
-    requires { (e < eight_inch.entries) × (length aside.old ≡ 2) }
-    ensures { (result ≡ eqb e (next_dates (get_or aside.old 1 0)))
-        × (result ≡ true → aside.new ≡ set aside.old 1 (get_or aside.old 1 0 + 1)) }
+use chains::CHAIN_BYTES;
+
+// What a pass over the directory has seen: a mark for each block that is listed, the entries by their keys, the label's entry, and how many
+// date entries were met. Where the image is consistent, calls go by it.
+#[derive(Drop)]
+pub struct Seen {
+    pub marks: [u8; MARKS],
+    pub chain: [u8; CHAIN_BYTES],
+    pub label: Option<usize>,
+    pub dates: usize,
+}
+
+impl Seen {
+    pub fn new() -> Self {
+        Seen {
+            marks: [0; MARKS],
+            chain: [0; CHAIN_BYTES],
+            label: None,
+            dates: 0,
+        }
+    }
+}
+
+// Whether entry e, a right date entry, stands where the next one has to: in the fourth position of the first record without one. Then it is
+// counted.
+fn take_dates(e: usize, seen: &mut Seen) -> bool
+    requires { (e < eight_inch.entries) × (entries_per_record * seen.old.dates ≤ e) }
+    ensures { (result ≡ eqb e (next_dates seen.old.dates))
+        × (result ≡ true → seen.new ≡ with_dates seen.old (seen.old.dates + 1)) }
 {
-    let n = lists::wide(aside[1]);
-    if e != ENTRIES_PER_RECORD * n + 3 {
+    if e != ENTRIES_PER_RECORD * seen.dates + 3 {
         return false;
     }
-    aside[1] = (e / ENTRIES_PER_RECORD + 1) as u8;
+    seen.dates += 1;
     true
 }
 
-// Whether entry e, whose row r is no right date entry, is the first label, and right. Then byte 0 notes it down.
-fn take_label(e: usize, r: &[u8], aside: &mut [u8]) -> bool
-    requires { (e < eight_inch.entries) × (entry_bytes ≤ length r.now) × (length aside.old ≡ 2) }
-    ensures { (result ≡ (eqb (get_or aside.old 0 0) 0 and label_right_rule r.now))
-        × (result ≡ true → aside.new ≡ set aside.old 0 (e + 1)) }
+// Whether entry e, whose row r is no right date entry, is the first label, and right. Then it is noted down.
+fn take_label(e: usize, r: &[u8], seen: &mut Seen) -> bool
+    requires { (e < eight_inch.entries) × (entry_bytes ≤ length r.now) }
+    ensures { (result ≡ (not (is_some seen.old.label) and label_right_rule r.now))
+        × (result ≡ true → seen.new ≡ with_label seen.old (Some e)) }
 {
-    if aside[0] != 0 {
+    if seen.label.is_some() {
         return false;
     }
-    aside[0] = (e + 1) as u8;
+    seen.label = Some(e);
     dates::label_right(r)
 }
 
 // Whether entry e passes as a date entry or a label; its row r is neither empty nor right as a file's.
-fn take_aside(e: usize, r: &[u8], aside: &mut [u8]) -> bool
-    requires { (e < eight_inch.entries) × (entry_bytes ≤ length r.now) × (length aside.old ≡ 2) }
-    ensures { (result ≡ aside_taken e r.now aside.old)
-        × (result ≡ true → aside.new ≡ aside_after e r.now aside.old) }
+fn take_aside(e: usize, r: &[u8], seen: &mut Seen) -> bool
+    requires { (e < eight_inch.entries) × (entry_bytes ≤ length r.now) × (entries_per_record * seen.old.dates ≤ e) }
+    ensures { (result ≡ aside_taken e r.now seen.old)
+        × (result ≡ true → seen.new ≡ aside_after e r.now seen.old) }
 {
     if dates::dates_right(r) {
-        return take_dates(e, aside);
+        return take_dates(e, seen);
     }
-    take_label(e, r, aside)
+    take_label(e, r, seen)
 }
 
 // Whether entry e passes, after all before it have; r is its row. Most rows are empty or a file's, so these are told first.
-fn take_entry(
-    image: &[u8],
-    e: usize,
-    r: &[u8],
-    marks: &mut [u8],
-    chain: &mut [u8],
-    aside: &mut [u8],
-) -> bool
+fn take_entry(image: &[u8], e: usize, r: &[u8], seen: &mut Seen) -> bool
     requires { Long eight_inch image.now × (e < eight_inch.entries)
         × (entry_bytes ≤ length r.now) × (r.now ≡ entry_at eight_inch image.now e)
-        × Passed eight_inch (entry_at eight_inch image.now) e marks.old chain.old aside.old }
-    ensures { (result ≡ true → Passed eight_inch (entry_at eight_inch image.now) (e + 1) marks.new chain.new aside.new)
+        × Passed eight_inch (entry_at eight_inch image.now) e seen.old }
+    ensures { (result ≡ true → Passed eight_inch (entry_at eight_inch image.now) (e + 1) seen.new)
         × (result ≡ false → consistent_rows eight_inch (entry_at eight_inch image.now) ≡ false) }
 {
     if r[0] == 0xE5 {
         return true;
     }
     if !heads::row_right(r) {
-        return take_aside(e, r, aside);
+        return take_aside(e, r, seen);
     }
-    if !blocks::take_slots(marks, r) {
+    if !blocks::take_slots(&mut seen.marks, r) {
         return false;
     }
-    chains::take_key(image, e, r, chain)
+    chains::take_key(image, e, r, &mut seen.chain)
 }
 
-// Where the rows begin that are tested one by one. On a disk with date entries three empty rows are passed over at once.
-fn first_tested(four: &[u8], dates: u8) -> usize
+// The first of four rows that is tested. On a disk with date entries three empty rows are passed over at once.
+fn first_tested(four: &[u8], dates: usize) -> usize
     requires { length four.now ≡ record_bytes }
-    ensures { (all_below (λ (i : ℕ). empty (row_of four.now i)) (result / entry_bytes) ≡ true) × (result % entry_bytes ≡ 0) × (result ≤ record_bytes) }
+    ensures { (all_below (λ (i : ℕ). empty (row_of four.now i)) result ≡ true) × (result ≤ entries_per_record) }
 {
-    if dates != 0 {
-        if rows::three_empty(four) {
-            return rows::THREE_ROWS;
-        }
+    if dates != 0 && rows::three_empty(four) {
+        return 3;
     }
     0
 }
 
 // Whether the four entries of the directory's record d pass, after all before them have. A record's place is computed once for its four
 // rows, and four empty ones are passed over at once.
-fn take_record(image: &[u8], d: usize, marks: &mut [u8], chain: &mut [u8], aside: &mut [u8]) -> bool
+fn take_record(image: &[u8], d: usize, seen: &mut Seen) -> bool
     requires { Long eight_inch image.now × (entries_per_record * d < eight_inch.entries)
-        × Passed eight_inch (entry_at eight_inch image.now) (entries_per_record * d) marks.old chain.old aside.old }
-    ensures { (result ≡ true → Passed eight_inch (entry_at eight_inch image.now) (entries_per_record * d + entries_per_record) marks.new chain.new aside.new)
+        × Passed eight_inch (entry_at eight_inch image.now) (entries_per_record * d) seen.old }
+    ensures { (result ≡ true → Passed eight_inch (entry_at eight_inch image.now) (entries_per_record * d + entries_per_record) seen.new)
         × (result ≡ false → consistent_rows eight_inch (entry_at eight_inch image.now) ≡ false) }
 {
     let four = rows::four_rows(image, d);
     if rows::all_empty(four) {
         return true;
     }
-    let mut at = first_tested(four, aside[1]);
-    while at < RECORD_BYTES {
-        let e = ENTRIES_PER_RECORD * d + at / ENTRY_BYTES;
-        if !take_entry(image, e, rows::row_at(four, at), marks, chain, aside) {
+    for i in first_tested(four, seen.dates)..ENTRIES_PER_RECORD {
+        let r = rows::row_at(four, i * ENTRY_BYTES);
+        if !take_entry(image, ENTRIES_PER_RECORD * d + i, r, seen) {
             return false;
         }
-        at += ENTRY_BYTES;
     }
     true
 }
 
-// Whether the image is consistent. Where it is, the marks tell which blocks are listed, look-ups can go by the chains, and byte 0 of the two
-// aside is one more than the label's entry, or 0 where there is none.
-pub fn is_consistent(image: &[u8], marks: &mut [u8], chain: &mut [u8], aside: &mut [u8]) -> bool
-    requires { Long eight_inch image.now × (length marks.old ≡ mark_count) × (length chain.old ≡ chain_bytes eight_inch) × (length aside.old ≡ 2) }
+// Whether the image is consistent. Where it is, the marks tell which blocks are listed, look-ups can go by the chains, and the label is
+// found.
+pub fn is_consistent(image: &[u8], seen: &mut Seen) -> bool
+    requires { Long eight_inch image.now }
     ensures { (result ≡ consistent eight_inch image.now)
-        × (result ≡ true → Marked eight_inch (entry_at eight_inch image.now) marks.new
-        × Indexed eight_inch (entry_at eight_inch image.now) chain.new
-        × Labelled (entry_at eight_inch image.now) eight_inch.entries (get_or aside.new 0 0)) }
+        × (result ≡ true → Marked eight_inch (entry_at eight_inch image.now) seen.new.marks
+        × Indexed eight_inch (entry_at eight_inch image.now) seen.new.chain
+        × Labelled (entry_at eight_inch image.now) eight_inch.entries seen.new.label) }
 {
-    marks::start_marks(marks);
-    chains::start(chain);
-    aside[0] = 0;
-    aside[1] = 0;
-    let mut d = 0;
-    while d < DIRECTORY_RECORDS {
-        if !take_record(image, d, marks, chain, aside) {
+    marks::start_marks(&mut seen.marks);
+    chains::start(&mut seen.chain);
+    seen.label = None;
+    seen.dates = 0;
+    for d in 0..DIRECTORY_RECORDS {
+        if !take_record(image, d, seen) {
             return false;
         }
-        d += 1;
     }
-    let dates = lists::wide(aside[1]);
-    if dates == 0 {
-        return true;
-    }
-    dates == DIRECTORY_RECORDS
+    seen.dates == 0 || seen.dates == DIRECTORY_RECORDS
 }

@@ -34,7 +34,7 @@ pub struct Answer {
 }
 
 // What a call may change besides A, H and the search. `specs/Kinds.antt` lists the calls with their kinds.
-#[derive(Clone, Copy)]
+#[derive(Clone, Copy, PartialEq, Eq)]
 pub enum Kind {
     Unlisted,
     Quiet,

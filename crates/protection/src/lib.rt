@@ -13,18 +13,14 @@ use model::{Kind, Session};
 pub fn lift(s: Session) -> Session
     ensures { result ≡ lift s }
 {
-    let mut t = s;
-    t.lifted = 1;
-    t
+    Session { lifted: 1, ..s }
 }
 
 // The session with its protection set; all else stays.
 pub fn protect(s: Session) -> Session
     ensures { result ≡ protect s }
 {
-    let mut t = s;
-    t.lifted = 0;
-    t
+    Session { lifted: 0, ..s }
 }
 
 // Whether a session is protected: 0 alone says so.
@@ -38,27 +34,12 @@ pub fn is_protected(s: Session) -> bool
 fn kind_changes(kind: Kind) -> bool
     ensures { (number : ℕ) → kind_of number ≡ kind → result ≡ one_of number changers }
 {
-    match kind {
-        Kind::Unlisted => false,
-        Kind::Quiet => false,
-        Kind::Search => false,
-        Kind::User => false,
-        Kind::Settle => false,
-        Kind::Close => true,
-        Kind::Delete => true,
-        Kind::Create => true,
-        Kind::Rename => true,
-        Kind::Read => false,
-        Kind::Write => true,
-    }
+    matches!(kind, Kind::Close | Kind::Delete | Kind::Create | Kind::Rename | Kind::Write)
 }
 
 // Whether a session refuses the calls of a kind, whatever else they are handed: a protected one those that change the disk.
 pub fn refuses(kind: Kind, session: Session) -> bool
     ensures { (number : ℕ) → kind_of number ≡ kind → result ≡ (protected session and one_of number changers) }
 {
-    if is_protected(session) {
-        return kind_changes(kind);
-    }
-    false
+    is_protected(session) && kind_changes(kind)
 }

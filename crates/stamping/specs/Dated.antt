@@ -1,6 +1,6 @@
 -- A disk with date entries: what its label asks, and that the entries which calls stamp have stamps beside them. They are used or empty, and
 -- each fourth position is a date entry.
-use Rattle.std.specs.Prelude.{◌≡◌, Bool, true, false, ℕ, suc, ◌%◌, ◌≤◌, ◌<◌, None, Some}
+use Rattle.std.specs.Prelude.{◌≡◌, Bool, true, false, ℕ, ◌%◌, ◌≤◌, ◌<◌, None, Option, Some}
 use Rattle.std.proofs.Common.{ap, sym, ◌∙◌, arith}
 use Rattle.std.proofs.lemmas.Bool.{eqb-false}
 use Rattle.lists.specs.Cases.{split, bool_cases, lt_or_le, not_both}
@@ -20,17 +20,17 @@ use Rattle.facts.specs.Beside.{Beside}
 use Rattle.stamps.specs.Due.{BesideFound}
 
 -- a disk with date entries, as the check has left it: consistent, and its label found
-pub record Dated (G : Geometry) (image : Bytes) (label : ℕ) : Type 0 where
+pub record Dated (G : Geometry) (image : Bytes) (label : Option ℕ) : Type 0 where
   pub right : consistent G image ≡ true
   pub dates : dated (entry_at G image) ≡ true
   pub labelled : Labelled (entry_at G image) G.entries label
 
--- ---- what the label asks, which is handed in as one more than its entry
-module _ (G : Geometry) (img : Bytes) (label : ℕ) (d : Dated G img label) where
-  pub label_none : (what : Bytes → Bool) → label ≡ 0 → false ≡ asks G (entry_at G img) what
+-- ---- what the label asks
+module _ (G : Geometry) (img : Bytes) (label : Option ℕ) (d : Dated G img label) where
+  pub label_none : (what : Bytes → Bool) → label ≡ None → false ≡ asks G (entry_at G img) what
   label_none what z = sym (asks_none G (entry_at G img) what (rw z at d.labelled))
 
-  module _ (e : ℕ) (is : label ≡ suc e) where
+  module _ (e : ℕ) (is : label ≡ Some e) where
     pub label_low : e < G.entries
     label_low = (d.labelled.some e is).0
 

@@ -1,12 +1,10 @@
 -- What is due is what the call makes, call by call.
 use Rattle.std.specs.Prelude.{◌≡◌, refl, Bool, true, false, cond, ℕ, ◌≤◌, ◌⊎◌, None, Option, Some}
+use Rattle.std.specs.Bool.{then_some}
 use Rattle.std.proofs.Common.{ap, ◌∙◌, ne_eqb, inl, inr}
 use Rattle.std.proofs.Math.Path.{sym}
 use Rattle.std.proofs.Math.Bool.{not}
 use mathlib.Core.List.{List, [], ◌∷◌, ◌++◌, append-nil}
-use types.Run.{OneOf, miss}
-use denote.Enum.Declared.{tag_of}
-use Rattle.model.specs.contracts.Kind.{the_type}
 use Rattle.lists.specs.Cases.{split, bool_cases}
 use Rattle.lists.specs.Tests.{◌and◌, and_both, and_fails_left, and_fails_right}
 use Rattle.format.specs.Diskette.{Bytes, Geometry}
@@ -44,6 +42,10 @@ none_put {G} q = rw q record { update = nothing_beside G; new = nothing_beside G
 -- an entry, where a test holds
 abbrev pub entry_if : Bool → ℕ → Option ℕ
 entry_if b e = cond b (Some e) None
+
+pub some_if : (b : Bool) (e : ℕ) → then_some b e ≡ entry_if b e
+some_if true e = refl
+some_if false e = refl
 
 -- the entry that a close stamps, where there is one
 unfoldable pub updated_if : Geometry → Bytes → Bytes → ℕ → Option ℕ
@@ -160,21 +162,7 @@ module _ (G : Geometry) (asked : Asked) (l : Lent) (s : Session) where
       let w : new ≡ Some f.place = at ∙ f.is in
       rw (is, w) (new_due_law G (calling 22 asked) l s f.place ∙ rw f.is)
 
--- ---- the kinds of calls that stamp nothing, by their places in the enum
-pub stampless : (G : Geometry) (asked : Asked) (l : Lent) (s : Session) (k : Kind) → OneOf (2 ∷ 3 ∷ 4 ∷ 6 ∷ 8 ∷ 0 ∷ []) (tag_of the_type k) → stamps_by G asked l s k ≡ []
-stampless G asked l s Unlisted h = refl
-stampless G asked l s Quiet h = absurd (miss (2 ∷ 3 ∷ 4 ∷ 6 ∷ 8 ∷ 0 ∷ []) 1 tt h)
-stampless G asked l s Search h = refl
-stampless G asked l s User h = refl
-stampless G asked l s Settle h = refl
-stampless G asked l s Close h = absurd (miss (2 ∷ 3 ∷ 4 ∷ 6 ∷ 8 ∷ 0 ∷ []) 5 tt h)
-stampless G asked l s Delete h = refl
-stampless G asked l s Create h = absurd (miss (2 ∷ 3 ∷ 4 ∷ 6 ∷ 8 ∷ 0 ∷ []) 7 tt h)
-stampless G asked l s Rename h = refl
-stampless G asked l s Read h = absurd (miss (2 ∷ 3 ∷ 4 ∷ 6 ∷ 8 ∷ 0 ∷ []) 9 tt h)
-stampless G asked l s Write h = absurd (miss (2 ∷ 3 ∷ 4 ∷ 6 ∷ 8 ∷ 0 ∷ []) 10 tt h)
-
--- the same, of the kinds themselves
+-- ---- the kinds of calls that stamp nothing
 pub stampless_kind : (G : Geometry) (asked : Asked) (l : Lent) (s : Session) (k : Kind)
     → (k ≡ Search) ⊎ (k ≡ User) ⊎ (k ≡ Settle) ⊎ (k ≡ Delete) ⊎ (k ≡ Rename) ⊎ (k ≡ Unlisted) → stamps_by G asked l s k ≡ []
 stampless_kind G asked l s k (inl q) = rw q refl

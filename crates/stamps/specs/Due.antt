@@ -7,6 +7,8 @@ use Rattle.model.specs.declared.Answer.{Answer}
 use Rattle.model.specs.Stamps.{Stamp, time_stamp_rule, no_stamp, first, update, stamped_with}
 use Rattle.table.specs.Accepted.{accepted_answer}
 use Rattle.stamps.specs.declared.Due.{Due}
+use Rattle.stamps.specs.declared.Which.{Which}
+use Rattle.stamps.specs.Place.{number_of}
 use Rattle.facts.specs.Beside.{Beside}
 
 -- the stamps of an entry, where there is one
@@ -14,12 +16,15 @@ abbrev pub stamps_at : (ℕ → List Stamp) → Option ℕ → List Stamp
 stamps_at f (Some e) = f e
 stamps_at f None = []
 
--- one stamp of an entry, and both stamps of a new one
+-- one stamp of an entry, also by which one it is, and both stamps of a new one
 abbrev pub update_at : Bytes → ℕ → List Stamp
 update_at bytes e = update e bytes ∷ []
 
 abbrev pub first_at : Bytes → ℕ → List Stamp
 first_at bytes e = first e bytes ∷ []
+
+abbrev pub beside_at : Which → Bytes → ℕ → List Stamp
+beside_at w bytes e = record { entry = e; which = number_of w; bytes = bytes } ∷ []
 
 abbrev pub blank_at : ℕ → List Stamp
 blank_at e = first e no_stamp ∷ update e no_stamp ∷ []

@@ -8,6 +8,8 @@ use Rattle.format.specs.Diskette.{Bytes, Geometry, Sound, Long, entry_bytes, ent
 use Rattle.format.specs.Entries.{entry_place_rule, entry_at, with_entry}
 use Rattle.format.specs.Dates.{stamp_bytes, stamp_place, fourth_of, with_stamp}
 use Rattle.facts.specs.Beside.{Beside, fourth_below}
+use Rattle.stamps.specs.declared.Which.{Which}
+use Rattle.stamps.specs.declared.Which.TheVariants.{First, Update}
 use Rattle.rows.specs.Entries.{entry_fits_law}
 
 -- a part put back with a part of it replaced
@@ -33,6 +35,15 @@ splice_within xs at n b ys fits inner =
     (λ f. get_d_splice_out (part xs at n) b ys (omega arith) (k - at) (inr (omega arith)) ∙ get_d_part xs at n fits (k - at) (omega arith)
     ∙ ap (λ (i : ℕ). get_or xs i 0) z ∙ sym (get_d_splice_out xs (at + b) ys (omega arith) k (inr (omega arith))))))
     (λ d. get_d_splice_out xs at p (omega arith) k (inr (omega arith)) ∙ sym (get_d_splice_out xs (at + b) ys (omega arith) k (inr (omega arith))))))
+
+-- which of the two stamps beside an entry one is, as the model counts them: create or access is 0, update 1
+abbrev pub number_of : Which → ℕ
+number_of First = 0
+number_of Update = 1
+
+pub number_low : (w : Which) → number_of w < 2
+number_low First = omega arith
+number_low Update = omega arith
 
 -- the place of a stamp beside entry e
 abbrev pub place_of : Geometry → ℕ → ℕ → ℕ

@@ -1,13 +1,13 @@
 // The stamps beside the entries: where one lies, one that is put there, and those that a call makes, put one after the other.
 #![tactic(auto)]
 
-ghost use Rattle.std.specs.Prelude.{◌≡◌, ◌+◌, ◌≤◌, ◌<◌};
+ghost use Rattle.std.specs.Prelude.{◌≡◌, ◌+◌, ◌≤◌};
 ghost use Rattle.format.specs.Diskette.{eight_inch, Long, image_bytes};
 ghost use Rattle.format.specs.Dates.{stamp_bytes, with_stamp};
 ghost use Rattle.model.specs.Stamps.{time_stamp_rule, stamped_with};
 ghost use Rattle.facts.specs.Beside.{Beside};
-ghost use Rattle.stamps.specs.Place.{place_of};
-ghost use Rattle.stamps.specs.Due.{stamps_at, update_at, first_at, blank_at, BesideFound, due_stamps, Puttable, accepted_stamps};
+ghost use Rattle.stamps.specs.Place.{number_of, place_of};
+ghost use Rattle.stamps.specs.Due.{stamps_at, beside_at, blank_at, BesideFound, due_stamps, Puttable, accepted_stamps};
 
 use format::ENTRIES_PER_RECORD;
 use model::{Answer, Asked};
@@ -21,19 +21,39 @@ pub struct Due {
     pub first: Option<usize>,
 }
 
-// The place in the image of a stamp beside an entry: create or access is 0, update 1.
-fn stamp_place(e: usize, which: usize) -> usize
-    requires { Beside eight_inch e × (which < 2) }
-    ensures { (result ≡ place_of eight_inch e which) × (result + stamp_bytes ≤ image_bytes eight_inch) }
+impl Due {
+    // Nothing is due.
+    pub const NONE: Self = Due {
+        update: None,
+        new: None,
+        first: None,
+    };
+}
+
+// The two stamps beside an entry, in their order: create or access, and update.
+#[derive(Clone, Copy)]
+enum Which {
+    First,
+    Update,
+}
+
+// The place in the image of a stamp beside an entry.
+fn stamp_place(e: usize, which: Which) -> usize
+    requires { Beside eight_inch e }
+    ensures { (result ≡ place_of eight_inch e (number_of which)) × (result + stamp_bytes ≤ image_bytes eight_inch) }
 {
     let dates = rows::entry_place(ENTRIES_PER_RECORD * (e / ENTRIES_PER_RECORD) + 3);
-    dates + (1 + 10 * (e % ENTRIES_PER_RECORD) + 4 * which)
+    let pair = dates + (1 + 10 * (e % ENTRIES_PER_RECORD));
+    match which {
+        Which::First => pair,
+        Which::Update => pair + 4,
+    }
 }
 
 // A stamp beside an entry is replaced.
-fn put_stamp(image: &mut [u8], e: usize, which: usize, stamp: [u8; 4])
-    requires { Long eight_inch image.old × Beside eight_inch e × (which < 2) }
-    ensures { image.new ≡ with_stamp eight_inch image.old e which stamp }
+fn put_stamp(image: &mut [u8], e: usize, which: Which, stamp: [u8; 4])
+    requires { Long eight_inch image.old × Beside eight_inch e }
+    ensures { image.new ≡ with_stamp eight_inch image.old e (number_of which) stamp }
 {
     lists::put(image, stamp_place(e, which), &stamp);
 }
@@ -42,32 +62,19 @@ fn put_stamp(image: &mut [u8], e: usize, which: usize, stamp: [u8; 4])
 fn time_stamp(asked: Asked) -> [u8; 4]
     ensures { result ≡ time_stamp_rule asked }
 {
-    let day = asked.day;
-    let low = (day % 256) as u8;
-    let high = (day / 256) as u8;
+    let low = (asked.day % 256) as u8;
+    let high = (asked.day / 256) as u8;
     [low, high, asked.hour, asked.minute]
 }
 
-// The update stamp of an entry, where there is one.
-fn put_update(image: &mut [u8], entry: Option<usize>, stamp: [u8; 4])
+// A stamp of an entry, where there is one.
+fn put_at(image: &mut [u8], entry: Option<usize>, which: Which, stamp: [u8; 4])
     requires { Long eight_inch image.old × BesideFound eight_inch entry }
-    ensures { image.new ≡ stamped_with eight_inch (stamps_at (update_at stamp) entry) image.old }
+    ensures { image.new ≡ stamped_with eight_inch (stamps_at (beside_at which stamp) entry) image.old }
 {
-    let Some(e) = entry else {
-        return;
-    };
-    put_stamp(image, e, 1, stamp);
-}
-
-// The create or access stamp of an entry, where there is one.
-fn put_first(image: &mut [u8], entry: Option<usize>, stamp: [u8; 4])
-    requires { Long eight_inch image.old × BesideFound eight_inch entry }
-    ensures { image.new ≡ stamped_with eight_inch (stamps_at (first_at stamp) entry) image.old }
-{
-    let Some(e) = entry else {
-        return;
-    };
-    put_stamp(image, e, 0, stamp);
+    if let Some(e) = entry {
+        put_stamp(image, e, which, stamp);
+    }
 }
 
 // Both stamps of a new entry, where there is one, become zero.
@@ -76,8 +83,8 @@ fn put_blank(image: &mut [u8], entry: Option<usize>)
     ensures { image.new ≡ stamped_with eight_inch (stamps_at blank_at entry) image.old }
 {
     let zero = [0u8; 4];
-    put_first(image, entry, zero);
-    put_update(image, entry, zero);
+    put_at(image, entry, Which::First, zero);
+    put_at(image, entry, Which::Update, zero);
 }
 
 // The stamps that are due are put.
@@ -86,12 +93,9 @@ fn put_due(image: &mut [u8], asked: Asked, due: Due)
     ensures { image.new ≡ stamped_with eight_inch (due_stamps asked due) image.old }
 {
     let time = time_stamp(asked);
-    let update = due.update;
-    put_update(image, update, time);
-    let new = due.new;
-    put_blank(image, new);
-    let first = due.first;
-    put_first(image, first, time);
+    put_at(image, due.update, Which::Update, time);
+    put_blank(image, due.new);
+    put_at(image, due.first, Which::First, time);
 }
 
 // They are put where the answer says that the call was accepted: a refusal stamps nothing.

@@ -17,8 +17,8 @@ returns-then-not-lengths_right c = refute _ (λ t. not_both _ (c.lengths_right.e
 pub returns-then-session-gt15 : goal.returns-then-session-gt15
 returns-then-session-gt15 c = refute _ (λ t. let u = (fits_of eight_inch _ _ _ t).user_low in omega arith)
 
-pub returns-then-place-gt-ENTRIES : goal.returns-then-place-gt-ENTRIES
-returns-then-place-gt-ENTRIES c = refute _ (λ t. let u = (fits_of eight_inch _ _ _ t).place_low in omega arith)
+pub returns-then-from-gt-ENTRIES : goal.returns-then-from-gt-ENTRIES
+returns-then-from-gt-ENTRIES c = refute _ (λ t. let u = (fits_of eight_inch _ _ _ t).place_low in omega arith)
 
 pub returns-then-not-time_right : goal.returns-then-not-time_right
 returns-then-not-time_right c = refute _ (λ t. not_both _ (c.time_right.ensures ∙ time_of eight_inch _ _ _ t) (c.if-not-time_right.true))

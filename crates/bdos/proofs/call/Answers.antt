@@ -26,7 +26,7 @@ returns-then-not-parameters_right c =
 
 pub disk_right-requires : goal.disk_right-requires
 disk_right-requires c =
-    let f = fits_of eight_inch _ _ _ ((let parameters' : let s = c in parameters_right_rule eight_inch ((lend s.args.image.now s.args.map.now s.args.fcb.now s.args.buffer.now)) s.args.asked s.args.session ≡ true = sym c.parameters_right.ensures ∙ c.if-not-parameters_right.false in parameters')) in (f.image_long, f.map_long, search rules, search rules, search rules)
+    let f = fits_of eight_inch _ _ _ ((let parameters' : let s = c in parameters_right_rule eight_inch ((lend s.args.image.now s.args.map.now s.args.fcb.now s.args.buffer.now)) s.args.asked s.args.session ≡ true = sym c.parameters_right.ensures ∙ c.if-not-parameters_right.false in parameters')) in (f.image_long, f.map_long)
 
 pub returns-then-not-disk_right : goal.returns-then-not-disk_right
 unfolding is_call

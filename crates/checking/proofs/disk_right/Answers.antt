@@ -10,14 +10,14 @@ returns-then-not-is_consistent c =
     let e = c.is_consistent.ensures in
     (λ fcb buffer. sym (image_wrong eight_inch _ _ (sym e.0 ∙ c.if-not-is_consistent.true)), λ t. clash (sym t))
 
-pub returns-then-number-ne13 : goal.returns-then-number-ne13
-returns-then-number-ne13 c =
+pub returns-then-asked-ne13 : goal.returns-then-asked-ne13
+returns-then-asked-ne13 c =
     let e = c.is_consistent.ensures in
     let r = c.if-not-is_consistent.false in
-    (λ fcb buffer. c.map_right.ensures (e.1 r).0 ∙ sym (map_decides eight_inch _ _ (sym e.0 ∙ r) c.if-number-ne13.true), λ t. e.1 r)
+    (λ fcb buffer. c.map_right.ensures (e.1 r).0 ∙ sym (map_decides eight_inch _ _ (sym e.0 ∙ r) c.if-asked-ne13.true), λ t. e.1 r)
 
 pub returns : goal.returns
 returns c =
     let e = c.is_consistent.ensures in
     let r = c.if-not-is_consistent.false in
-    (λ fcb buffer. sym (log_in_right eight_inch _ _ (sym e.0 ∙ r) c.if-number-ne13.false), λ t. e.1 r)
+    (λ fcb buffer. sym (log_in_right eight_inch _ _ (sym e.0 ∙ r) c.if-asked-ne13.false), λ t. e.1 r)

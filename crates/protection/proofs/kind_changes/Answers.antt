@@ -1,38 +1,36 @@
--- One arm a kind: its answer is what `by_kind` says of its calls.
-use mathlib.Core.Path.{◌∙◌}
+-- The kinds that are named are those of the calls that change the disk, and the others are not.
+use mathlib.Core.Path.{◌≡◌, refl, ◌∙◌}
+use mathlib.Core.Bool.{true, false}
+use mathlib.Core.Logic.{◌⊎◌}
+use Rattle.std.proofs.Common.{inl, inr}
+use Rattle.model.specs.declared.Kind.{Kind}
 use Rattle.model.specs.declared.Kind.TheVariants.{Unlisted, Quiet, Search, User, Settle, Close, Delete, Create, Rename, Read, Write}
-use Rattle.table.specs.Protection.{by_kind}
+use Rattle.table.specs.Protection.{changes_kind, by_kind}
 use Rattle.protection.proofs.kind_changes.Goals as goal
 
-pub returns-in-Unlisted : goal.returns-in-Unlisted
-returns-in-Unlisted c n q = by_kind n Unlisted (q ∙ c.in-Unlisted.is)
+changes : (k : Kind) → (k ≡ Close) ⊎ (k ≡ Delete) ⊎ (k ≡ Create) ⊎ (k ≡ Rename) ⊎ (k ≡ Write) → true ≡ changes_kind k
+changes k (inl q) = rw q refl
+changes k (inr (inl q)) = rw q refl
+changes k (inr (inr (inl q))) = rw q refl
+changes k (inr (inr (inr (inl q)))) = rw q refl
+changes k (inr (inr (inr (inr q)))) = rw q refl
 
-pub returns-in-Quiet : goal.returns-in-Quiet
-returns-in-Quiet c n q = by_kind n Quiet (q ∙ c.in-Quiet.is)
-
-pub returns-in-Search : goal.returns-in-Search
-returns-in-Search c n q = by_kind n Search (q ∙ c.in-Search.is)
-
-pub returns-in-User : goal.returns-in-User
-returns-in-User c n q = by_kind n User (q ∙ c.in-User.is)
-
-pub returns-in-Settle : goal.returns-in-Settle
-returns-in-Settle c n q = by_kind n Settle (q ∙ c.in-Settle.is)
+keeps : (k : Kind) → (k ≡ Close → ⊥) → (k ≡ Delete → ⊥) → (k ≡ Create → ⊥) → (k ≡ Rename → ⊥) → (k ≡ Write → ⊥) → false ≡ changes_kind k
+keeps Unlisted a b c d e = refl
+keeps Quiet a b c d e = refl
+keeps Search a b c d e = refl
+keeps User a b c d e = refl
+keeps Settle a b c d e = refl
+keeps Close a b c d e = absurd (a refl)
+keeps Delete a b c d e = absurd (b refl)
+keeps Create a b c d e = absurd (c refl)
+keeps Rename a b c d e = absurd (d refl)
+keeps Read a b c d e = refl
+keeps Write a b c d e = absurd (e refl)
 
 pub returns-in-Close : goal.returns-in-Close
-returns-in-Close c n q = by_kind n Close (q ∙ c.in-Close.is)
+returns-in-Close c n q = changes c.args.kind c.in-Close.is ∙ by_kind n c.args.kind q
 
-pub returns-in-Delete : goal.returns-in-Delete
-returns-in-Delete c n q = by_kind n Delete (q ∙ c.in-Delete.is)
-
-pub returns-in-Create : goal.returns-in-Create
-returns-in-Create c n q = by_kind n Create (q ∙ c.in-Create.is)
-
-pub returns-in-Rename : goal.returns-in-Rename
-returns-in-Rename c n q = by_kind n Rename (q ∙ c.in-Rename.is)
-
-pub returns-in-Read : goal.returns-in-Read
-returns-in-Read c n q = by_kind n Read (q ∙ c.in-Read.is)
-
-pub returns-in-Write : goal.returns-in-Write
-returns-in-Write c n q = by_kind n Write (q ∙ c.in-Write.is)
+pub returns-in_default : goal.returns-in_default
+returns-in_default c n q =
+    let d = c.in_default in keeps c.args.kind d.not-Close d.not-Delete d.not-Create d.not-Rename d.not-Write ∙ by_kind n c.args.kind q

@@ -6,7 +6,4 @@ use Rattle.stamps.proofs.put_blank.Goals as goal
 
 pub returns : goal.returns
 unfolding no_stamp
-returns c =
-    let f = c in
-    let a = f.args in
-    blank_put eight_inch a.entry a.image.now f.put_first.new.image c.put_update.new.image f.put_first.ensures c.put_update.ensures
+returns c = blank_put eight_inch c.args.entry c.args.image.now _ _ c.put_at.ensures c.put_at-2.ensures

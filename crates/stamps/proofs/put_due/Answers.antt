@@ -5,10 +5,6 @@ use Rattle.stamps.proofs.put_due.Goals as goal
 
 pub returns : goal.returns
 returns c =
-    let f = c in
-    let b = f in
-    let u = b in
-    let t = u in
-    let a = t.args in
-    due_put eight_inch a.asked a.due t.time_stamp-time.result a.image.now u.put_update.new.image b.put_blank.new.image f.put_first.new.image
-    t.time_stamp-time.ensures u.put_update.ensures b.put_blank.ensures f.put_first.ensures
+    let a = c.args in
+    due_put eight_inch a.asked a.due c.time_stamp-time.result a.image.now _ _ _
+    c.time_stamp-time.ensures c.put_at.ensures c.put_blank.ensures c.put_at-2.ensures
