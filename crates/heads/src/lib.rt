@@ -31,12 +31,8 @@ fn head_faults(r: &[u8]) -> [u8; HEAD_BYTES]
     requires { head_bytes ≤ length r.now }
     ensures { result ≡ tab head_bytes (head_fault r.now) }
 {
-    let counted = COUNTED;
-    let lowest = LOWEST;
-    let highest = HIGHEST;
-    let barred = BARRED;
     let mut faults = [0u8; HEAD_BYTES];
-    faults::find_faults(r, &counted, &lowest, &highest, &barred, &mut faults);
+    faults::find_faults(r, &COUNTED, &LOWEST, &HIGHEST, &BARRED, &mut faults);
     faults
 }
 

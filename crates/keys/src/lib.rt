@@ -41,7 +41,7 @@ pub fn file_key(user: u8, s: &[u8], q: usize, ext: usize) -> usize
     requires { q + name_bytes ≤ length s.now }
     ensures { (result ≡ file_key_rule user s.now q ext) × (result < key_count) }
 {
-    let low = (lanes::word(s, q) & 0x7F7F7F7F7F7F7F) * 256 + user as u64;
+    let low = (lanes::word(s, q) & 0x7F7F7F7F7F7F7F) * 256 + u64::from(user);
     let high = (lanes::half(s, q + 7) & 0x7F7F7F7F) + (ext % 32) as u64 * 0x100000000;
     fold(low, high)
 }

@@ -9,7 +9,7 @@ ghost use Rattle.lanes.specs.Lanes.{half_at, word_at};
 fn lane(x: u8) -> u64
     ensures { (result ≡ x) × (result < 256) }
 {
-    x as u64
+    u64::from(x)
 }
 
 // Four bytes from `at` on, the first lowest.

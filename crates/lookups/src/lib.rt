@@ -27,10 +27,7 @@ pub fn is_file(user: u8, s: &[u8], q: usize, ext: usize, r: &[u8]) -> bool
     requires { (q + name_bytes ≤ length s.now) × (entry_bytes ≤ length r.now) }
     ensures { result ≡ is_file_rule eight_inch user s.now q ext r.now }
 {
-    if !is_named(false, user, s, q, r) {
-        return false;
-    }
-    entries::covers_extent(r, ext)
+    is_named(false, user, s, q, r) && entries::covers_extent(r, ext)
 }
 
 // The first entry of this user whose name is asked for.

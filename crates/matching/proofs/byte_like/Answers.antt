@@ -12,6 +12,6 @@ pub returns-then-wild : goal.returns-then-wild
 unfolding byte_like_rule ◌and◌ ◌or◌
 returns-then-wild c = rw (ne_eqb _ _ c.if-x-y.false, c.if-wild.true)
 
-pub returns : goal.returns
+pub returns-else-wild : goal.returns-else-wild
 unfolding byte_like_rule ◌and◌ ◌or◌
-returns c = rw (ne_eqb _ _ c.if-x-y.false, c.if-wild.false)
+returns-else-wild c = rw (ne_eqb _ _ c.if-x-y.false, c.if-wild.false)
