@@ -5,7 +5,6 @@ use Rattle.heads.proofs.row_right.Goals as goal
 
 pub returns : goal.returns
 returns c =
-    let a = c in let known = c.shared_slice_known-1 in
     let w = c.word.ensures in
     rw (w.0, c.word-2.ensures.0)
-    (words_tell a.args.r.now (λ i h. omega (arith, known.given i)) _ c.head_faults-faults.ensures (w.1 0 (omega arith)))
+    (words_tell c.args.r.now (λ i h. omega (arith, c.type_inv.r i)) _ c.head_faults-faults.ensures (w.1 0 (omega arith)))

@@ -8,4 +8,4 @@ pub returns : goal.returns
 returns c =
     let l = c.args.r.now in
     let at = c.args.at in
-    (omega (arith, half_sum l at), omega arith, λ i h. omega (arith, c.shared_slice_known-5-1.given (at + i)))
+    (omega (arith, half_sum l at), omega arith, λ i h. omega (arith, c.type_inv.r (at + i)))
