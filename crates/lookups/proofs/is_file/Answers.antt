@@ -4,11 +4,10 @@ use Rattle.lists.specs.Tests.{and_then, and_fails_left}
 use Rattle.format.specs.Entries.{is_file_rule}
 use Rattle.lookups.proofs.is_file.Goals as goal
 
-pub returns-then-not-is_named : goal.returns-then-not-is_named
+pub returns-then-is_named : goal.returns-then-is_named
 unfolding is_file_rule
-returns-then-not-is_named c = sym (and_fails_left _ _ (sym c.is_named.ensures ∙ c.if-not-is_named.true))
+returns-then-is_named c = c.covers_extent.ensures ∙ sym (and_then _ _ (sym c.is_named.ensures ∙ c.if-is_named.true))
 
-pub returns : goal.returns
+pub returns-else-is_named : goal.returns-else-is_named
 unfolding is_file_rule
-returns c =
-    c.covers_extent.ensures ∙ sym (and_then _ _ (sym c.is_named.ensures ∙ c.if-not-is_named.false))
+returns-else-is_named c = c.if-is_named.false ∙ sym (and_fails_left _ _ (sym c.is_named.ensures ∙ c.if-is_named.false))
