@@ -31,6 +31,7 @@ fn take_any(marks: &mut [u8], r: &[u8], at: usize) -> u8
 }
 
 // Whether the slots after the first four list nothing, as those of most files do.
+#[tactic(auto, using(crate::specs::Runs::rest_word, crate::specs::Runs::rest_decides))]
 fn rest_is_zero(r: &[u8]) -> bool
     requires { entry_bytes ≤ length r.now }
     ensures { result ≡ rest_zero r.now }

@@ -38,6 +38,7 @@ fn head_faults(r: &[u8]) -> [u8; HEAD_BYTES]
 }
 
 // Whether a row has a user, a name, ex and s2 in range.
+#[tactic(auto, using(crate::specs::Head::words_tell))]
 pub fn row_right(r: &[u8]) -> bool
     requires { entry_bytes ≤ length r.now }
     ensures { result ≡ row_right_rule r.now }
@@ -47,6 +48,7 @@ pub fn row_right(r: &[u8]) -> bool
 }
 
 // Whether a row or an FCB has a name, ex and s2 in range, whatever its byte 0 is.
+#[tactic(auto, using(crate::specs::Head::fields_tell))]
 pub fn fields_right(r: &[u8]) -> bool
     requires { entry_bytes ≤ length r.now }
     ensures { result ≡ fields_right_rule r.now }

@@ -1,7 +1,5 @@
 -- The loop keeps that the first j of the four are taken.
 use Rattle.blocks.specs.Runs.{taken_none, taken_more}
-use mathlib.Core.Path.{◌≡◌}
-use native.Mathlib.Omega.{arith}
 use Rattle.blocks.proofs.take_four.Goals as goal
 
 pub loop-j-init : goal.loop-j-init
@@ -11,6 +9,3 @@ pub loop-j-preserved : goal.loop-j-preserved
 loop-j-preserved c =
     let a = c.args in let l = c.loop-j in let k = c.take_number-met in
     taken_more a.marks.now a.r.now a.at l.j l.marks l.met l.invariant k.new.marks k.result k.ensures.0 k.ensures.1
-
-pub returns : goal.returns
-returns c = let l = c.loop-j in let q : l.j ≡ 4 = omega arith in rw q at l.invariant
