@@ -19,7 +19,7 @@ fn fault(x: u8, lowest: u8, highest: u8, barred: u8) -> u8
 
 // What is wrong with each byte of a head, as the tables say. They are lent, not named: so all bytes are treated alike, and a compiler
 // takes them together.
-#[tactic(auto, using(lists::specs::Tab::filled_none, lists::specs::Tab::filled_more, lists::specs::Tab::filled_all))]
+#[tactic(auto, using(lists::specs::Tab::fills))]
 pub fn find_faults(
     r: &[u8],
     counted: &[u8],

@@ -27,7 +27,6 @@ const BARRED: [u8; HEAD_BYTES] = [
 ];
 
 // What is wrong with each byte of a head, by the tables.
-#[tactic(auto, unfolding(crate::specs::Head::head_fault, faults::specs::Bytes::byte_fault, faults::specs::Bytes::counted, faults::specs::Bytes::lowest, faults::specs::Bytes::highest, faults::specs::Bytes::barred))]
 fn head_faults(r: &[u8]) -> [u8; HEAD_BYTES]
     requires { head_bytes ≤ length r.now }
     ensures { result ≡ tab head_bytes (head_fault r.now) }

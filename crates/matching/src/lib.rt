@@ -12,7 +12,7 @@ const SEVENS: u64 = 0x7F7F7F7F7F7F7F7F;
 const EIGHT: usize = 8;
 
 // Whether byte y is what x asks for. Equal bytes, the usual case, take one compare.
-#[tactic(auto, using(lists::specs::Tests::or_left, lists::specs::Tests::or_then, lists::specs::Tests::and_then, lists::specs::Tests::and_fails_left), unfolding(format::specs::Names::byte_like_rule))]
+#[tactic(auto, using(lists::specs::Tests::short_circuits), unfolding(format::specs::Names::byte_like_rule))]
 fn byte_like(wild: bool, x: u8, y: u8) -> bool
     ensures { result ≡ byte_like_rule wild x y }
 {

@@ -24,6 +24,7 @@ fn name_fault(wild: bool, b: u8) -> u8
 
 // Whether the eleven bytes from `at` on obey the name rule. Their faults are counted: that takes several bytes at a time, where an
 // early return would branch at each.
+#[tactic(auto, using(lists::specs::Count::counts, lists::specs::Tests::short_circuits), unfolding(format::specs::Names::name_right_rule))]
 pub fn name_right(wild: bool, r: &[u8], at: usize) -> bool
     requires { at + name_bytes ≤ length r.now }
     ensures { result ≡ name_right_rule wild r.now at }
