@@ -13,10 +13,8 @@ fn take_four(marks: &mut [u8], r: &[u8], at: usize) -> u8
     ensures { Taken marks.old r.now at 4 marks.new result }
 {
     let mut met: u8 = 0;
-    let mut j = 0;
-    while j < 4 {
-        met = met | marks::take_number(marks, r[at + j]);
-        j += 1;
+    for j in 0..4 {
+        met |= marks::take_number(marks, r[at + j]);
     }
     met
 }
@@ -33,14 +31,12 @@ fn take_any(marks: &mut [u8], r: &[u8], at: usize) -> u8
 }
 
 // Whether the slots after the first four list nothing, as those of most files do.
+#[tactic(auto, using(crate::specs::Runs::rest_word, crate::specs::Runs::rest_decides))]
 fn rest_is_zero(r: &[u8]) -> bool
     requires { entry_bytes ≤ length r.now }
     ensures { result ≡ rest_zero r.now }
 {
-    if lanes::word(r, 20) != 0 {
-        return false;
-    }
-    lanes::half(r, 28) == 0
+    lanes::word(r, 20) == 0 && lanes::half(r, 28) == 0
 }
 
 // Whether each slot of a row may list what it lists; the numbers are taken on the way.
@@ -52,10 +48,8 @@ pub fn take_slots(marks: &mut [u8], r: &[u8]) -> bool
     if rest_is_zero(r) {
         return met == 0;
     }
-    let mut k = 1;
-    while k < 4 {
-        met = met | take_any(marks, r, 16 + 4 * k);
-        k += 1;
+    for k in 1..4 {
+        met |= take_any(marks, r, 16 + 4 * k);
     }
     met == 0
 }

@@ -31,16 +31,13 @@ fn head_faults(r: &[u8]) -> [u8; HEAD_BYTES]
     requires { head_bytes ≤ length r.now }
     ensures { result ≡ tab head_bytes (head_fault r.now) }
 {
-    let counted = COUNTED;
-    let lowest = LOWEST;
-    let highest = HIGHEST;
-    let barred = BARRED;
     let mut faults = [0u8; HEAD_BYTES];
-    faults::find_faults(r, &counted, &lowest, &highest, &barred, &mut faults);
+    faults::find_faults(r, &COUNTED, &LOWEST, &HIGHEST, &BARRED, &mut faults);
     faults
 }
 
 // Whether a row has a user, a name, ex and s2 in range.
+#[tactic(auto, using(crate::specs::Head::words_tell))]
 pub fn row_right(r: &[u8]) -> bool
     requires { entry_bytes ≤ length r.now }
     ensures { result ≡ row_right_rule r.now }
@@ -50,6 +47,7 @@ pub fn row_right(r: &[u8]) -> bool
 }
 
 // Whether a row or an FCB has a name, ex and s2 in range, whatever its byte 0 is.
+#[tactic(auto, using(crate::specs::Head::fields_tell))]
 pub fn fields_right(r: &[u8]) -> bool
     requires { entry_bytes ≤ length r.now }
     ensures { result ≡ fields_right_rule r.now }

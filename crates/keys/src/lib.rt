@@ -11,6 +11,7 @@ ghost use Rattle.keys.specs.Key.{mixed, key_from, key_of, file_key_rule, key_cou
 pub const KEYS: usize = 256;
 
 // Two halves of a word multiplied apart, so that no product is too long, and added.
+#[tactic(auto, unfolding(crate::specs::Key::mixed))]
 fn mix(both: u64) -> u64
     ensures { result ≡ mixed both }
 {
@@ -18,10 +19,12 @@ fn mix(both: u64) -> u64
 }
 
 // The key that two parts make: user and name, name and extent.
+#[tactic(auto, unfolding(crate::specs::Key::key_from))]
 fn fold(low: u64, high: u64) -> usize
     requires { high < 2305843009213693952 }
     ensures { (result ≡ key_from low high) × (result < key_count) }
 {
+    // A cast: the library converts no `u64` to a `usize`.
     (mix(low ^ high * 8) / 0x4000000) as usize % KEYS
 }
 
@@ -41,7 +44,8 @@ pub fn file_key(user: u8, s: &[u8], q: usize, ext: usize) -> usize
     requires { q + name_bytes ≤ length s.now }
     ensures { (result ≡ file_key_rule user s.now q ext) × (result < key_count) }
 {
-    let low = (lanes::word(s, q) & 0x7F7F7F7F7F7F7F) * 256 + user as u64;
+    let low = (lanes::word(s, q) & 0x7F7F7F7F7F7F7F) * 256 + u64::from(user);
+    // A cast: the library converts no `usize` to a `u64`.
     let high = (lanes::half(s, q + 7) & 0x7F7F7F7F) + (ext % 32) as u64 * 0x100000000;
     fold(low, high)
 }

@@ -55,3 +55,6 @@ count_from p a (suc n) h f g =
     split (lt_or_le n a)
     (λ l. rw (count_empty p n (λ k b. f k (omega arith)), f n l) (omega arith))
     (λ l. rw (count_from p a n l f (λ k b c. g k b (omega arith)), g n l (omega arith)) (omega arith))
+
+-- the turns of a loop that counts what fails, and what its count decides
+pub ruleset counts = (count_none, count_next, count_all, count_fails)

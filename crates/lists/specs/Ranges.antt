@@ -42,14 +42,14 @@ module _ {A : Type 0} (f : A → ℕ → A) (x : A) where
 
 -- ---- the numbers below n
 module _ (p : ℕ → Bool) where
-  all_from : (a n : ℕ) → list_all p (range_with_len a n) ≡ all_below (λ (k : ℕ). p (a + k)) n
+  pub all_from : (a n : ℕ) → list_all p (range_with_len a n) ≡ all_below (λ (k : ℕ). p (a + k)) n
   unfolding ◌and◌ next
   all_from a zero = sym (all_none _)
   all_from a (suc n) =
       ap (λ (b : Bool). p a and b) (all_from (a + 1) n ∙ all_cong _ _ n (λ k h. ap p (omega arith)))
       ∙ ap (λ (m : ℕ). p m and all_below (λ (k : ℕ). p (a + suc k)) n) (omega arith) ∙ all_first (λ (k : ℕ). p (a + k)) n
 
-  any_from : (a n : ℕ) → list_any p (range_with_len a n) ≡ any_below (λ (k : ℕ). p (a + k)) n
+  pub any_from : (a n : ℕ) → list_any p (range_with_len a n) ≡ any_below (λ (k : ℕ). p (a + k)) n
   unfolding ◌or◌ next
   any_from a zero = sym (any_none _)
   any_from a (suc n) =

@@ -97,3 +97,6 @@ filled_all f old n i l e h g =
 pub filled_list : (t old : List ℕ) (i : ℕ) (l : List ℕ) → length t ≡ length old → length t ≤ i → Filled (λ (k : ℕ). get_or t k 0) old i l → l ≡ t
 filled_list t old i l e h g =
     let ll : length l ≡ length t = g.long ∙ sym e in ext_get_or 0 l t ll (λ k b. g.done k (omega arith))
+
+-- the turns of a loop that fills a list, and its end
+pub ruleset fills = (filled_none, filled_more, filled_all)

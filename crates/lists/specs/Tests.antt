@@ -93,6 +93,9 @@ unfolding ◌or◌
 or_cases true b h = inl refl
 or_cases false b h = inr h
 
+-- two tests, as code decides them: by the first alone, or by the second
+pub ruleset short_circuits = (and_then, and_fails_left, or_then, or_left)
+
 -- neither of two tests holds
 pub not_or : (a b : Bool) → not (a or b) ≡ (not b and not a)
 unfolding ◌and◌ ◌or◌

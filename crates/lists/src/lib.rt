@@ -1,7 +1,7 @@
-// Copies of byte slices, a byte as a number, and in specs/ the general laws of lists and tests that every other crate cites.
+// Copies of byte slices, numbers of three bytes, a byte as a number, and in specs/ the general laws of lists and tests that every other crate cites.
 #![tactic(auto)]
 
-ghost use Rattle.std.specs.Prelude.{◌≡◌, ◌+◌, ◌≤◌, ◌<◌, length};
+ghost use Rattle.std.specs.Prelude.{◌≡◌, [], ◌∷◌, ◌+◌, ◌*◌, ◌/◌, ◌%◌, ◌≤◌, ◌<◌, length, get_or};
 ghost use Rattle.lists.specs.Splice.{splice, part, copies};
 
 // Copies all of src into dst, from `at` on.
@@ -9,11 +9,8 @@ pub fn put(dst: &mut [u8], at: usize, src: &[u8])
     requires { at + length src.now ≤ length dst.old }
     ensures { dst.new ≡ splice dst.old at src.now }
 {
-    let mut i = 0;
-    while i < src.len() {
-        dst[at + i] = src[i];
-        i += 1;
-    }
+    let end = at + src.len();
+    dst[at..end].copy_from_slice(src);
 }
 
 // Fills dst from src, from `at` on.
@@ -22,7 +19,7 @@ pub fn get(src: &[u8], at: usize, dst: &mut [u8])
     ensures { dst.new ≡ part src.now at (length dst.old) }
 {
     let end = at + dst.len();
-    put(dst, 0, &src[at..end]);
+    dst.copy_from_slice(&src[at..end]);
 }
 
 // Sets n bytes of dst, from `at` on, to v.
@@ -30,16 +27,34 @@ pub fn fill(dst: &mut [u8], at: usize, n: usize, v: u8)
     requires { at + n ≤ length dst.old }
     ensures { dst.new ≡ splice dst.old at (copies n v) }
 {
-    let mut i = 0;
-    while i < n {
-        dst[at + i] = v;
-        i += 1;
-    }
+    let end = at + n;
+    dst[at..end].fill(v);
 }
 
 // A byte as a number. Where code needs a byte's bound it calls this, and not a cast, which would ask for that bound on the spot.
 pub fn wide(x: u8) -> usize
     ensures { (result ≡ x) × (result < 256) }
 {
-    x as usize
+    usize::from(x)
+}
+
+// The number that three bytes make from `at` on, the first lowest.
+pub fn three(src: &[u8], at: usize) -> usize
+    requires { at + 3 ≤ length src.now }
+    ensures { (result ≡ get_or src.now at 0 + 256 * get_or src.now (at + 1) 0 + 65536 * get_or src.now (at + 2) 0) × (result < 16777216) }
+{
+    wide(src[at]) + 256 * wide(src[at + 1]) + 65536 * wide(src[at + 2])
+}
+
+// Writes a number in three bytes from `at` on, the lowest first.
+pub fn put_three(dst: &mut [u8], at: usize, n: usize)
+    requires { at + 3 ≤ length dst.old }
+    ensures { dst.new ≡ splice dst.old at (n % 256 ∷ (n / 256 % 256 ∷ (n / 65536 % 256 ∷ []))) }
+{
+    let bytes = [
+        (n % 256) as u8,
+        (n / 256 % 256) as u8,
+        (n / 65536 % 256) as u8,
+    ];
+    put(dst, at, &bytes);
 }

@@ -9,28 +9,26 @@ ghost use Rattle.format.specs.Entries.{entry_at, named, is_file_rule, find_named
 use format::ENTRIES;
 
 // Whether a row is the user's, and its name is what the name in s at q asks for.
+#[tactic(auto, using(lists::specs::Tests::short_circuits), unfolding(format::specs::Entries::named))]
 pub fn is_named(wild: bool, user: u8, s: &[u8], q: usize, r: &[u8]) -> bool
     requires { (q + name_bytes ≤ length s.now) × (entry_bytes ≤ length r.now) }
     ensures { result ≡ named wild user s.now q r.now }
 {
-    if r[0] != user {
-        return false;
-    }
-    if wild {
-        return matching::name_like(true, s, q, r, 1);
-    }
-    matching::name_same(s, q, r, 1)
+    r[0] == user
+        && if wild {
+            matching::name_like(true, s, q, r, 1)
+        } else {
+            matching::name_same(s, q, r, 1)
+        }
 }
 
 // Whether a row is the user's, of the name in s at q, and covers the extent.
+#[tactic(auto, using(lists::specs::Tests::short_circuits), unfolding(format::specs::Entries::is_file_rule))]
 pub fn is_file(user: u8, s: &[u8], q: usize, ext: usize, r: &[u8]) -> bool
     requires { (q + name_bytes ≤ length s.now) × (entry_bytes ≤ length r.now) }
     ensures { result ≡ is_file_rule eight_inch user s.now q ext r.now }
 {
-    if !is_named(false, user, s, q, r) {
-        return false;
-    }
-    entries::covers_extent(r, ext)
+    is_named(false, user, s, q, r) && entries::covers_extent(r, ext)
 }
 
 // The first entry of this user whose name is asked for.

@@ -12,16 +12,11 @@ const SEVENS: u64 = 0x7F7F7F7F7F7F7F7F;
 const EIGHT: usize = 8;
 
 // Whether byte y is what x asks for. Equal bytes, the usual case, take one compare.
+#[tactic(auto, using(lists::specs::Tests::short_circuits), unfolding(format::specs::Names::byte_like_rule))]
 fn byte_like(wild: bool, x: u8, y: u8) -> bool
     ensures { result ≡ byte_like_rule wild x y }
 {
-    if x % 128 == y % 128 {
-        return true;
-    }
-    if wild {
-        return x % 128 == 63;
-    }
-    false
+    x % 128 == y % 128 || wild && x % 128 == 63
 }
 
 // Whether the name in r at p is what the name in s at q asks for.
@@ -29,14 +24,7 @@ pub fn name_like(wild: bool, s: &[u8], q: usize, r: &[u8], p: usize) -> bool
     requires { (q + name_bytes ≤ length s.now) × (p + name_bytes ≤ length r.now) }
     ensures { result ≡ name_like_rule wild s.now q r.now p }
 {
-    let mut i = 0;
-    while i < NAME_BYTES {
-        if !byte_like(wild, s[q + i], r[p + i]) {
-            return false;
-        }
-        i += 1;
-    }
-    true
+    (0..NAME_BYTES).all(|i| byte_like(wild, s[q + i], r[p + i]))
 }
 
 // The same for names without 3FH, of which the first eight bytes are compared at once.
@@ -44,15 +32,6 @@ pub fn name_same(s: &[u8], q: usize, r: &[u8], p: usize) -> bool
     requires { (q + name_bytes ≤ length s.now) × (p + name_bytes ≤ length r.now) }
     ensures { result ≡ name_like_rule false s.now q r.now p }
 {
-    if lanes::word(s, q) & SEVENS != lanes::word(r, p) & SEVENS {
-        return false;
-    }
-    let mut i = EIGHT;
-    while i < NAME_BYTES {
-        if !byte_like(false, s[q + i], r[p + i]) {
-            return false;
-        }
-        i += 1;
-    }
-    true
+    lanes::word(s, q) & SEVENS == lanes::word(r, p) & SEVENS
+        && (EIGHT..NAME_BYTES).all(|i| byte_like(false, s[q + i], r[p + i]))
 }

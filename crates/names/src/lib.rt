@@ -12,42 +12,26 @@ fn name_byte(wild: bool, b: u8) -> bool
     ensures { result ≡ name_byte_rule wild b }
 {
     let low = b % 128;
-    if low < 32 {
-        return false;
-    }
-    if 126 < low {
-        return false;
-    }
-    if low != 63 {
-        return true;
-    }
-    wild
+    32 <= low && low <= 126 && (wild || low != 63)
 }
 
 // 1 where a name may not hold the byte, or else 0.
 fn name_fault(wild: bool, b: u8) -> u8
     ensures { (result ≡ cond (not (name_byte_rule wild b)) 1 0) × (result ≤ 1) }
 {
-    if name_byte(wild, b) {
-        return 0;
-    }
-    1
+    u8::from(!name_byte(wild, b))
 }
 
 // Whether the eleven bytes from `at` on obey the name rule. Their faults are counted: that takes several bytes at a time, where an
 // early return would branch at each.
+#[tactic(auto, using(lists::specs::Count::counts, lists::specs::Tests::short_circuits), unfolding(format::specs::Names::name_right_rule))]
 pub fn name_right(wild: bool, r: &[u8], at: usize) -> bool
     requires { at + name_bytes ≤ length r.now }
     ensures { result ≡ name_right_rule wild r.now at }
 {
     let mut faults: u8 = 0;
-    let mut i = 0;
-    while i < NAME_BYTES {
+    for i in 0..NAME_BYTES {
         faults += name_fault(wild, r[at + i]);
-        i += 1;
     }
-    if faults != 0 {
-        return false;
-    }
-    r[at] % 128 != 32
+    faults == 0 && r[at] % 128 != 32
 }

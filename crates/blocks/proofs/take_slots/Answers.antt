@@ -15,28 +15,24 @@ returns-then-rest_is_zero c =
     (t.free, t.marked)
 
 pub loop-k-init : goal.loop-k-init
-loop-k-init c = ((λ l t. t), omega arith, refl)
+loop-k-init c = λ l t. t
 
 pub take_any-met-requires : goal.take_any-met-requires
 take_any-met-requires c =
-    let b = c in let f = b.take_four-met in let a = b in
-    let t = b.loop-k.invariant.0 a.args.marks.now f.ensures in
-    (omega (arith, f.auto.marks), taken_keeps_none a.args.marks.now a.args.r.now 16 (4 * b.loop-k.k) b.loop-k.marks b.loop-k.met t a.requires.1, omega arith)
+    let f = c.take_four-met in let a = c.args in let l = c.loop-k in
+    let t = l.invariant a.marks.now f.ensures in
+    (omega (arith, l.auto.marks, f.auto.marks), taken_keeps_none a.marks.now a.r.now 16 (4 * l.k) l.marks l.met t c.requires.1, omega arith)
 
 pub loop-k-preserved : goal.loop-k-preserved
 loop-k-preserved c =
-    let b = c in let r = b.args.r.now in
-    let t = c.take_any-met in
-    let q : 4 * b.loop-k.k + 4 ≡ 4 * (b.loop-k.k + 1) = omega arith in (
-      (λ l u. rw q at (taken_join l r 16 (4 * b.loop-k.k) b.loop-k.marks b.loop-k.met (b.loop-k.invariant.0 l u) 4 (16 + 4 * b.loop-k.k) t.new.marks t.result refl t.ensures)),
-      omega arith,
-      omega (arith, t.auto.marks),
-    )
+    let r = c.args.r.now in let v = c.loop-k in let t = c.take_any-met in
+    let q : 4 * v.k + 4 ≡ 4 * (v.k + 1) = omega arith in
+    λ l u. rw q at (taken_join l r 16 (4 * v.k) v.marks v.met (v.invariant l u) 4 (16 + 4 * v.k) t.new.marks t.result refl t.ensures)
 
 pub returns : goal.returns
 unfolding mark_slots slots_free
 returns c =
-    let b = c in
-    let q : 4 * b.loop-k.k ≡ 16 = omega arith in
-    let t = rw q at (b.loop-k.invariant.0 b.args.marks.now b.take_four-met.ensures) in
+    let v = c.loop-k in
+    let q : 4 * v.k ≡ 16 = omega arith in
+    let t = rw q at (v.invariant c.args.marks.now c.take_four-met.ensures) in
     (t.free, t.marked)

@@ -24,4 +24,4 @@ returns c =
     let u : bit_and a.user 255 ≡ a.user = and_mask a.user 8 ∙ omega arith in
     let p = seven_part a.s.now a.q w.1 in
     let q = four_part a.s.now _ h.2 in
-    (rw (c.fold.ensures.0, w.0, h.0, p, q, u) refl, c.fold.ensures.1)
+    (rw (c.fold.ensures.0, w.0, h.0, p, q, u, c.from.ensures) refl, c.fold.ensures.1)

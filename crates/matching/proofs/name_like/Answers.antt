@@ -1,20 +1,20 @@
--- The loop keeps that the bytes passed are what is asked for.
-use native.Mathlib.Omega.{arith}
-use mathlib.Core.Path.{sym, ◌∙◌}
-use Rattle.lists.specs.Below.{all_none, all_more, all_fails, all_done}
-use Rattle.format.specs.Names.{name_bytes, name_like_rule}
+-- The closure tells whether a byte is what is asked for.
+use mathlib.Core.Path.{refl, ◌∙◌}
+use mathlib.Core.Bool.{Bool}
+use Prim.Native.Nat.{ℕ, ◌+◌}
+use lib.ListN.{get_or}
+use borrow.Author.Tests.{tests}
+use Rattle.std.proofs.Common.{rules}
+use Rattle.std.proofs.lemmas.Iterator.{YieldsList-from_range}
+use Rattle.std.proofs.lemmas.Iterator.Search.{all_from_yields_List}
+use Rattle.lists.specs.Ranges.{all_range}
+use Rattle.format.specs.Names.{name_bytes, byte_like_rule, name_like_rule}
 use Rattle.matching.proofs.name_like.Goals as goal
-
-pub loop-i-init : goal.loop-i-init
-loop-i-init c = (all_none _, omega arith)
-
-pub returns-then-not-byte_like : goal.returns-then-not-byte_like
-unfolding name_like_rule
-returns-then-not-byte_like c = let b = c in sym (all_fails _ name_bytes b.loop-i.i (omega arith) (sym c.byte_like.ensures ∙ c.if-not-byte_like.true))
-
-pub loop-i-preserved : goal.loop-i-preserved
-loop-i-preserved c = let b = c in (all_more _ b.loop-i.i b.loop-i.invariant.0 (sym c.byte_like.ensures ∙ c.if-not-byte_like.false), omega arith)
 
 pub returns : goal.returns
 unfolding name_like_rule
-returns c = let b = c in all_done _ b.loop-i.i name_bytes (omega arith) (omega arith) b.loop-i.invariant.0
+returns c =
+    let a = c.args in
+    let like : ℕ → Bool = λ (i : ℕ). byte_like_rule a.wild (get_or a.s.now (a.q + i) 0) (get_or a.r.now (a.p + i) 0) in
+    all_from_yields_List like _ _ c.all.result c.all.ensures.ran (YieldsList-from_range 0 name_bytes name_bytes refl refl) (λ x b q k. search (rules, tests))
+    ∙ all_range like name_bytes

@@ -1,32 +1,30 @@
--- The words decide the first eight bytes, and the loop keeps that the bytes passed are what is asked for.
-use mathlib.Core.Path.{sym, ◌∙◌}
-use Rattle.lists.specs.Below.{all_more, all_fails, all_done}
-use Rattle.format.specs.Names.{name_bytes, name_like_rule}
-use Rattle.matching.specs.Words.{words_like, words_differ}
-use native.Mathlib.Omega.{arith}
+-- The words decide the first eight bytes, and the closure tells whether one of the last three is what is asked for.
+use mathlib.Core.Path.{refl, sym, ◌∙◌}
+use mathlib.Core.Bool.{Bool, false}
+use Prim.Native.Nat.{ℕ, ◌+◌}
+use lib.ListN.{get_or}
+use borrow.Author.Tests.{tests, ne_eqb}
+use Rattle.std.proofs.Common.{rules}
+use Rattle.std.proofs.lemmas.Iterator.{YieldsList-from_range}
+use Rattle.std.proofs.lemmas.Iterator.Search.{all_from_yields_List}
+use Rattle.lists.specs.Below.{all_join}
+use Rattle.lists.specs.Ranges.{all_from}
+use Rattle.lists.specs.Tests.{and_then}
+use Rattle.format.specs.Names.{name_bytes, byte_like_rule, name_like_rule}
+use Rattle.matching.specs.Words.{eight, words_like, words_differ}
 use Rattle.matching.proofs.name_same.Goals as goal
 
 pub returns-then-word : goal.returns-then-word
+unfolding name_like_rule
 returns-then-word c =
-    let a = c in
-    words_differ a.args.s.now a.args.q a.args.r.now a.args.p c.word.ensures.1 c.word-2.ensures.1
-    (rw (c.word.ensures.0, c.word-2.ensures.0) at c.if-word.true)
+    let a = c.args in
+    let like : ℕ → Bool = λ (i : ℕ). byte_like_rule false (get_or a.s.now (a.q + i) 0) (get_or a.r.now (a.p + i) 0) in
+    let first = words_like a.s.now a.q a.r.now a.p c.word.ensures.1 c.word-2.ensures.1 (rw (c.word.ensures.0, c.word-2.ensures.0) at c.if-word.true) in
+    all_from_yields_List like _ _ c.all.result c.all.ensures.ran (YieldsList-from_range eight name_bytes 3 refl refl) (λ x b q k. search (rules, tests))
+    ∙ all_from like eight 3 ∙ sym (all_join like eight 3 ∙ and_then _ _ first)
 
-pub loop-i-init : goal.loop-i-init
-loop-i-init c =
-    let a = c in (
-      words_like a.args.s.now a.args.q a.args.r.now a.args.p c.word.ensures.1 c.word-2.ensures.1
-          (rw (c.word.ensures.0, c.word-2.ensures.0) at c.if-word.false),
-      omega arith,
-    )
-
-pub returns-then-not-byte_like : goal.returns-then-not-byte_like
-unfolding name_like_rule
-returns-then-not-byte_like c = let b = c in sym (all_fails _ name_bytes b.loop-i.i (omega arith) (sym c.byte_like.ensures ∙ c.if-not-byte_like.true))
-
-pub loop-i-preserved : goal.loop-i-preserved
-loop-i-preserved c = let b = c in (all_more _ b.loop-i.i b.loop-i.invariant.0 (sym c.byte_like.ensures ∙ c.if-not-byte_like.false), omega arith)
-
-pub returns : goal.returns
-unfolding name_like_rule
-returns c = let b = c in all_done _ b.loop-i.i name_bytes (omega arith) (omega arith) b.loop-i.invariant.0
+pub returns-else-word : goal.returns-else-word
+returns-else-word c =
+    let a = c.args in
+    ne_eqb _ _ c.if-word.false
+    ∙ words_differ a.s.now a.q a.r.now a.p c.word.ensures.1 c.word-2.ensures.1 (rw (c.word.ensures.0, c.word-2.ensures.0) at c.if-word.false)
