@@ -29,7 +29,7 @@ pub fn extent(r: &[u8]) -> usize
     requires { entry_bytes ≤ length r.now }
     ensures { (result ≡ extent_of r.now) × (result < 8416) }
 {
-    32 * lists::wide(r[14]) + lists::wide(r[12])
+    32 * usize::from(r[14]) + usize::from(r[12])
 }
 
 // The run of an extent: the extents that one entry covers. On this disk each is one by itself.
@@ -53,10 +53,7 @@ pub fn count_of(r: &[u8]) -> u8
     requires { entry_bytes ≤ length r.now }
     ensures { result ≡ count_of r.now }
 {
-    if 128 < r[15] {
-        return 128;
-    }
-    r[15]
+    r[15].min(128)
 }
 
 // One past the last record that a row or an FCB counts: 128 × extent + its count.
@@ -64,7 +61,7 @@ pub fn end_of(r: &[u8]) -> usize
     requires { entry_bytes ≤ length r.now }
     ensures { result ≡ end_of r.now }
 {
-    format::EXTENT_RECORDS * extent(r) + lists::wide(count_of(r))
+    format::EXTENT_RECORDS * extent(r) + usize::from(count_of(r))
 }
 
 // The slot that holds record k of an extent.
@@ -80,10 +77,7 @@ pub fn extent_right(r: &[u8]) -> bool
     requires { entry_bytes ≤ length r.now }
     ensures { result ≡ extent_right_rule r.now }
 {
-    if 31 < r[12] {
-        return false;
-    }
-    r[14] <= 63
+    r[12] <= 31 && r[14] <= 63
 }
 
 // Whether a row's t1' is set: the file is read-only.

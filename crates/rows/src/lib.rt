@@ -55,14 +55,7 @@ pub fn three_empty(four: &[u8]) -> bool
     requires { length four.now ≡ record_bytes }
     ensures { result ≡ all_below (λ (i : ℕ). empty (row_of four.now i)) 3 }
 {
-    let mut at = 0;
-    while at < THREE_ROWS {
-        if four[at] != 0xE5 {
-            return false;
-        }
-        at += ENTRY_BYTES;
-    }
-    true
+    (0..3).all(|i| four[i * ENTRY_BYTES] == 0xE5)
 }
 
 // Whether all four are, as in most records of a directory without date entries.
@@ -70,10 +63,7 @@ pub fn all_empty(four: &[u8]) -> bool
     requires { length four.now ≡ record_bytes }
     ensures { result ≡ all_below (λ (i : ℕ). empty (row_of four.now i)) entries_per_record }
 {
-    if !three_empty(four) {
-        return false;
-    }
-    four[THREE_ROWS] == 0xE5
+    three_empty(four) && four[THREE_ROWS] == 0xE5
 }
 
 // The row of an entry by value, for a caller that goes on to change the image.

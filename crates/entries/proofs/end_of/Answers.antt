@@ -4,4 +4,4 @@ use Rattle.entries.proofs.end_of.Goals as goal
 
 pub returns : goal.returns
 unfolding end_of
-returns c = rw (c.wide.ensures.0, c.count_of.ensures, c.extent.ensures.0)
+returns c = rw (c.from.ensures, c.count_of.ensures, c.extent.ensures.0)
