@@ -25,6 +25,7 @@ pub fn slots(r: &[u8]) -> [u8; 16]
 }
 
 // The extent number of a row or an FCB, as its bytes give it: in range or not.
+#[tactic(auto, unfolding(format::specs::Entries::extent_of))]
 pub fn extent(r: &[u8]) -> usize
     requires { entry_bytes ≤ length r.now }
     ensures { (result ≡ extent_of r.now) × (result < 8416) }
@@ -33,6 +34,7 @@ pub fn extent(r: &[u8]) -> usize
 }
 
 // The run of an extent: the extents that one entry covers. On this disk each is one by itself.
+#[tactic(auto, using(facts::specs::Naming::run_own))]
 fn run_of(ext: usize) -> usize
     ensures { result ≡ run_of eight_inch ext }
 {
@@ -40,6 +42,7 @@ fn run_of(ext: usize) -> usize
 }
 
 // Whether a row covers an extent.
+#[tactic(auto, unfolding(format::specs::Entries::covers))]
 pub fn covers_extent(r: &[u8], ext: usize) -> bool
     requires { entry_bytes ≤ length r.now }
     ensures { result ≡ covers eight_inch r.now ext }
@@ -57,6 +60,7 @@ pub fn count_of(r: &[u8]) -> u8
 }
 
 // One past the last record that a row or an FCB counts: 128 × extent + its count.
+#[tactic(auto, unfolding(format::specs::Entries::end_of))]
 pub fn end_of(r: &[u8]) -> usize
     requires { entry_bytes ≤ length r.now }
     ensures { result ≡ end_of r.now }
@@ -65,6 +69,7 @@ pub fn end_of(r: &[u8]) -> usize
 }
 
 // The slot that holds record k of an extent.
+#[tactic(auto, unfolding(format::specs::Entries::slot_for_rule))]
 pub fn slot_for(ext: usize, k: usize) -> usize
     requires { k < extent_records }
     ensures { (result ≡ slot_for_rule eight_inch ext k) × (result < slot_count) }
@@ -81,6 +86,7 @@ pub fn extent_right(r: &[u8]) -> bool
 }
 
 // Whether a row's t1' is set: the file is read-only.
+#[tactic(auto, unfolding(format::specs::Entries::read_only))]
 pub fn is_read_only(r: &[u8]) -> bool
     requires { entry_bytes ≤ length r.now }
     ensures { result ≡ read_only r.now }

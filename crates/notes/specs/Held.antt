@@ -1,5 +1,5 @@
 -- What the entry for which a note is pending says, and a test of it.
-use Rattle.std.specs.Prelude.{◌≡◌, refl, ltb, Bool, true, false, cond, ℕ, ◌≤◌, ◌<◌, None, Option, Some}
+use Rattle.std.specs.Prelude.{◌≡◌, refl, ltb, Bool, true, false, cond, ℕ, ◌≤◌, ◌<◌, None, Some}
 use Rattle.std.specs.Bool.{then_some}
 use Rattle.std.proofs.Math.Path.{ap}
 use Rattle.std.proofs.Common.{sym, ◌∙◌}

@@ -18,6 +18,7 @@ pub const PENDING: usize = 16;
 const PLACES: usize = 16;
 
 // The note of a block that is pending for slot j of entry e.
+#[tactic(auto, unfolding(format::specs::Notes::pending_for))]
 pub fn pending_note(e: usize, j: usize) -> u16
     requires { (e < eight_inch.entries) × (j < slot_count) }
     ensures { result ≡ pending_for e j }
@@ -41,6 +42,7 @@ pub fn note_at(map: &[u16], b: usize) -> u16
 }
 
 // The one change of a note: all others go through here.
+#[tactic(auto, unfolding(format::specs::Notes::with_note))]
 pub fn set_note(map: &mut [u16], b: usize, n: u16)
     requires { b < length map.old }
     ensures { map.new ≡ with_note map.old b n }

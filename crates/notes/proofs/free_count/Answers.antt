@@ -32,7 +32,7 @@ unfolding free_count_rule is_free free_one
 returns c =
     let map = c.args.map.now in
     let total = c.from.ensures ∙ sum_by_from_yields_List free_one map c.map.result _ c.sum-free.ensures.ran
-        (YieldsList-from_map _ free_one (YieldsList-from_slice map cc) c.map.ensures.closure (λ x r q k. search (rules, tests)))
-        ∙ count_elements (λ (n : ℕ). eqb n free_note) map in
+    (YieldsList-from_map _ free_one (YieldsList-from_slice map cc) c.map.ensures.closure (λ x r q k. search (rules, tests)))
+    ∙ count_elements (λ (n : ℕ). eqb n free_note) map in
     let counted : c.from.result ≡ free_count_rule eight_inch map = rw c.requires at total in
     (counted, omega (arith, count_high (is_free map) eight_inch.blocks))

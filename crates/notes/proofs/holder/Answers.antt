@@ -1,6 +1,5 @@
 -- The difference is the definition's test whether the note is pending, and the entry is held against the last one as it does.
-use mathlib.Core.Path.{◌≡◌, refl, sym, ◌∙◌}
-use mathlib.Core.Bool.{true}
+use mathlib.Core.Path.{◌≡◌, sym, ◌∙◌}
 use native.Mathlib.Omega.{arith}
 use borrow.Author.Tests.{le-leb, lt-leb}
 use Rattle.format.specs.Diskette.{eight_inch}
@@ -22,5 +21,5 @@ unfolding is_pending pending_entry
 returns c =
     let past = c.in_ok-e.ensures in
     let is : holder_of eight_inch c.args.n ≡ found_below eight_inch.entries ((c.args.n - 16) / 16) =
-        holder_pending eight_inch c.args.n (le-leb 16 c.args.n (omega (arith, c.from.ensures, past.0))) in
+    holder_pending eight_inch c.args.n (le-leb 16 c.args.n (omega (arith, c.from.ensures, past.0))) in
     c.then_some.ensures ∙ then_found eight_inch.entries _ ∙ rw (past.1, c.from.ensures) (sym is)
