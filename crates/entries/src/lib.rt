@@ -25,14 +25,16 @@ pub fn slots(r: &[u8]) -> [u8; 16]
 }
 
 // The extent number of a row or an FCB, as its bytes give it: in range or not.
+#[tactic(auto, unfolding(format::specs::Entries::extent_of))]
 pub fn extent(r: &[u8]) -> usize
     requires { entry_bytes ≤ length r.now }
     ensures { (result ≡ extent_of r.now) × (result < 8416) }
 {
-    32 * lists::wide(r[14]) + lists::wide(r[12])
+    32 * usize::from(r[14]) + usize::from(r[12])
 }
 
 // The run of an extent: the extents that one entry covers. On this disk each is one by itself.
+#[tactic(auto, using(facts::specs::Naming::run_own))]
 fn run_of(ext: usize) -> usize
     ensures { result ≡ run_of eight_inch ext }
 {
@@ -40,6 +42,7 @@ fn run_of(ext: usize) -> usize
 }
 
 // Whether a row covers an extent.
+#[tactic(auto, unfolding(format::specs::Entries::covers))]
 pub fn covers_extent(r: &[u8], ext: usize) -> bool
     requires { entry_bytes ≤ length r.now }
     ensures { result ≡ covers eight_inch r.now ext }
@@ -53,21 +56,20 @@ pub fn count_of(r: &[u8]) -> u8
     requires { entry_bytes ≤ length r.now }
     ensures { result ≡ count_of r.now }
 {
-    if 128 < r[15] {
-        return 128;
-    }
-    r[15]
+    r[15].min(128)
 }
 
 // One past the last record that a row or an FCB counts: 128 × extent + its count.
+#[tactic(auto, unfolding(format::specs::Entries::end_of))]
 pub fn end_of(r: &[u8]) -> usize
     requires { entry_bytes ≤ length r.now }
     ensures { result ≡ end_of r.now }
 {
-    format::EXTENT_RECORDS * extent(r) + lists::wide(count_of(r))
+    format::EXTENT_RECORDS * extent(r) + usize::from(count_of(r))
 }
 
 // The slot that holds record k of an extent.
+#[tactic(auto, unfolding(format::specs::Entries::slot_for_rule))]
 pub fn slot_for(ext: usize, k: usize) -> usize
     requires { k < extent_records }
     ensures { (result ≡ slot_for_rule eight_inch ext k) × (result < slot_count) }
@@ -80,13 +82,11 @@ pub fn extent_right(r: &[u8]) -> bool
     requires { entry_bytes ≤ length r.now }
     ensures { result ≡ extent_right_rule r.now }
 {
-    if 31 < r[12] {
-        return false;
-    }
-    r[14] <= 63
+    r[12] <= 31 && r[14] <= 63
 }
 
 // Whether a row's t1' is set: the file is read-only.
+#[tactic(auto, unfolding(format::specs::Entries::read_only))]
 pub fn is_read_only(r: &[u8]) -> bool
     requires { entry_bytes ≤ length r.now }
     ensures { result ≡ read_only r.now }

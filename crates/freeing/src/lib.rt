@@ -7,10 +7,11 @@ ghost use Rattle.format.specs.Notes.{settled_note_rule, freed_map, held_for_rule
 ghost use Rattle.freeing.specs.Freeing.{unlisted_slot, unlisted_map, unheld_note_rule, unheld_map, marks_pick};
 
 // The note without what is pending.
+#[tactic(auto, unfolding(format::specs::Notes::settled_note_rule, format::specs::Notes::is_pending))]
 fn settled_note(n: u16) -> u16
     ensures { result ≡ settled_note_rule n }
 {
-    if (n as usize) < notes::PENDING {
+    if usize::from(n) < notes::PENDING {
         return n;
     }
     notes::FREE
@@ -21,11 +22,9 @@ pub fn free_pending(map: &mut [u16])
     requires { length map.old ≡ eight_inch.blocks }
     ensures { map.new ≡ freed_map eight_inch map.old }
 {
-    let mut b = 0;
-    while b < format::BLOCKS {
-        let n = settled_note(map[b]);
-        notes::set_note(map, b, n);
-        b += 1;
+    for b in 0..format::BLOCKS {
+        let note = settled_note(map[b]);
+        notes::set_note(map, b, note);
     }
 }
 
@@ -48,7 +47,7 @@ fn free_slot(map: &mut [u16], slot: u8)
     if slot == 0 {
         return;
     }
-    let b = lists::wide(slot);
+    let b = usize::from(slot);
     if b < format::BLOCKS {
         notes::set_note(map, b, notes::FREE);
     }
@@ -59,14 +58,13 @@ pub fn free_slots(map: &mut [u16], slots: [u8; 16])
     requires { length map.old ≡ eight_inch.blocks }
     ensures { map.new ≡ unlisted_map eight_inch slots map.old }
 {
-    let mut j = 0;
-    while j < format::SLOTS {
-        free_slot(map, slots[j]);
-        j += 1;
+    for slot in slots {
+        free_slot(map, slot);
     }
 }
 
 // The note without what is pending for the picked entries.
+#[tactic(auto, unfolding(crate::specs::Freeing::unheld_note_rule))]
 fn unheld_note(n: u16, picked: &[u8]) -> u16
     requires { length picked.now ≡ eight_inch.entries }
     ensures { result ≡ unheld_note_rule (marks_pick picked.now) n }
@@ -82,10 +80,8 @@ pub fn free_held(map: &mut [u16], picked: &[u8])
     requires { (length map.old ≡ eight_inch.blocks) × (length picked.now ≡ eight_inch.entries) }
     ensures { map.new ≡ unheld_map eight_inch (marks_pick picked.now) map.old }
 {
-    let mut b = 0;
-    while b < format::BLOCKS {
-        let n = unheld_note(map[b], picked);
-        notes::set_note(map, b, n);
-        b += 1;
+    for b in 0..format::BLOCKS {
+        let note = unheld_note(map[b], picked);
+        notes::set_note(map, b, note);
     }
 }

@@ -9,6 +9,7 @@ ghost use Rattle.format.specs.Notes.{fresh_note_rule, fresh_map};
 ghost use Rattle.fresh.specs.Note.{told_note_rule};
 
 // The fresh note of a block past the directory, which its mark tells.
+#[tactic(auto, unfolding(crate::specs::Note::told_note_rule))]
 pub fn told_note(mark: u8) -> u16
     ensures { result ≡ told_note_rule mark }
 {
@@ -34,9 +35,7 @@ pub fn make_fresh(map: &mut [u16], marks: &[u8])
     requires { (length map.old ≡ eight_inch.blocks) × (length marks.now ≡ mark_count) }
     ensures { (d : Rows) → Marked eight_inch d marks.now → map.new ≡ fresh_map eight_inch d }
 {
-    let mut b = 0;
-    while b < format::BLOCKS {
+    for b in 0..format::BLOCKS {
         notes::set_note(map, b, fresh_note(b, marks));
-        b += 1;
     }
 }

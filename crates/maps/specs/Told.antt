@@ -1,18 +1,20 @@
 -- What the marks of a directory tell of right notes, and what a map without differences from the fresh one is.
-use Rattle.std.specs.Prelude.{◌≡◌, Bool, true, false, not, cond, ℕ, ◌+◌, ◌≤◌, ◌<◌, leb, get_or}
+use Rattle.std.specs.Prelude.{◌≡◌, Bool, true, false, not, ℕ, ◌+◌, ◌≤◌, ◌<◌, leb, get_or}
 use Rattle.std.proofs.Math.Path.{sym, subst}
-use Rattle.std.proofs.Common.{◌∙◌, arith}
+use Rattle.std.proofs.Common.{ap, ◌∙◌, arith}
+use Rattle.std.specs.List.{count_by, range_with_len}
 use Rattle.std.proofs.Math.Dec.{eqb}
 use borrow.Author.Tests.{lt-ltb, le-ltb, le-leb, lt-leb, eq-eqb, ne_eqb, eqb-true, not-true, not-false}
 use Rattle.lists.specs.Cases.{split, lt_or_le, not_both, refute}
 use Rattle.lists.specs.Tests.{◌and◌, ◌or◌, and_then, and_fails_left}
 use Rattle.lists.specs.Below.{all_below, all_at, all_intro}
-use Rattle.lists.specs.Count.{count_below, count_empty, count_next, count_zero}
+use Rattle.lists.specs.Count.{count_below, count_empty, count_zero}
 use Rattle.format.specs.Diskette.{Bytes, Geometry}
 use Rattle.format.specs.Entries.{Rows}
 use Rattle.facts.specs.Marks.{Marked}
 use Rattle.format.specs.Notes.{free_note, area_note, recorded_note, note_at_rule, is_listed, held_by_used_rule, note_right_rule, map_right, fresh_note_rule}
 use Rattle.fresh.specs.Note.{told_note_rule, fresh_area, fresh_told}
+use Rattle.notes.specs.Sums.{count_range}
 use Rattle.notes.specs.Right.{NoteOk, ok_map, fresh_ok}
 
 -- block b is past the directory, and its note is not the one that its mark tells
@@ -47,19 +49,25 @@ module _ (G : Geometry) (d : Rows) (b : ℕ) where
     unfolding note_right_rule
     right_spare n z = rw (le-ltb b G.area past, unmarked_spare z)
 
--- ---- the notes that differ: a loop over the blocks past the directory counts them
+-- ---- the notes that differ: a sum over the blocks past the directory counts them
 module _ (G : Geometry) (map marks : Bytes) where
-  pub no_area_differs : count_below (differs G map marks) G.area ≡ 0
-  unfolding differs
-  no_area_differs = count_empty (differs G map marks) G.area (λ b h. and_fails_left _ _ (lt-leb G.area b h))
+  -- the note of b is not the one that its mark tells
+  abbrev pub untold : ℕ → Bool
+  untold b = not (eqb (note_at_rule map b) (told_note_rule (get_or marks b 0)))
 
-  past_differs : (b : ℕ) → G.area ≤ b → differs G map marks b ≡ not (eqb (note_at_rule map b) (told_note_rule (get_or marks b 0)))
+  past_differs : (b : ℕ) → G.area ≤ b → differs G map marks b ≡ untold b
   unfolding differs
   past_differs b h = and_then _ _ (le-leb G.area b h)
 
-  pub difference_adds : (b n v : ℕ) → G.area ≤ b → n ≡ count_below (differs G map marks) b → v ≡ cond (not (eqb (note_at_rule map b) (told_note_rule (get_or marks b 0)))) 1 0
-      → n + v ≡ count_below (differs G map marks) (b + 1)
-  difference_adds b n v h q e = sym (count_next (differs G map marks) b ∙ rw (past_differs b h, q, e))
+  no_area_differs : count_below (differs G map marks) G.area ≡ 0
+  unfolding differs
+  no_area_differs = count_empty (differs G map marks) G.area (λ b h. and_fails_left _ _ (lt-leb G.area b h))
+
+  pub untold_counted : (n : ℕ) → G.area + n ≡ G.blocks → count_by untold (range_with_len G.area n) ≡ difference_count G map marks
+  unfolding difference_count
+  untold_counted n q =
+      count_range untold (differs G map marks) G.area n (λ k. sym (past_differs (G.area + k) (omega arith))) no_area_differs
+      ∙ ap (count_below (differs G map marks)) q
 
 -- ---- the whole map
 module _ (G : Geometry) (d : Rows) (map : Bytes) where

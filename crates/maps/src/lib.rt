@@ -44,14 +44,7 @@ fn notes_right(map: &[u16], marks: &[u8], image: &[u8]) -> bool
     ensures { Marked eight_inch (entry_at eight_inch image.now) marks.now
         → result ≡ map_right eight_inch (entry_at eight_inch image.now) map.now }
 {
-    let mut b = 0;
-    while b < format::BLOCKS {
-        if !note_right(b, map[b], marks, image) {
-            return false;
-        }
-        b += 1;
-    }
-    true
+    (0..format::BLOCKS).all(|b| note_right(b, map[b], marks, image))
 }
 
 // Whether the directory's blocks have its note.
@@ -59,39 +52,25 @@ fn area_right(map: &[u16]) -> bool
     requires { length map.now ≡ eight_inch.blocks }
     ensures { result ≡ area_right_rule eight_inch map.now }
 {
-    let mut b = 0;
-    while b < format::AREA_BLOCKS {
-        if map[b] != notes::AREA {
-            return false;
-        }
-        b += 1;
-    }
-    true
+    (0..format::AREA_BLOCKS).all(|b| map[b] == notes::AREA)
 }
 
 // 1 where a note past the directory is not the fresh one of a block with this mark, or 0.
 fn difference(n: u16, mark: u8) -> u16
     ensures { result ≡ cond (not (eqb n (told_note_rule mark))) 1 0 }
 {
-    if n != fresh::told_note(mark) {
-        return 1;
-    }
-    0
+    u16::from(n != fresh::told_note(mark))
 }
 
-// How many notes past the directory are not the fresh ones. No turn leaves the loop or branches, so that the notes are compared many at
+// How many notes past the directory are not the fresh ones. No turn leaves the sum or branches, so that the notes are compared many at
 // a time.
 fn differences(map: &[u16], marks: &[u8]) -> u16
     requires { (length map.now ≡ eight_inch.blocks) × (length marks.now ≡ mark_count) }
     ensures { result ≡ difference_count eight_inch map.now marks.now }
 {
-    let mut n: u16 = 0;
-    let mut b = format::AREA_BLOCKS;
-    while b < format::BLOCKS {
-        n += difference(map[b], marks[b]);
-        b += 1;
-    }
-    n
+    (format::AREA_BLOCKS..format::BLOCKS)
+        .map(|b| difference(map[b], marks[b]))
+        .sum()
 }
 
 // Whether the map is right for the image whose listed blocks are marked. Most maps are the fresh one: only where notes differ from it,

@@ -9,18 +9,18 @@ ghost use Rattle.format.specs.Fcb.{fcb_bytes};
 ghost use Rattle.model.specs.Closing.{takes_slot_rule, merged_byte_rule, merged_slots, ends_later_rule, later_end_rule, closed_row_rule, closed_note, close_changes_rule};
 ghost use Rattle.merging.specs.Merging.{close_keeps_rule};
 
+use std::array;
+
 // Whether slot j takes the FCB's block: the entry has none there, and the FCB has one.
 fn takes_slot(es: [u8; 16], fs: [u8; 16], j: usize) -> bool
     requires { j < slot_count }
     ensures { result ≡ takes_slot_rule eight_inch es fs j }
 {
-    if es[j] != 0 {
-        return false;
-    }
-    fs[j] != 0
+    es[j] == 0 && fs[j] != 0
 }
 
 // Byte i of the slots after a close: on this disk slot i. A block that the entry has stays.
+#[tactic(auto, unfolding(model::specs::Closing::merged_byte_rule, format::specs::Entries::slot_at))]
 fn merged_byte(es: [u8; 16], fs: [u8; 16], i: usize) -> u8
     requires { i < slot_bytes }
     ensures { result ≡ merged_byte_rule eight_inch es fs i }
@@ -38,16 +38,11 @@ fn merge(es: [u8; 16], fs: [u8; 16]) -> [u8; 16]
     if slots::slots_same(es, fs) {
         return es;
     }
-    let mut r = [0u8; 16];
-    let mut j = 0;
-    while j < format::SLOTS {
-        r[j] = merged_byte(es, fs, j);
-        j += 1;
-    }
-    r
+    array::from_fn(|j| merged_byte(es, fs, j))
 }
 
 // Whether an FCB's end is later than a row's. One whose count is 0 has none.
+#[tactic(auto, using(crate::specs::Merging::never_later, crate::specs::Merging::later_by))]
 fn ends_later(row: &[u8], fcb: &[u8]) -> bool
     requires { (entry_bytes ≤ length row.now) × (entry_bytes ≤ length fcb.now) }
     ensures { result ≡ ends_later_rule row.now fcb.now }
@@ -72,6 +67,7 @@ fn later_end(row: &mut [u8], fcb: &[u8])
 }
 
 // The entry's row after a close.
+#[tactic(auto, using(crate::specs::Merging::closed_row_law))]
 pub fn closed_row(row: [u8; 32], fcb: &[u8]) -> [u8; 32]
     requires { length fcb.now ≡ fcb_bytes }
     ensures { result ≡ closed_row_rule eight_inch row fcb.now }
@@ -91,7 +87,7 @@ fn record_block(map: &mut [u16], es: [u8; 16], fs: [u8; 16], j: usize)
     if !takes_slot(es, fs, j) {
         return;
     }
-    let b = lists::wide(fs[j]);
+    let b = usize::from(fs[j]);
     if b < map.len() {
         notes::set_note(map, b, notes::RECORDED);
     }
@@ -104,10 +100,8 @@ pub fn record_blocks(map: &mut [u16], es: [u8; 16], fs: [u8; 16])
     if slots::slots_same(es, fs) {
         return;
     }
-    let mut j = 0;
-    while j < format::SLOTS {
+    for j in 0..format::SLOTS {
         record_block(map, es, fs, j);
-        j += 1;
     }
 }
 
@@ -127,14 +121,7 @@ pub fn close_keeps(row: &[u8], fcb: &[u8]) -> bool
 fn takes_any(es: [u8; 16], fs: [u8; 16]) -> bool
     ensures { result ≡ any_below (takes_slot_rule eight_inch es fs) slot_count }
 {
-    let mut j = 0;
-    while j < format::SLOTS {
-        if takes_slot(es, fs, j) {
-            return true;
-        }
-        j += 1;
-    }
-    false
+    (0..format::SLOTS).any(|j| takes_slot(es, fs, j))
 }
 
 // Whether a close changes a row: exactly, for a stamp goes by it.

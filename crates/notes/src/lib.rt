@@ -18,6 +18,7 @@ pub const PENDING: usize = 16;
 const PLACES: usize = 16;
 
 // The note of a block that is pending for slot j of entry e.
+#[tactic(auto, unfolding(format::specs::Notes::pending_for))]
 pub fn pending_note(e: usize, j: usize) -> u16
     requires { (e < eight_inch.entries) × (j < slot_count) }
     ensures { result ≡ pending_for e j }
@@ -29,27 +30,19 @@ pub fn pending_note(e: usize, j: usize) -> u16
 pub fn holder(n: u16) -> Option<usize>
     ensures { result ≡ holder_of eight_inch n }
 {
-    if (n as usize) < PENDING {
-        return None;
-    }
-    let e = (n as usize - PENDING) / PLACES;
-    if format::ENTRIES <= e {
-        return None;
-    }
-    Some(e)
+    let e = usize::from(n).checked_sub(PENDING)? / PLACES;
+    (e < format::ENTRIES).then_some(e)
 }
 
 // The note of a block: 0 for a number past the last block.
 pub fn note_at(map: &[u16], b: usize) -> u16
     ensures { result ≡ note_at_rule map.now b }
 {
-    if b < map.len() {
-        return map[b];
-    }
-    0
+    map.get(b).copied().unwrap_or(0)
 }
 
 // The one change of a note: all others go through here.
+#[tactic(auto, unfolding(format::specs::Notes::with_note))]
 pub fn set_note(map: &mut [u16], b: usize, n: u16)
     requires { b < length map.old }
     ensures { map.new ≡ with_note map.old b n }
@@ -62,24 +55,7 @@ pub fn first_free(map: &[u16]) -> Option<usize>
     requires { length map.now ≡ eight_inch.blocks }
     ensures { result ≡ find_free eight_inch map.now }
 {
-    let mut first = 0;
-    while first < format::BLOCKS {
-        if map[first] == FREE {
-            return Some(first);
-        }
-        first += 1;
-    }
-    None
-}
-
-// 1 where a note is that of a free block, or 0.
-fn free_one(note: u16) -> u16
-    ensures { result ≡ cond (eqb note free_note) 1 0 }
-{
-    if note == FREE {
-        return 1;
-    }
-    0
+    (0..format::BLOCKS).find(|&b| map[b] == FREE)
 }
 
 // How many blocks are free.
@@ -87,11 +63,6 @@ pub fn free_count(map: &[u16]) -> usize
     requires { length map.now ≡ eight_inch.blocks }
     ensures { (result ≡ free_count_rule eight_inch map.now) × (result ≤ eight_inch.blocks) }
 {
-    let mut n: u16 = 0;
-    let mut b = 0;
-    while b < format::BLOCKS {
-        n += free_one(map[b]);
-        b += 1;
-    }
-    n as usize
+    let free: u16 = map.iter().map(|n| u16::from(*n == FREE)).sum();
+    usize::from(free)
 }

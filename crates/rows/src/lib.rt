@@ -14,6 +14,7 @@ use format::{ENTRIES_PER_RECORD, ENTRY_BYTES};
 pub const THREE_ROWS: usize = 3 * ENTRY_BYTES;
 
 // The place of an entry in the image.
+#[tactic(auto, unfolding(format::specs::Entries::entry_place_rule))]
 pub fn entry_place(e: usize) -> usize
     requires { e < eight_inch.entries }
     ensures { (result ≡ entry_place_rule eight_inch e) × (result + entry_bytes ≤ image_bytes eight_inch) }
@@ -55,14 +56,7 @@ pub fn three_empty(four: &[u8]) -> bool
     requires { length four.now ≡ record_bytes }
     ensures { result ≡ all_below (λ (i : ℕ). empty (row_of four.now i)) 3 }
 {
-    let mut at = 0;
-    while at < THREE_ROWS {
-        if four[at] != 0xE5 {
-            return false;
-        }
-        at += ENTRY_BYTES;
-    }
-    true
+    (0..3).all(|i| four[i * ENTRY_BYTES] == 0xE5)
 }
 
 // Whether all four are, as in most records of a directory without date entries.
@@ -70,13 +64,11 @@ pub fn all_empty(four: &[u8]) -> bool
     requires { length four.now ≡ record_bytes }
     ensures { result ≡ all_below (λ (i : ℕ). empty (row_of four.now i)) entries_per_record }
 {
-    if !three_empty(four) {
-        return false;
-    }
-    four[THREE_ROWS] == 0xE5
+    three_empty(four) && four[THREE_ROWS] == 0xE5
 }
 
 // The row of an entry by value, for a caller that goes on to change the image.
+#[tactic(auto, unfolding(format::specs::Entries::entry_at))]
 pub fn copy_row(image: &[u8], e: usize) -> [u8; 32]
     requires { Long eight_inch image.now × (e < eight_inch.entries) }
     ensures { result ≡ entry_at eight_inch image.now e }
@@ -88,6 +80,7 @@ pub fn copy_row(image: &[u8], e: usize) -> [u8; 32]
 }
 
 // Replaces an entry's row.
+#[tactic(auto, unfolding(format::specs::Entries::with_entry))]
 pub fn store_row(image: &mut [u8], e: usize, r: [u8; 32])
     requires { Long eight_inch image.old × (e < eight_inch.entries) }
     ensures { image.new ≡ with_entry eight_inch image.old e r }

@@ -17,7 +17,7 @@ fn slot_fits(map: &[u16], e: usize, es: [u8; 16], fs: [u8; 16], j: usize) -> boo
     if es[j] != 0 {
         return false;
     }
-    notes::note_at(map, lists::wide(fs[j])) == notes::pending_note(e, j)
+    notes::note_at(map, usize::from(fs[j])) == notes::pending_note(e, j)
 }
 
 // Whether sixteen slots are the same in both: the bits in which they differ are or-ed together. Both are lent, so that a compiler takes
@@ -26,13 +26,7 @@ pub fn same(es: &[u8], fs: &[u8]) -> bool
     requires { (slot_count ≤ length es.now) × (slot_count ≤ length fs.now) }
     ensures { result ≡ slots_same_rule es.now fs.now }
 {
-    let mut differ: u8 = 0;
-    let mut j = 0;
-    while j < format::SLOTS {
-        differ = differ | fs[j] ^ es[j];
-        j += 1;
-    }
-    differ == 0
+    (0..format::SLOTS).fold(0, |differ, j| differ | fs[j] ^ es[j]) == 0
 }
 
 // Whether every slot of an FCB is the entry's.
@@ -47,12 +41,5 @@ pub fn slots_fit(map: &[u16], e: usize, es: [u8; 16], fs: [u8; 16]) -> bool
     requires { e < eight_inch.entries }
     ensures { result ≡ slots_fit_rule eight_inch map.now e es fs }
 {
-    let mut j = 0;
-    while j < format::SLOTS {
-        if !slot_fits(map, e, es, fs, j) {
-            return false;
-        }
-        j += 1;
-    }
-    true
+    (0..format::SLOTS).all(|j| slot_fits(map, e, es, fs, j))
 }

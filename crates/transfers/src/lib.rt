@@ -9,6 +9,7 @@ ghost use Rattle.model.specs.Lent.{lend, AllLong};
 ghost use Rattle.model.specs.Target.{have_read, have_written};
 
 // Reading record r of the extent that the FCB has come to, in block b.
+#[tactic(auto, unfolding(model::specs::Target::have_read))]
 pub fn read_at(image: &[u8], fcb: &mut [u8], buffer: &mut [u8], b: usize, r: usize, cr: usize)
     requires { Long eight_inch image.now × (length fcb.old ≡ fcb_bytes) × (length buffer.old ≡ record_bytes) × (b < eight_inch.blocks)
         × (cr ≤ extent_records) }
@@ -20,6 +21,7 @@ pub fn read_at(image: &[u8], fcb: &mut [u8], buffer: &mut [u8], b: usize, r: usi
 }
 
 // Writing record r of the extent that the FCB has come to, entry t's own, in slot j and block b.
+#[tactic(auto, using(facts::specs::Counts::count_there_law), unfolding(model::specs::Target::have_written))]
 pub fn write_at(
     image: &mut [u8],
     map: &mut [u16],

@@ -1,4 +1,5 @@
--- `freeing::free_held` meets its contract. The loop's invariant: the notes below b are freed where they are held, the others as they were.
+-- `freeing::free_held` meets its contract. The loop's invariant: the notes below b are freed where they are held, the others as they
+-- were.
 use Prim.Native.Nat.{ℕ}
 use native.Mathlib.Omega.{arith}
 use Rattle.lists.specs.Tab.{filled_none, filled_all}
@@ -8,20 +9,13 @@ use Rattle.freeing.specs.Freeing.{unheld_note_rule, unheld_map, marks_pick}
 use Rattle.freeing.proofs.free_held.Goals as goal
 
 pub loop-b-init : goal.loop-b-init
-loop-b-init c = (filled_none _ _, omega arith)
+loop-b-init c = filled_none _ _
 
 pub loop-b-preserved : goal.loop-b-preserved
-loop-b-preserved c = let l = c in (
-  changed_note (λ (k n : ℕ). unheld_note_rule (marks_pick l.args.picked.now) n)
-      l.args.map.now l.loop-b.b l.loop-b.map _
-      c.unheld_note-n.result c.set_note.ensures (omega arith)
-      c.unheld_note-n.ensures l.loop-b.invariant.0,
-  omega arith,
-)
+loop-b-preserved c =
+    let l = c.loop-b in
+    changed_note (λ (k n : ℕ). unheld_note_rule (marks_pick c.args.picked.now) n) c.args.map.now l.b l.map _ _ c.set_note.ensures (omega arith) c.unheld_note-note.ensures l.invariant
 
 pub returns : goal.returns
 unfolding unheld_map
-returns c =
-    let l = c in
-    filled_all _ l.args.map.now eight_inch.blocks l.loop-b.b l.loop-b.map
-    l.requires.0 (omega arith) l.loop-b.invariant.0
+returns c = let l = c.loop-b in filled_all _ c.args.map.now eight_inch.blocks l.b l.map c.requires.0 (omega arith) l.invariant

@@ -3,24 +3,18 @@ use Prim.Native.Nat.{ℕ}
 use native.Mathlib.Omega.{arith}
 use Rattle.lists.specs.Tab.{filled_none, filled_all}
 use Rattle.format.specs.Diskette.{eight_inch}
-use Rattle.format.specs.Notes.{settled_note_rule, freed_map}
 use Rattle.notes.specs.Changes.{changed_note}
+use Rattle.format.specs.Notes.{settled_note_rule, freed_map}
 use Rattle.freeing.proofs.free_pending.Goals as goal
 
 pub loop-b-init : goal.loop-b-init
-loop-b-init c = (filled_none _ _, omega arith)
+loop-b-init c = filled_none _ _
 
 pub loop-b-preserved : goal.loop-b-preserved
-loop-b-preserved c = let l = c in (
-  changed_note (λ (k n : ℕ). settled_note_rule n) l.args.map.now l.loop-b.b l.loop-b.map _
-      c.settled_note-n.result c.set_note.ensures (omega arith)
-      c.settled_note-n.ensures l.loop-b.invariant.0,
-  omega arith,
-)
+loop-b-preserved c =
+    let l = c.loop-b in
+    changed_note (λ (k n : ℕ). settled_note_rule n) c.args.map.now l.b l.map _ _ c.set_note.ensures (omega arith) c.settled_note-note.ensures l.invariant
 
 pub returns : goal.returns
 unfolding freed_map
-returns c =
-    let l = c in
-    filled_all _ l.args.map.now eight_inch.blocks l.loop-b.b l.loop-b.map l.requires
-    (omega arith) l.loop-b.invariant.0
+returns c = let l = c.loop-b in filled_all _ c.args.map.now eight_inch.blocks l.b l.map c.requires (omega arith) l.invariant

@@ -17,11 +17,11 @@ unfolding unlisted_slot
 returns-then-b-lt-BLOCKS c =
     rw (ne_eqb _ _ c.if-slot-eq0.false) (c.set_note.ensures
     ∙ ap (λ (k : ℕ). with_note c.args.map.now k free_note)
-    c.wide-b.ensures.0)
+    c.from-b.ensures)
 
 pub returns-else-b-lt-BLOCKS : goal.returns-else-b-lt-BLOCKS
 unfolding unlisted_slot
 returns-else-b-lt-BLOCKS c =
     let a = c.args in
-    let w = c.wide-b.ensures.0 in
+    let w = c.from-b.ensures in
     rw (ne_eqb _ _ c.if-slot-eq0.false) (sym (note_out a.map.now a.slot free_note (omega arith)))

@@ -6,7 +6,7 @@ use native.Mathlib.Omega.{arith}
 use lib.Dec.{eqb}
 use lib.ListN.{length, get_or-eq_default}
 use Rattle.format.specs.Diskette.{Bytes, eight_inch}
-use Rattle.notes.specs.Holder.{holder_low, held_at, held_none}
+use Rattle.notes.specs.Held.{holder_low, held_at, held_none}
 use Rattle.freeing.specs.Freeing.{marks_pick}
 use Rattle.freeing.proofs.held_for.Goals as goal
 

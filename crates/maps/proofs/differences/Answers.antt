@@ -1,38 +1,40 @@
--- `maps::differences` meets its contract. The loop's invariant: n is the count of the differences below b.
-use mathlib.Core.Path.{sym}
-use Prim.Native.Nat.{◌+◌}
+-- The closure tells 1 where the definition counts a difference, and there are at most as many as blocks.
+use mathlib.Core.Path.{refl, ◌∙◌}
+use mathlib.Core.Bool.{cond}
+use Prim.Native.Nat.{ℕ, ◌^◌, ◌<◌}
 use native.Mathlib.Omega.{arith}
-use Rattle.lists.specs.Count.{count_high, count_done}
-use Rattle.format.specs.Diskette.{eight_inch}
-use Rattle.maps.specs.Told.{differs, difference_count, no_area_differs, difference_adds}
+use borrow.Author.Tests.{tests}
+use Rattle.std.specs.List.{count_by, range_with_len}
+use Rattle.std.proofs.Common.{rules}
+use Rattle.std.proofs.lemmas.Iterator.{YieldsList-from_range, YieldsList-from_map}
+use Rattle.std.proofs.lemmas.Iterator.Consumers.{sum_by_from_yields_List, fits_by_from_yields_list}
+use Rattle.lists.specs.Count.{count_high}
+use Rattle.format.specs.Diskette.{Bytes, eight_inch}
+use Rattle.maps.specs.Told.{differs, difference_count, untold, untold_counted}
 use Rattle.maps.proofs.differences.Goals as goal
 
-pub loop-b-init : goal.loop-b-init
-loop-b-init c = (sym (no_area_differs eight_inch _ _), omega arith, omega arith)
+-- what the closure tells of a block
+difference_of : Bytes → Bytes → ℕ → ℕ
+difference_of map marks b = cond (untold eight_inch map marks b) 1 0
 
-pub overflow_add-n : goal.overflow_add-n
-overflow_add-n c =
-    let l = c in
-    let a = l.args in
-    omega (
-      arith,
-      difference_adds eight_inch a.map.now a.marks.now l.loop-b.b l.loop-b.n _ l.loop-b.invariant.1 l.loop-b.invariant.0 c.difference-n.ensures,
-      count_high (differs eight_inch a.map.now a.marks.now) (l.loop-b.b + 1),
-    )
+few : (map marks : Bytes) → count_by (untold eight_inch map marks) (range_with_len 2 241) < 2 ^ 16
+unfolding difference_count
+few map marks = omega (arith, untold_counted eight_inch map marks 241 refl, count_high (differs eight_inch map marks) eight_inch.blocks)
 
-pub loop-b-preserved : goal.loop-b-preserved
-loop-b-preserved c =
-    let l = c in
-    let a = l.args in (
-      difference_adds eight_inch a.map.now a.marks.now l.loop-b.b l.loop-b.n _ l.loop-b.invariant.1 l.loop-b.invariant.0 c.difference-n.ensures,
-      omega arith,
-      omega arith,
-    )
+pub sum-requires-clause-fits : goal.sum-requires-clause-fits
+unfolding difference_of
+sum-requires-clause-fits c =
+    let a = c.args in
+    let one = difference_of a.map.now a.marks.now in
+    fits_by_from_yields_list one (range_with_len 2 241) c.map.result _
+    (YieldsList-from_map _ one (YieldsList-from_range 2 243 241 c.map.ensures.source refl) c.map.ensures.closure (λ x r q k. search (rules, tests)))
+    (few a.map.now a.marks.now)
 
 pub returns : goal.returns
-unfolding difference_count
+unfolding difference_of
 returns c =
-    let l = c in
-    let a = l.args in
-    count_done (differs eight_inch a.map.now a.marks.now) l.loop-b.b eight_inch.blocks (omega arith) (omega arith) l.loop-b.n
-    l.loop-b.invariant.0
+    let a = c.args in
+    let one = difference_of a.map.now a.marks.now in
+    sum_by_from_yields_List one (range_with_len 2 241) c.map.result _ c.sum.ensures.ran
+    (YieldsList-from_map _ one (YieldsList-from_range 2 243 241 c.map.ensures.source refl) c.map.ensures.closure (λ x r q k. search (rules, tests)))
+    ∙ untold_counted eight_inch a.map.now a.marks.now 241 refl

@@ -11,7 +11,8 @@ use Rattle.lists.specs.Tests.{◌and◌, and_then, and_first, and_fails_left}
 use Rattle.format.specs.Diskette.{Bytes, eight_inch, slots_on}
 use Rattle.format.specs.Entries.{entry_at, used}
 use Rattle.format.specs.Notes.{held_for_rule, held_by_used_rule, pending_slot}
-use Rattle.notes.specs.Holder.{holder_of, holder_low, held_at, held_none}
+use Rattle.notes.specs.Holder.{holder_of}
+use Rattle.notes.specs.Held.{holder_low, held_at, held_none}
 use Rattle.maps.proofs.held_by_used.Goals as goal
 
 -- the test of the entry; every slot number that a note can hold is one of the sixteen
@@ -30,11 +31,17 @@ returns-in_default c =
     (sym c.holder.ensures ∙ c.in_default.is))
 
 pub row-requires : goal.row-requires
-row-requires c = let l = (let low' : c.in-Some.e < eight_inch.entries = holder_low eight_inch c.args.n c.in-Some.e ((let known' : holder_of eight_inch c.args.n ≡ Some c.in-Some.e = sym c.holder.ensures ∙ c.in-Some.is in known')) in low') in search rules
+row-requires c =
+    let known : holder_of eight_inch c.args.n ≡ Some c.in-Some.e = sym c.holder.ensures ∙ c.in-Some.is in
+    let low : c.in-Some.e < eight_inch.entries = holder_low eight_inch c.args.n c.in-Some.e known in
+    search rules
 
 pub returns : goal.returns
 unfolding held_by_used_rule held_for_rule used
 returns c =
-    let k = c in let s = k in let e = k.in-Some.e in
+    let e = c.in-Some.e in
+    let n = c.args.n in
+    let known : holder_of eight_inch n ≡ Some e = sym c.holder.ensures ∙ c.in-Some.is in
+    let within = lt-ltb _ _ (holder_low eight_inch n e known) in
     ap used c.row.ensures.0
-    ∙ sym (held_at eight_inch s.args.n (usedIn s.args.image.now s.args.n) e ((let known' : holder_of eight_inch k.args.n ≡ Some k.in-Some.e = sym k.holder.ensures ∙ k.in-Some.is in known')) ∙ and_then _ _ (lt-ltb _ _ ((let low' : k.in-Some.e < eight_inch.entries = holder_low eight_inch k.args.n k.in-Some.e ((let known' : holder_of eight_inch k.args.n ≡ Some k.in-Some.e = sym k.holder.ensures ∙ k.in-Some.is in known')) in low'))) ∙ and_first _ _ (slot_low s.args.n))
+    ∙ sym (held_at eight_inch n (usedIn c.args.image.now n) e known ∙ and_then _ _ within ∙ and_first _ _ (slot_low n))

@@ -1,29 +1,20 @@
--- `maps::notes_right` meets its contract. The loop's invariant, where the listed blocks are marked: the notes below b are right.
-use mathlib.Core.Path.{sym, ◌∙◌}
-use native.Mathlib.Omega.{arith}
-use Rattle.lists.specs.Below.{all_none, all_more, all_fails, all_done}
+-- The closure tells the definition's test, where the listed blocks are marked.
+use mathlib.Core.Path.{refl, ◌∙◌}
+use Prim.Native.Nat.{ℕ}
+use borrow.Author.Tests.{tests}
+use Rattle.std.proofs.Common.{rules}
+use Rattle.std.proofs.lemmas.Iterator.{YieldsList-from_range}
+use Rattle.std.proofs.lemmas.Iterator.Search.{all_from_yields_List}
+use Rattle.lists.specs.Ranges.{all_range}
 use Rattle.format.specs.Diskette.{eight_inch}
-use Rattle.format.specs.Notes.{map_right}
+use Rattle.format.specs.Entries.{entry_at}
+use Rattle.format.specs.Notes.{note_at_rule, note_right_rule, map_right}
 use Rattle.maps.proofs.notes_right.Goals as goal
-
-pub loop-b-init : goal.loop-b-init
-loop-b-init c = (λ m. all_none _, omega arith)
-
-pub returns-then-not-note_right : goal.returns-then-not-note_right
-unfolding map_right
-returns-then-not-note_right c =
-    let l = c in
-    λ m. sym (all_fails _ eight_inch.blocks l.loop-b.b (omega arith) (sym (c.note_right.ensures m)
-    ∙ c.if-not-note_right.true))
-
-pub loop-b-preserved : goal.loop-b-preserved
-loop-b-preserved c =
-    let l = c in (
-      λ m. all_more _ l.loop-b.b (l.loop-b.invariant.0 m) (sym (c.note_right.ensures m)
-          ∙ c.if-not-note_right.false),
-      omega arith,
-    )
 
 pub returns : goal.returns
 unfolding map_right
-returns c = let l = c in λ m. all_done _ l.loop-b.b eight_inch.blocks (omega arith) (omega arith) (l.loop-b.invariant.0 m)
+returns c =
+    let a = c.args in
+    λ m. all_from_yields_List (λ (b : ℕ). note_right_rule eight_inch (entry_at eight_inch a.image.now) b (note_at_rule a.map.now b)) _ _
+    c.all.result c.all.ensures.ran (YieldsList-from_range 0 eight_inch.blocks eight_inch.blocks refl refl) (λ x b q k. search (rules, tests))
+    ∙ all_range _ eight_inch.blocks

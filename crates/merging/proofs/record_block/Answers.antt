@@ -18,12 +18,12 @@ unfolding closed_note slot_in
 returns-then-b-map c =
     let a = c.args in
     let t = sym c.takes_slot.ensures ∙ c.if-not-takes_slot.false in
-    rw t (c.set_note.ensures ∙ ap (λ (b : ℕ). with_note a.map.now b recorded_note) c.wide-b.ensures.0)
+    rw t (c.set_note.ensures ∙ ap (λ (b : ℕ). with_note a.map.now b recorded_note) c.from-b.ensures)
 
 pub returns-else-b-map : goal.returns-else-b-map
 unfolding closed_note slot_in
 returns-else-b-map c =
     let a = c.args in
     let t = sym c.takes_slot.ensures ∙ c.if-not-takes_slot.false in
-    let w = c.wide-b.ensures.0 in
+    let w = c.from-b.ensures in
     rw t (sym (note_out a.map.now (get_or a.fs a.j 0) recorded_note (omega arith)))

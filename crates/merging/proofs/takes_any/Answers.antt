@@ -1,22 +1,15 @@
--- `merging::takes_any` meets its contract. The loop's invariant: no slot below j is taken.
-use mathlib.Core.Path.{sym, ◌∙◌}
-use native.Mathlib.Omega.{arith}
-use Rattle.lists.specs.Below.{any_none, any_more, any_at, any_done}
-use Rattle.format.specs.Diskette.{slot_count}
+-- The closure tells the definition's test.
+use mathlib.Core.Path.{refl, ◌∙◌}
+use borrow.Author.Tests.{tests}
+use Rattle.std.proofs.Common.{rules}
+use Rattle.std.proofs.lemmas.Iterator.{YieldsList-from_range}
+use Rattle.std.proofs.lemmas.Iterator.Search.{any_from_yields_List}
+use Rattle.lists.specs.Ranges.{any_range}
+use Rattle.format.specs.Diskette.{eight_inch, slot_count}
+use Rattle.model.specs.Closing.{takes_slot_rule}
 use Rattle.merging.proofs.takes_any.Goals as goal
 
-pub loop-j-init : goal.loop-j-init
-loop-j-init c = (any_none _, omega arith)
-
-pub returns-then-takes_slot : goal.returns-then-takes_slot
-returns-then-takes_slot c =
-    let l = c in
-    sym (any_at _ slot_count l.loop-j.j (omega arith) (sym c.takes_slot.ensures ∙ c.if-takes_slot.true))
-
-pub loop-j-preserved : goal.loop-j-preserved
-loop-j-preserved c =
-    let l = c in
-    (any_more _ l.loop-j.j l.loop-j.invariant.0 (sym c.takes_slot.ensures ∙ c.if-takes_slot.false), omega arith)
-
 pub returns : goal.returns
-returns c = let l = c in any_done _ l.loop-j.j slot_count (omega arith) (omega arith) l.loop-j.invariant.0
+returns c =
+    any_from_yields_List (takes_slot_rule eight_inch c.args.es c.args.fs) _ _ c.any.result c.any.ensures.ran
+    (YieldsList-from_range 0 slot_count slot_count refl refl) (λ x b q k. search (rules, tests)) ∙ any_range _ slot_count

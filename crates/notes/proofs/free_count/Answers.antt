@@ -1,37 +1,38 @@
--- `notes::free_count` meets its contract. The loop's invariant: n is the count of the free blocks below b.
-use mathlib.Core.Path.{sym}
-use Prim.Native.Nat.{◌+◌}
+-- The closure tells 1 where the definition counts the block, and the sum is at most the number of blocks.
+use mathlib.Core.Path.{◌≡◌, ◌∙◌}
+use mathlib.Core.Bool.{cond}
+use Prim.Native.Nat.{ℕ}
 use native.Mathlib.Omega.{arith}
-use Rattle.lists.specs.Count.{count_none, count_next, count_high, count_done}
+use lib.Dec.{eqb}
+use borrow.Author.Tests.{tests}
+use Rattle.std.proofs.Common.{rules}
+use Rattle.std.proofs.lemmas.Iterator.{YieldsList-from_slice, YieldsList-from_map}
+use Rattle.std.proofs.lemmas.Iterator.Consumers.{sum_by_from_yields_List, fits_by_from_yields_list}
+use Rattle.lists.specs.Count.{count_high}
 use Rattle.format.specs.Diskette.{eight_inch}
-use Rattle.format.specs.Notes.{is_free, free_count_rule}
+use Rattle.format.specs.Notes.{free_note, is_free, free_count_rule}
+use Rattle.notes.specs.Sums.{count_elements}
 use Rattle.notes.proofs.free_count.Goals as goal
 
-pub loop-b-init : goal.loop-b-init
-loop-b-init c = (sym (count_none _), omega arith)
+-- what the closure tells of a note
+free_one : ℕ → ℕ
+free_one n = cond (eqb n free_note) 1 0
 
-pub overflow_add-n : goal.overflow_add-n
-unfolding is_free
-overflow_add-n c =
-    let l = c in
-    let p = is_free l.args.map.now in
-    omega (arith, count_next p l.loop-b.b, count_high p (l.loop-b.b + 1), c.free_one-n.ensures)
-
-pub loop-b-preserved : goal.loop-b-preserved
-unfolding is_free
-loop-b-preserved c =
-    let l = c in
-    let p = is_free l.args.map.now in
-    (omega (arith, count_next p l.loop-b.b, c.free_one-n.ensures), omega arith)
-
-pub overflow_cast-result : goal.overflow_cast-result
-overflow_cast-result c = let l = c in omega (arith, count_high (is_free l.args.map.now) l.loop-b.b)
+pub sum-free-requires-clause-fits : goal.sum-free-requires-clause-fits
+unfolding is_free free_one
+sum-free-requires-clause-fits c =
+    let map = c.args.map.now in
+    let counted = rw c.requires at (count_elements (λ (n : ℕ). eqb n free_note) map) in
+    fits_by_from_yields_list free_one map c.map.result _
+    (YieldsList-from_map _ free_one (YieldsList-from_slice map cc) c.map.ensures.closure (λ x r q k. search (rules, tests)))
+    (omega (arith, counted, count_high (is_free map) eight_inch.blocks))
 
 pub returns : goal.returns
-unfolding free_count_rule
+unfolding free_count_rule is_free free_one
 returns c =
-    let l = c in
-    let p = is_free l.args.map.now in (
-      count_done p l.loop-b.b eight_inch.blocks (omega arith) (omega arith) l.loop-b.n l.loop-b.invariant.0,
-      omega (arith, count_high p l.loop-b.b),
-    )
+    let map = c.args.map.now in
+    let total = c.from.ensures ∙ sum_by_from_yields_List free_one map c.map.result _ c.sum-free.ensures.ran
+    (YieldsList-from_map _ free_one (YieldsList-from_slice map cc) c.map.ensures.closure (λ x r q k. search (rules, tests)))
+    ∙ count_elements (λ (n : ℕ). eqb n free_note) map in
+    let counted : c.from.result ≡ free_count_rule eight_inch map = rw c.requires at total in
+    (counted, omega (arith, count_high (is_free map) eight_inch.blocks))

@@ -6,11 +6,11 @@ use Rattle.lists.specs.Below.{all_next}
 use Rattle.rows.specs.Entries.{row_empty}
 use Rattle.rows.proofs.all_empty.Goals as goal
 
-pub returns-then-not-three_empty : goal.returns-then-not-three_empty
-returns-then-not-three_empty c = sym (all_next _ 3 ∙ and_fails_left _ _ (sym c.three_empty.ensures ∙ c.if-not-three_empty.true))
+pub returns-else-three_empty : goal.returns-else-three_empty
+returns-else-three_empty c =
+    let some = c.if-three_empty.false in some ∙ sym (all_next _ 3 ∙ and_fails_left _ _ (sym c.three_empty.ensures ∙ some))
 
-pub returns : goal.returns
-returns c =
-    let a = c in
-    let three = sym c.three_empty.ensures ∙ c.if-not-three_empty.false in
-    sym (all_next _ 3 ∙ and_then _ _ three ∙ row_empty a.args.four.now 96 3 refl (omega (arith, a.requires)))
+pub returns-then-three_empty : goal.returns-then-three_empty
+returns-then-three_empty c =
+    let first = sym c.three_empty.ensures ∙ c.if-three_empty.true in
+    sym (all_next _ 3 ∙ and_then _ _ first ∙ row_empty c.args.four.now 96 3 refl (omega (arith, c.requires)))

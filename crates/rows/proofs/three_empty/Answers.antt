@@ -1,27 +1,21 @@
--- The loop keeps that the rows before the place are empty.
-use Rattle.rows.specs.Entries.{row_empty}
-use Rattle.format.specs.Diskette.{entry_bytes}
-use Rattle.lists.specs.Below.{all_none, all_more, all_fails, all_done}
-use borrow.Author.Tests.{eq-eqb, ne_eqb}
-use Prim.Native.Nat.{◌+◌, ◌/◌}
-use mathlib.Core.Path.{◌≡◌, refl, sym, ◌∙◌}
+-- The closure tells whether a row is empty by its first byte.
+use mathlib.Core.Path.{refl, sym, ◌∙◌}
 use native.Mathlib.Omega.{arith}
-use Rattle.rows.proofs.three_empty.Invariants.{blank}
+use Rattle.std.proofs.Common.{rules}
+use borrow.Author.Tests.{tests}
+use Prim.Native.Nat.{ℕ, ◌*◌}
+use lib.Dec.{eqb}
+use lib.ListN.{get_or}
+use Rattle.std.proofs.lemmas.Iterator.{YieldsList-from_range}
+use Rattle.std.proofs.lemmas.Iterator.Search.{all_from_yields_List}
+use Rattle.lists.specs.Below.{all_cong}
+use Rattle.lists.specs.Ranges.{all_range}
+use Rattle.format.specs.Diskette.{entry_bytes}
+use Rattle.rows.specs.Entries.{row_empty}
 use Rattle.rows.proofs.three_empty.Goals as goal
 
-pub loop-at-init : goal.loop-at-init
-loop-at-init c = (all_none _, refl, omega arith)
-
-pub returns-then-four-at : goal.returns-then-four-at
-returns-then-four-at c =
-    let b = c in let four = b.args.four.now in let i = b.loop-at.at / entry_bytes in
-    sym (all_fails (blank four) 3 i (omega arith) (row_empty four b.loop-at.at i (omega arith) (omega (arith, b.requires)) ∙ ne_eqb _ _ c.if-four-at.true))
-
-pub loop-at-preserved : goal.loop-at-preserved
-loop-at-preserved c =
-    let b = c in let four = b.args.four.now in let i = b.loop-at.at / entry_bytes in
-    let z : i + 1 ≡ (b.loop-at.at + entry_bytes) / entry_bytes = omega arith in
-    (rw z at (all_more (blank four) i b.loop-at.invariant.0 (row_empty four b.loop-at.at i (omega arith) (omega (arith, b.requires)) ∙ eq-eqb _ _ c.if-four-at.false)), omega arith, omega arith)
-
 pub returns : goal.returns
-returns c = let b = c in all_done (blank b.args.four.now) (b.loop-at.at / entry_bytes) 3 (omega arith) (omega arith) b.loop-at.invariant.0
+returns c =
+    let four = c.args.four.now in
+    all_from_yields_List (λ (i : ℕ). eqb (get_or four (i * entry_bytes) 0) 229) _ _ c.all.result c.all.ensures.ran (YieldsList-from_range 0 3 3 refl refl) (λ x b q k. search (rules, tests))
+    ∙ all_range _ 3 ∙ all_cong _ _ 3 (λ i h. sym (row_empty four (i * entry_bytes) i refl (omega arith)))

@@ -17,7 +17,7 @@ returns-then-es-j-ne0 c = sym (or_then _ _ (ne_eqb _ _ c.if-fs-j.false) ∙ and_
 
 pub returns : goal.returns
 returns c = let a = c.args in
-    slot_by_note a.map.now a.es a.fs a.e a.j c.wide.result c.note_at.result
+    slot_by_note a.map.now a.es a.fs a.e a.j c.from.result c.note_at.result
     c.pending_note.result
-    c.if-fs-j.false c.if-es-j-ne0.false c.wide.ensures.0
+    c.if-fs-j.false c.if-es-j-ne0.false c.from.ensures
     c.note_at.ensures c.pending_note.ensures

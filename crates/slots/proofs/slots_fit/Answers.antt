@@ -1,25 +1,17 @@
--- `slots::slots_fit` meets its contract. The loop's invariant: the slots below j fit.
-use mathlib.Core.Path.{sym, ◌∙◌}
-use native.Mathlib.Omega.{arith}
-use Rattle.lists.specs.Below.{all_none, all_more, all_fails, all_done}
-use Rattle.format.specs.Diskette.{slot_count}
-use Rattle.format.specs.Fcb.{slots_fit_rule}
+-- The closure tells the definition's test.
+use mathlib.Core.Path.{refl, ◌∙◌}
+use borrow.Author.Tests.{tests}
+use Rattle.std.proofs.Common.{rules}
+use Rattle.std.proofs.lemmas.Iterator.{YieldsList-from_range}
+use Rattle.std.proofs.lemmas.Iterator.Search.{all_from_yields_List}
+use Rattle.lists.specs.Ranges.{all_range}
+use Rattle.format.specs.Diskette.{eight_inch, slot_count}
+use Rattle.format.specs.Fcb.{slot_fits_rule, slots_fit_rule}
 use Rattle.slots.proofs.slots_fit.Goals as goal
-
-pub loop-j-init : goal.loop-j-init
-loop-j-init c = (all_none _, omega arith)
-
-pub returns-then-not-slot_fits : goal.returns-then-not-slot_fits
-unfolding slots_fit_rule
-returns-then-not-slot_fits c =
-    let l = c in
-    sym (all_fails _ slot_count l.loop-j.j (omega arith) (sym c.slot_fits.ensures ∙ c.if-not-slot_fits.true))
-
-pub loop-j-preserved : goal.loop-j-preserved
-loop-j-preserved c =
-    let l = c in
-    (all_more _ l.loop-j.j l.loop-j.invariant.0 (sym c.slot_fits.ensures ∙ c.if-not-slot_fits.false), omega arith)
 
 pub returns : goal.returns
 unfolding slots_fit_rule
-returns c = let l = c in all_done _ l.loop-j.j slot_count (omega arith) (omega arith) l.loop-j.invariant.0
+returns c =
+    let a = c.args in
+    all_from_yields_List (slot_fits_rule eight_inch a.map.now a.e a.es a.fs) _ _ c.all.result c.all.ensures.ran
+    (YieldsList-from_range 0 slot_count slot_count refl refl) (λ x b q k. search (rules, tests)) ∙ all_range _ slot_count
