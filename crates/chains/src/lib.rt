@@ -2,11 +2,12 @@
 // looks a file up is lent the chains; `Indexed` says that they are as the check has left them.
 #![tactic(auto)]
 
-ghost use Rattle.std.specs.Prelude.{◌≡◌, true, ◌+◌, ◌≤◌, ◌<◌, length};
+ghost use Rattle.std.specs.Prelude.{◌≡◌, true, ◌+◌, ◌≤◌, ◌<◌, get_or, length};
 ghost use Rattle.format.specs.Diskette.{eight_inch, Long, entry_bytes};
 ghost use Rattle.format.specs.Names.{name_bytes};
 ghost use Rattle.format.specs.Entries.{Rows, entry_at, used, find_file_rule};
 ghost use Rattle.format.specs.Consistent.{same_file_rule, alone};
+ghost use Rattle.chains.specs.Walk.{past};
 ghost use Rattle.chains.specs.Chain.{chain_bytes, Chained, Indexed};
 
 use keys::KEYS;
@@ -30,20 +31,30 @@ fn same_file(r: &[u8], t: &[u8]) -> bool
     lookups::is_file(t[0], t, 1, entries::extent(t), r)
 }
 
-// Whether no entry before e, whose row is r, is of the same file: only those of its key are looked at. A link says where the next look is, so
-// the walk is a `while`: no range or list has its places.
+// The entry that a number of the chains names, where it is not 0.
+fn linked(chain: &[u8], at: usize) -> Option<usize>
+    requires { at < length chain.now }
+    ensures { past result ≡ get_or chain.now at 0 }
+{
+    match chain[at] {
+        0 => None,
+        n => Some(usize::from(n) - 1),
+    }
+}
+
+// Whether no entry before e, whose row is r, is of the same file: only those of its key are looked at.
 fn is_alone(image: &[u8], e: usize, r: &[u8], chain: &[u8]) -> bool
     requires { Long eight_inch image.now × (e < eight_inch.entries)
         × (entry_bytes ≤ length r.now) × (r.now ≡ entry_at eight_inch image.now e) × (used r.now ≡ true)
         × Chained eight_inch (entry_at eight_inch image.now) (e + 1) chain.now }
     ensures { result ≡ alone eight_inch (entry_at eight_inch image.now) e }
 {
-    let mut f = lists::wide(chain[KEYS + e]);
-    while f != 0 {
-        if same_file(r, rows::row(image, f - 1)) {
+    let mut next = linked(chain, KEYS + e);
+    while let Some(f) = next {
+        if same_file(r, rows::row(image, f)) {
             return false;
         }
-        f = lists::wide(chain[KEYS + (f - 1)]);
+        next = linked(chain, KEYS + f);
     }
     true
 }
@@ -62,7 +73,7 @@ pub fn take_key(image: &[u8], e: usize, r: &[u8], chain: &mut [u8]) -> bool
     is_alone(image, e, r, chain)
 }
 
-// The entry of this user, name and extent: only those of its key are looked at, again from link to link.
+// The entry of this user, name and extent: only those of its key are looked at.
 pub fn find_file(
     image: &[u8],
     chain: &[u8],
@@ -75,12 +86,12 @@ pub fn find_file(
         × Indexed eight_inch (entry_at eight_inch image.now) chain.now }
     ensures { result ≡ find_file_rule eight_inch (entry_at eight_inch image.now) user s.now q ext }
 {
-    let mut f = lists::wide(chain[keys::file_key(user, s, q, ext)]);
-    while f != 0 {
-        if lookups::is_file(user, s, q, ext, rows::row(image, f - 1)) {
-            return Some(f - 1);
+    let mut next = linked(chain, keys::file_key(user, s, q, ext));
+    while let Some(f) = next {
+        if lookups::is_file(user, s, q, ext, rows::row(image, f)) {
+            return next;
         }
-        f = lists::wide(chain[KEYS + (f - 1)]);
+        next = linked(chain, KEYS + f);
     }
     None
 }
