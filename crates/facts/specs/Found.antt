@@ -1,15 +1,6 @@
 -- The answer of a look-up: what it is, what it says, and the turns of the loop that makes it.
-use Rattle.std.specs.Prelude.{◌≡◌, refl, Bool, true, false, not, ℕ, ◌≤◌, ◌<◌, List, MatchOption, None, Option, Some}
+use Rattle.std.specs.Prelude.{◌≡◌, refl, Bool, true, false, not, ℕ, ◌≤◌, ◌<◌, None, Option, Some}
 use Rattle.std.proofs.Common.{sym, ap, ◌∙◌, arith, lt-ltb, le-ltb}
-use Rattle.std.proofs.lemmas.Iterator.{first_from_Range}
-use Rattle.std.proofs.iter.Yields.{nat_range_steps}
-use Rattle.std.specs.Fn.{CalledAt}
-use Rattle.std.specs.Iterator.{YieldsThen}
-use Rattle.std.specs.List.{FoldsTo}
-use Rattle.std.specs.Bool.{⊤}
-use Rattle.std.specs.declared.ops.Range.{Range}
-use denote.Param.Members.{Mut}
-use denote.Ref.{Bor}
 use Rattle.lists.specs.Cases.{split, clash, lt_or_le}
 use Rattle.lists.specs.Below.{first_in, first_hit, first_end, first_low, first_holds, first_before, first_is, first_none}
 use Rattle.format.specs.Found.{found_below, is_found}
@@ -122,20 +113,3 @@ find_cong n p q same =
       before = λ j a b. same j (let c = w.below in omega arith) ∙ w.before j a b;
     } ∙ sym h)
     (λ h. none_is p 0 n (λ j a b. same j b ∙ none_says q 0 n h j a b) ∙ sym h)
-
--- ---- a search of a range's numbers, by a closure that tells a test
-module _ (p : ℕ → Bool) (i n : ℕ) where
-  first_shown : (r : Option ℕ) → MatchOption r ((j : ℕ) → i ≤ j → j < n → p j ≡ false)
-      (λ e. (i ≤ e) × (e < n) × (p e ≡ true) × ((j : ℕ) → i ≤ j → j < e → p j ≡ false))
-      → r ≡ found_below n (first_in p i n)
-  first_shown (Some e) h = sym (first_is_at p i n e record { low = h.0; below = h.1; holds = h.2; before = h.3 })
-  first_shown None h = sym (none_is p i n h)
-
-  pub found_in_range : {F : Type 0} {g : Mut F (Bor ℕ × Unit {0}) Bool} (s u : Range ℕ) (f : F) (r : Option ℕ)
-      → (xs : List ℕ) × (j : F) × YieldsThen nat_range_steps s xs r u × FoldsTo (λ p x q. CalledAt g p x false q) f xs j
-      × MatchOption r ⊤ (λ x. (h : F) × CalledAt g j x true h)
-      → s.start ≡ i → s.end ≡ n
-      → ((x : ℕ) (b : Bool) (q : F) → CalledAt g f x b q → (q ≡ f) × (b ≡ p x)) → r ≡ found_below n (first_in p i n)
-  found_in_range s u f r ran a b tells =
-      first_shown r (rw (a, b) at (first_from_Range s u f r (λ x. p x ≡ true) (λ x. p x ≡ false) ran
-      (λ x q k. sym (tells x true q k).1) (λ x q k. ((tells x false q k).0, sym (tells x false q k).1))))

@@ -1,4 +1,5 @@
 pub mod Found
+pub mod Search
 pub mod Slots
 pub mod Numbers
 pub mod Counts

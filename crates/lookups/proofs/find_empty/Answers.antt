@@ -4,7 +4,7 @@ use Rattle.std.proofs.Common.{rules}
 use borrow.Author.Tests.{tests}
 use Rattle.format.specs.Diskette.{eight_inch}
 use Rattle.format.specs.Entries.{entry_at, empty, find_empty_rule}
-use Rattle.facts.specs.Found.{found_in_range}
+use Rattle.facts.specs.Search.{found_in_range}
 use Rattle.facts.specs.Find.{empty_test}
 use Rattle.lookups.proofs.find_empty.Goals as goal
 
