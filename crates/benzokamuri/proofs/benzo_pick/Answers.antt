@@ -7,4 +7,5 @@ pub returns : goal.returns
 returns c =
     let m = c.pick-told in
     let s = c.says_of-says.ensures in
-    handed m.result _ _ _ _ _ m.ensures.comes_to s.0 s.1 s.2 (search rules)
+    let d = m.new.disk in
+    handed m.result _ _ d.image.now d.map.now _ _ _ m.ensures.comes_to s.0 s.1 s.2 (search rules) (search rules) (search rules)
