@@ -1,5 +1,5 @@
 -- Laws of the picker's bytes.
-use Rattle.std.specs.Prelude.{◌≡◌, refl, true, false, Bool, ℕ, ◌+◌, ◌%◌, ◌≤◌, List, [], ◌∷◌, length, take, set, get_or, eqb}
+use Rattle.std.specs.Prelude.{◌≡◌, refl, true, false, Bool, ℕ, ◌%◌, ◌≤◌, List, [], ◌∷◌, length, take, set, get_or, eqb}
 use Rattle.std.proofs.Common.{zero-add, sym, ap, ◌∙◌, arith, length-take-le}
 use lib.Pointwise.{pointwise}
 use Rattle.std.specs.List.{list_all, zip, starts_with}

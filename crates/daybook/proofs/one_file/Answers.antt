@@ -4,7 +4,6 @@ use Rattle.std.proofs.Common.{rules}
 use Rattle.std.proofs.lemmas.Iterator.{YieldsList-from_slice, YieldsList-from_zip}
 use Rattle.std.proofs.lemmas.Iterator.Search.{all_from_yields_List}
 use borrow.Author.Tests.{tests}
-use Rattle.picking.specs.Picker.{one_file_rule}
 use Rattle.daybook.specs.Bytes.{alike, names_alike}
 use Rattle.daybook.proofs.one_file.Goals as goal
 

@@ -7,8 +7,8 @@ use Rattle.daybook.proofs.read_trouble.Goals.{then-is_code-via-then-is_code, the
 pub returns-then-is_code : goal.returns-then-is_code
 returns-then-is_code c l =
     elim c.then-is_code.branch [
-      then-is_code-via-then-is_code w ↦ rw (or_left _ _ (sym (c.is_code.ensures l) ∙ w.if-is_code.true))
-    | then-is_code-via-else-is_code+then-is_code-2 w ↦ rw (or_right _ _ (sym (w.is_code-else-is_code.ensures l) ∙ w.if-is_code-2.true))
+      | then-is_code-via-then-is_code w ↦ rw (or_left _ _ (sym (c.is_code.ensures l) ∙ w.if-is_code.true))
+      | then-is_code-via-else-is_code+then-is_code-2 w ↦ rw (or_right _ _ (sym (w.is_code-else-is_code.ensures l) ∙ w.if-is_code-2.true))
     ]
 
 pub returns : goal.returns
