@@ -72,7 +72,10 @@ pub fn log_in_and_run(
         (acts_of script.now fcbs.old buffers.old)
         result.accepted (disk_of image.new map.new result.session) fcb.new buffer.new }
 {
-    let login = Asked { number: 13, ..asked };
+    let login = Asked {
+        number: 13,
+        ..asked
+    };
     let answer = bdos::call(login, image, map, fcb, buffer, session);
     if !calls::accepted(13, answer) {
         return Ran {
@@ -135,7 +138,10 @@ fn read_again(
 {
     let at = format::EXTENT_RECORDS * target.extent + target.at;
     entering::put_three(fcb, 33, at);
-    let read = Asked { number: 33, ..asked };
+    let read = Asked {
+        number: 33,
+        ..asked
+    };
     bdos::call(read, image, map, fcb, back, session)
 }
 
