@@ -53,10 +53,7 @@ pub fn one_call(
 fn wrote(number: u8, answer: Answer) -> bool
     ensures { result ≡ writes_answer number answer }
 {
-    if calls::writes(number) {
-        return calls::accepted(number, answer);
-    }
-    false
+    calls::writes(number) && calls::accepted(number, answer)
 }
 
 // Demand 3, of `call` itself: a log-in, with whatever is asked besides its number, and, where it is accepted, any script, and nothing is lost.
@@ -75,19 +72,20 @@ pub fn log_in_and_run(
         (acts_of script.now fcbs.old buffers.old)
         result.accepted (disk_of image.new map.new result.session) fcb.new buffer.new }
 {
-    let mut login = asked;
-    login.number = 13;
+    let login = Asked {
+        number: 13,
+        ..asked
+    };
     let answer = bdos::call(login, image, map, fcb, buffer, session);
-    let s = answer.session;
     if !calls::accepted(13, answer) {
         return Ran {
             accepted: false,
-            session: s,
+            session: answer.session,
         };
     }
     Ran {
         accepted: true,
-        session: script::run_script(script, fcbs, buffers, image, map, s),
+        session: script::run_script(script, fcbs, buffers, image, map, answer.session),
     }
 }
 
@@ -140,8 +138,10 @@ fn read_again(
 {
     let at = format::EXTENT_RECORDS * target.extent + target.at;
     entering::put_three(fcb, 33, at);
-    let mut read = asked;
-    read.number = 33;
+    let read = Asked {
+        number: 33,
+        ..asked
+    };
     bdos::call(read, image, map, fcb, back, session)
 }
 

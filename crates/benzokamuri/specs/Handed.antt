@@ -17,16 +17,16 @@ pub record Handed (r : Picked) (bytes image map : Bytes) (p : picker.Picked) : T
   pub word : bytes ≡ p.word
   pub disk : disk_of image map r.session ≡ p.disk
 
--- from what the picker's code tells
-pub handed : (t : Told) (r : Picked) (bytes image map : Bytes) (p : picker.Picked) → picker.picks t bytes image map ≡ p
-    → r.number ≡ (says_of t.pick).number → r.a ≡ (says_of t.pick).a → r.h ≡ (says_of t.pick).h → r.given ≡ cond t.given 1 0 → r.session ≡ t.session
+-- from what the picker's code tells, on the disk with the image i and the map m
+pub handed : (t : Told) (r : Picked) (bytes i m image map : Bytes) (p : picker.Picked) → picker.picks t bytes (disk_of i m r.session) ≡ p
+    → r.number ≡ (says_of t.pick).number → r.a ≡ (says_of t.pick).a → r.h ≡ (says_of t.pick).h → r.given ≡ cond t.given 1 0 → image ≡ i → map ≡ m
     → Handed r bytes image map p
-handed t r bytes image map p e n a h g s =
+handed t r bytes i m image map p e n a h g x y =
     record {
-      number = n ∙ ap (λ (x : picker.Picked). (says_of x.pick).number) e;
-      is_a = a ∙ ap (λ (x : picker.Picked). (says_of x.pick).a) e;
-      is_h = h ∙ ap (λ (x : picker.Picked). (says_of x.pick).h) e;
-      given = g ∙ ap (λ (x : picker.Picked). cond x.given 1 0) e;
-      word = ap (λ (x : picker.Picked). x.word) e;
-      disk = ap (disk_of image map) s ∙ ap (λ (x : picker.Picked). x.disk) e;
+      number = n ∙ ap (λ (q : picker.Picked). (says_of q.pick).number) e;
+      is_a = a ∙ ap (λ (q : picker.Picked). (says_of q.pick).a) e;
+      is_h = h ∙ ap (λ (q : picker.Picked). (says_of q.pick).h) e;
+      given = g ∙ ap (λ (q : picker.Picked). cond q.given 1 0) e;
+      word = ap (λ (q : picker.Picked). q.word) e;
+      disk = rw (x, y) (ap (λ (q : picker.Picked). q.disk) e);
     }

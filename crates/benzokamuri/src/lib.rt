@@ -1,7 +1,7 @@
 // The calls that hosts make, each with the contract that it is exported with: benzokamuri_c hands them on to C and Rust hosts.
 #![tactic(auto)]
 
-ghost use Rattle.std.specs.Prelude.{◌≡◌, cond};
+ghost use Rattle.std.specs.Prelude.{◌≡◌};
 ghost use Rattle.format.specs.Diskette.{eight_inch};
 ghost use Rattle.model.specs.Lent.{lend, outcome, lift, protect};
 ghost use Rattle.model.specs.Step.{step};
@@ -9,6 +9,7 @@ ghost use Rattle.demands.specs.Runs.{disk_of};
 ghost use Rattle.picking.specs.Picker.{picked};
 ghost use Rattle.benzokamuri.specs.Handed.{Handed};
 
+use logging::Disk;
 use model::{Answer, Asked, Session};
 use picking::{Time, Wanted};
 
@@ -53,16 +54,6 @@ pub fn benzo_protect(session: Session) -> Session
     protection::protect(session)
 }
 
-// A test as a byte.
-fn byte_of(test: bool) -> u8
-    ensures { result ≡ cond test 1 0 }
-{
-    if test {
-        return 1;
-    }
-    0
-}
-
 // The word of a day, and the day logged, whatever is handed.
 pub fn benzo_pick(
     wanted: Wanted,
@@ -75,15 +66,18 @@ pub fn benzo_pick(
     ensures { Handed result word.new image.new map.new
         (picked eight_inch time wanted (disk_of image.old map.old session) word.old) }
 {
-    let told = picker::pick(wanted, time, image, map, word, session);
-    let pick = told.pick;
-    let says = daybook::says_of(pick);
-    let left = told.session;
+    let mut disk = Disk {
+        image,
+        map,
+        session,
+    };
+    let told = picker::pick(&mut disk, wanted, time, word);
+    let says = daybook::says_of(told.pick);
     Picked {
         number: says.number,
-        given: byte_of(told.given),
+        given: u8::from(told.given),
         a: says.a,
         h: says.h,
-        session: left,
+        session: disk.session,
     }
 }

@@ -17,9 +17,6 @@ ghost use Rattle.daybook.specs.Said.{said, read_trouble_rule, close_told_rule};
 use model::{Answer, Session};
 use picking::{Pick, Told, Wanted};
 
-// The bytes of a log record that tell year and day.
-const STAMP_BYTES: usize = 9;
-
 const LAST_DAY: u16 = 365;
 
 // What hosts are told of how a run ended: a number, and A and H where that is a refusal without a name of its own.
@@ -103,14 +100,7 @@ pub fn has_stamp(year: u16, day: u16, bytes: [u8; 128]) -> bool
     ensures { result ≡ has_stamp_rule year day bytes }
 {
     let wanted = stamp_of(year, day);
-    let mut i = 0;
-    while i < STAMP_BYTES {
-        if bytes[i] != wanted[i] {
-            return false;
-        }
-        i += 1;
-    }
-    true
+    bytes.starts_with(&wanted)
 }
 
 // Whether book and log are one file: their names are the same in the low seven bits.
@@ -119,14 +109,7 @@ pub fn one_file(wanted: Wanted) -> bool
 {
     let book = wanted.book;
     let log = wanted.log;
-    let mut i = 0;
-    while i < format::NAME_BYTES {
-        if book[i] % 128 != log[i] % 128 {
-            return false;
-        }
-        i += 1;
-    }
-    true
+    book.iter().zip(log.iter()).all(|(b, l)| b % 128 == l % 128)
 }
 
 // The size that 35 put into r0 to r2.
@@ -155,42 +138,28 @@ pub fn day_over(day: u16) -> bool
 pub fn record_accepted(answer: Answer) -> bool
     ensures { (number : ℕ) → of_record (kind_of number) ≡ true → result ≡ accepted_answer number answer }
 {
-    if answer.h != 0 {
-        return false;
-    }
-    answer.a == 0
+    answer.h == 0 && answer.a == 0
 }
 
 // Whether that to any other call does.
 pub fn entry_accepted(answer: Answer) -> bool
     ensures { (number : ℕ) → of_record (kind_of number) ≡ false → result ≡ accepted_answer number answer }
 {
-    if answer.h != 0 {
-        return false;
-    }
-    answer.a != 255
+    answer.h == 0 && answer.a != 255
 }
 
 // Whether a log record that was read is there, and has the year and day.
 pub fn tells_day(year: u16, day: u16, answer: Answer, bytes: [u8; 128]) -> bool
     ensures { result ≡ (accepted_answer 33 answer and has_stamp_rule year day bytes) }
 {
-    let there = record_accepted(answer);
-    let stamped = has_stamp(year, day, bytes);
-    if there {
-        return stamped;
-    }
-    false
+    record_accepted(answer) && has_stamp(year, day, bytes)
 }
 
 // Whether A and H are these.
 pub fn is_code(a: u8, h: u8, answer: Answer) -> bool
     ensures { (l : Lent) → result ≡ is_code a h (said answer l) }
 {
-    if answer.a != a {
-        return false;
-    }
-    answer.h == h
+    answer.a == a && answer.h == h
 }
 
 // A refusal that has no name of its own.
@@ -230,10 +199,7 @@ pub fn write_trouble(answer: Answer) -> Pick
 pub fn read_trouble(answer: Answer) -> Pick
     ensures { (l : Lent) → result ≡ read_trouble_rule (said answer l) }
 {
-    if is_code(1, 0, answer) {
-        return Pick::NoWord;
-    }
-    if is_code(4, 0, answer) {
+    if is_code(1, 0, answer) || is_code(4, 0, answer) {
         return Pick::NoWord;
     }
     other(answer)
@@ -250,48 +216,37 @@ pub fn close_told(answer: Answer) -> Pick
 }
 
 // What a run that hands out no word tells.
-pub fn wordless(pick: Pick, session: Session) -> Told
-    ensures { (result.pick ≡ pick) × (result.given ≡ false) × (result.session ≡ session) }
+pub fn wordless(pick: Pick) -> Told
+    ensures { (result.pick ≡ pick) × (result.given ≡ false) }
 {
-    Told {
-        pick: pick,
-        given: false,
-        session: session,
-    }
-}
-
-// What hosts are told that has no A and H.
-fn named(number: u8) -> Says
-    ensures { (result.number ≡ number) × (result.a ≡ 0) × (result.h ≡ 0) }
-{
-    Says {
-        number: number,
-        a: 0,
-        h: 0,
-    }
+    Told { pick, given: false }
 }
 
 // The number of how a run ended, with A and H.
 pub fn says_of(pick: Pick) -> Says
     ensures { (result.number ≡ (says_of pick).number) × (result.a ≡ (says_of pick).a) × (result.h ≡ (says_of pick).h) }
 {
+    let named = Says {
+        number: 0,
+        a: 0,
+        h: 0,
+    };
     match pick {
-        Pick::Logged => named(0),
-        Pick::Again => named(1),
-        Pick::DayOver => named(2),
-        Pick::NoBook => named(3),
-        Pick::NoWord => named(4),
-        Pick::OneFile => named(5),
-        Pick::NoFirst => named(6),
-        Pick::LogFull => named(7),
-        Pick::LogReadOnly => named(8),
-        Pick::DirectoryFull => named(9),
-        Pick::DiskFull => named(10),
-        Pick::Other(a, h) => Says {
-            number: 11,
-            a: a,
-            h: h,
+        Pick::Logged => named,
+        Pick::Again => Says { number: 1, ..named },
+        Pick::DayOver => Says { number: 2, ..named },
+        Pick::NoBook => Says { number: 3, ..named },
+        Pick::NoWord => Says { number: 4, ..named },
+        Pick::OneFile => Says { number: 5, ..named },
+        Pick::NoFirst => Says { number: 6, ..named },
+        Pick::LogFull => Says { number: 7, ..named },
+        Pick::LogReadOnly => Says { number: 8, ..named },
+        Pick::DirectoryFull => Says { number: 9, ..named },
+        Pick::DiskFull => Says {
+            number: 10,
+            ..named
         },
+        Pick::Other(a, h) => Says { number: 11, a, h },
     }
 }
 

@@ -3,143 +3,68 @@
 
 ghost use Rattle.std.specs.Prelude.{◌≡◌};
 ghost use Rattle.format.specs.Diskette.{eight_inch};
-ghost use Rattle.demands.specs.Runs.{disk_of};
-ghost use Rattle.picking.specs.Picker.{notes, look, searched, added, extended};
+ghost use Rattle.demands.specs.Runs.{outcome_of};
+ghost use Rattle.picking.specs.Picker.{notes, blank, reading, tells, searched, added, extended};
+ghost use Rattle.logging.specs.Held.{held, StillLent};
 ghost use Rattle.extending.specs.Laws.{searches};
 
-use model::Session;
-use picking::{Noted, Pick, Time, Wanted};
+use logging::Disk;
+use picking::{Pick, Time, Wanted};
 
 // A log with so many records is full.
 const FULL_LOG: usize = 1024;
 
-// How far a search of the log has come: whether a record had the year and day, and the session that the reads left.
-#[derive(Clone, Copy)]
-pub struct Searching {
-    pub found: bool,
-    pub session: Session,
-}
-
-// Record r of the log looked at, through the FCB that the open handed back; where a record was found before, none is read.
-fn look_at(
-    wanted: Wanted,
-    time: Time,
-    image: &mut [u8],
-    map: &mut [u16],
-    fcb: [u8; 36],
-    r: usize,
-    s: Searching,
-) -> Searching
-    ensures { searches result image.new map.new
-        ≡ look eight_inch time wanted fcb (searches s image.old map.old) r }
+// Record r of the log read, through the FCB that the open handed back: whether it is there, and has the year and day.
+fn look_at(disk: &mut Disk, wanted: Wanted, time: Time, fcb: [u8; 36], r: usize) -> bool
+    ensures still_lent { StillLent disk.old disk.new }
+    ensures comes_to { searches result (held disk.new)
+        ≡ tells eight_inch time wanted (outcome_of eight_inch (held disk.old) (reading time fcb r blank)) }
 {
-    if s.found {
-        return s;
-    }
     let mut f = daybook::at_record(fcb, r);
     let mut buffer = daybook::blank_record();
-    let session = s.session;
-    let answer = logging::call(time, 33, image, map, &mut f, &mut buffer, session);
-    let left = answer.session;
-    Searching {
-        found: daybook::tells_day(wanted.year, wanted.day, answer, buffer),
-        session: left,
-    }
+    let answer = disk.call(time, 33, &mut f, &mut buffer);
+    daybook::tells_day(wanted.year, wanted.day, answer, buffer)
 }
 
-// The records below n looked at, one after the other.
-fn search(
-    wanted: Wanted,
-    time: Time,
-    image: &mut [u8],
-    map: &mut [u16],
-    fcb: [u8; 36],
-    n: usize,
-    session: Session,
-) -> Searching
-    ensures { searches result image.new map.new
-        ≡ searched eight_inch time wanted (disk_of image.old map.old session) fcb n }
+// Whether a record below n has the year and day: they are read one after the other, and none after one that has.
+fn search(disk: &mut Disk, wanted: Wanted, time: Time, fcb: [u8; 36], n: usize) -> bool
+    ensures still_lent { StillLent disk.old disk.new }
+    ensures comes_to { searches result (held disk.new)
+        ≡ searched eight_inch time wanted (held disk.old) fcb n }
 {
-    let mut s = Searching {
-        found: false,
-        session: session,
-    };
-    let mut r = 0;
-    while r < n {
-        s = look_at(wanted, time, image, map, fcb, r, s);
-        r += 1;
+    for r in 0..n {
+        if look_at(disk, wanted, time, fcb, r) {
+            return true;
+        }
     }
-    s
-}
-
-// The log was searched: where no record had the year and day, it is written at n.
-fn add(
-    wanted: Wanted,
-    time: Time,
-    image: &mut [u8],
-    map: &mut [u16],
-    fcb: [u8; 36],
-    n: usize,
-    s: Searching,
-) -> Noted
-    ensures { notes result image.new map.new
-        ≡ added eight_inch time wanted (searches s image.old map.old) fcb n }
-{
-    let session = s.session;
-    if s.found {
-        return Noted {
-            pick: Pick::Again,
-            session: session,
-        };
-    }
-    if FULL_LOG <= n {
-        return Noted {
-            pick: Pick::LogFull,
-            session: session,
-        };
-    }
-    logging::write_log(wanted, time, image, map, fcb, n, session)
+    false
 }
 
 // The log, open, has n records: it is searched, and written where no record had the year and day.
-fn search_and_add(
-    wanted: Wanted,
-    time: Time,
-    image: &mut [u8],
-    map: &mut [u16],
-    fcb: [u8; 36],
-    n: usize,
-    session: Session,
-) -> Noted
-    ensures { notes result image.new map.new
-        ≡ added eight_inch time wanted (searched eight_inch time wanted (disk_of image.old map.old session) fcb n) fcb n }
+fn search_and_add(disk: &mut Disk, wanted: Wanted, time: Time, fcb: [u8; 36], n: usize) -> Pick
+    ensures still_lent { StillLent disk.old disk.new }
+    ensures comes_to { notes result (held disk.new)
+        ≡ added eight_inch time wanted (searched eight_inch time wanted (held disk.old) fcb n) fcb n }
 {
-    let s = search(wanted, time, image, map, fcb, n, session);
-    add(wanted, time, image, map, fcb, n, s)
+    if search(disk, wanted, time, fcb, n) {
+        return Pick::Again;
+    }
+    if FULL_LOG <= n {
+        return Pick::LogFull;
+    }
+    logging::write_log(disk, wanted, time, fcb, n)
 }
 
 // The log has n records: it is opened, and searched.
-pub fn extend_log(
-    wanted: Wanted,
-    time: Time,
-    image: &mut [u8],
-    map: &mut [u16],
-    n: usize,
-    session: Session,
-) -> Noted
-    ensures { notes result image.new map.new
-        ≡ extended eight_inch time wanted (disk_of image.old map.old session) n }
+pub fn extend_log(disk: &mut Disk, wanted: Wanted, time: Time, n: usize) -> Pick
+    ensures still_lent { StillLent disk.old disk.new }
+    ensures comes_to { notes result (held disk.new) ≡ extended eight_inch time wanted (held disk.old) n }
 {
-    let log = wanted.log;
-    let mut f = daybook::fcb_of(log);
+    let mut f = daybook::fcb_of(wanted.log);
     let mut buffer = daybook::blank_record();
-    let answer = logging::call(time, 15, image, map, &mut f, &mut buffer, session);
-    let left = answer.session;
+    let answer = disk.call(time, 15, &mut f, &mut buffer);
     if daybook::entry_accepted(answer) {
-        return search_and_add(wanted, time, image, map, f, n, left);
+        return search_and_add(disk, wanted, time, f, n);
     }
-    Noted {
-        pick: daybook::missing(Pick::NoFirst, answer),
-        session: left,
-    }
+    daybook::missing(Pick::NoFirst, answer)
 }

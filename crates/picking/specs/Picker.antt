@@ -11,13 +11,12 @@ use Rattle.model.specs.declared.Asked.{Asked}
 use Rattle.model.specs.declared.Session.{Session}
 use Rattle.model.specs.Lent.{Outcome, lift, protect, protected}
 use Rattle.table.specs.Accepted.{accepted_answer}
-use Rattle.demands.specs.Runs.{Request, Disk, disk_of, outcome_of, left}
+use Rattle.demands.specs.Runs.{Request, Disk, outcome_of, left}
 use Rattle.demands.specs.Reading.{at_record_rule}
 use Rattle.picking.specs.declared.Wanted.{Wanted}
 use Rattle.picking.specs.declared.Time.{Time}
 use Rattle.picking.specs.declared.Pick.{Pick}
 use Rattle.picking.specs.declared.Pick.TheVariants.{Logged, Again, DayOver, NoBook, NoWord, OneFile, NoFirst, LogFull, LogReadOnly, DirectoryFull, DiskFull, Other}
-use Rattle.picking.specs.declared.Noted.{Noted}
 use Rattle.picking.specs.declared.Told.{Told}
 
 -- ---- what a run comes to
@@ -34,11 +33,11 @@ pub record Logging : Type 0 where
   pub disk : Disk
 
 -- the same, of what code hands back
-abbrev pub picks : Told → Bytes → Bytes → Bytes → Picked
-picks r word image map = record { pick = r.pick; given = r.given; word = word; disk = disk_of image map r.session }
+abbrev pub picks : Told → Bytes → Disk → Picked
+picks r word d = record { pick = r.pick; given = r.given; word = word; disk = d }
 
-abbrev pub notes : Noted → Bytes → Bytes → Logging
-notes r image map = record { pick = r.pick; disk = disk_of image map r.session }
+abbrev pub notes : Pick → Disk → Logging
+notes p d = record { pick = p; disk = d }
 
 -- ---- the bytes
 -- the FCB of a name: drive 0, extent 0, all else 0

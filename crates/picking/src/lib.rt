@@ -1,8 +1,6 @@
 // The word picker of document 02, [11], as a definition made of calls, in specs/. Here stand the types in which a word is asked for and answered.
 #![tactic(auto)]
 
-use model::Session;
-
 // What is wanted: the word of a day of a year, out of a book, with a log; the names are those of an FCB, eleven bytes.
 #[repr(C)]
 #[derive(Clone, Copy)]
@@ -40,17 +38,9 @@ pub enum Pick {
     Other(u8, u8),
 }
 
-// What logging a day tells.
-#[derive(Clone, Copy)]
-pub struct Noted {
-    pub pick: Pick,
-    pub session: Session,
-}
-
 // What a run tells, and whether it handed out the word.
 #[derive(Clone, Copy)]
 pub struct Told {
     pub pick: Pick,
     pub given: bool,
-    pub session: Session,
 }

@@ -12,7 +12,7 @@ use model::{Asked, Session};
 // The numbers of a call in a script: its own, its argument, day, hour and minute, and the lengths of its FCB and of its buffer.
 const CALL_NUMBERS: usize = 7;
 
-// In place of a call's number: the protection lifted, and set.
+// In place of a call's number: the protection lifted, and set. They are numbers, since a script may have any.
 const LIFTS: usize = 256;
 
 const PROTECTS: usize = 257;
@@ -25,7 +25,7 @@ struct Point {
     session: Session,
 }
 
-// What a call of a script asks for: its first five numbers, each in its range. The call is there whole: the loop's test.
+// What a call of a script asks for: its first five numbers, each in its range. The call is there whole: the loop's bound.
 fn asked_at(script: &[usize], at: usize) -> Asked
     requires { at + 7 ≤ length script.now }
     ensures { result ≡ asked_at_rule script.now at }
@@ -70,12 +70,11 @@ fn make_act(
     if number == PROTECTS {
         return protection::protect(session);
     }
-    let answer = bdos::call(asked, image, map, fcb, buffer, session);
-    answer.session
+    bdos::call(asked, image, map, fcb, buffer, session).session
 }
 
 // The next act of a script: those that are left, made on what it leaves, come to what they and it came to before. What it requires is the
-// loop's test and invariant.
+// loop's bound and invariant.
 fn next_act(
     script: &[usize],
     at: usize,
@@ -90,26 +89,25 @@ fn next_act(
         ≡ acts_left script.now at fcbs.old buffers.old image.old map.old p)
         × (result.fcbs ≤ length fcbs.old) × (result.buffers ≤ length buffers.old) }
 {
-    let s = p.session;
     let fcb_from = p.fcbs;
     let fcb_to = ends_at(fcbs, fcb_from, script[at + 5]);
     let from = p.buffers;
     let to = ends_at(buffers, from, script[at + 6]);
     let asked = asked_at(script, at);
     let number = script[at];
-    let t = make_act(
+    let session = make_act(
         number,
         asked,
         image,
         map,
         &mut fcbs[fcb_from..fcb_to],
         &mut buffers[from..to],
-        s,
+        p.session,
     );
     Point {
         fcbs: fcb_to,
         buffers: to,
-        session: t,
+        session,
     }
 }
 
@@ -129,12 +127,10 @@ pub fn run_script(
     let mut p = Point {
         fcbs: 0,
         buffers: 0,
-        session: session,
+        session,
     };
-    let mut at = 0;
-    while CALL_NUMBERS <= script.len() - at {
-        p = next_act(script, at, fcbs, buffers, image, map, p);
-        at += CALL_NUMBERS;
+    for k in 0..script.len() / CALL_NUMBERS {
+        p = next_act(script, CALL_NUMBERS * k, fcbs, buffers, image, map, p);
     }
     p.session
 }

@@ -48,10 +48,6 @@ pub fn pick_twice(
         result word.new other.new image.new map.new }
 {
     let first = benzokamuri::benzo_pick(wanted, time, image, map, word, session);
-    let left = first.session;
-    let second = benzokamuri::benzo_pick(wanted, again, image, map, other, left);
-    Twice {
-        first: first,
-        second: second,
-    }
+    let second = benzokamuri::benzo_pick(wanted, again, image, map, other, first.session);
+    Twice { first, second }
 }

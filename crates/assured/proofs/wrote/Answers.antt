@@ -9,6 +9,6 @@ pub returns-then-writes : goal.returns-then-writes
 unfolding writes_answer
 returns-then-writes c = c.accepted.ensures ∙ sym (and_then _ _ (sym c.writes.ensures ∙ c.if-writes.true))
 
-pub returns : goal.returns
+pub returns-else-writes : goal.returns-else-writes
 unfolding writes_answer
-returns c = sym (and_fails_left _ _ (sym c.writes.ensures ∙ c.if-writes.false))
+returns-else-writes c = c.if-writes.false ∙ sym (and_fails_left _ _ (sym c.writes.ensures ∙ c.if-writes.false))

@@ -5,10 +5,10 @@ use Rattle.lists.specs.Tests.{and_then, and_fails_left}
 use Rattle.table.specs.Accepted.{accepted_answer}
 use Rattle.daybook.proofs.entry_accepted.Goals as goal
 
-pub returns-then-answer-ne0 : goal.returns-then-answer-ne0
+pub returns-then-answer-eq0 : goal.returns-then-answer-eq0
 unfolding accepted_answer
-returns-then-answer-ne0 c number k = sym (and_fails_left _ _ (ne_eqb _ _ c.if-answer-ne0.true))
+returns-then-answer-eq0 c number k = sym (and_then _ _ (eq-eqb _ _ c.if-answer-eq0.true) ∙ rw k)
 
-pub returns : goal.returns
+pub returns-else-answer-eq0 : goal.returns-else-answer-eq0
 unfolding accepted_answer
-returns c number k = sym (and_then _ _ (eq-eqb _ _ c.if-answer-ne0.false) ∙ rw k)
+returns-else-answer-eq0 c number k = let z = ne_eqb _ _ c.if-answer-eq0.false in z ∙ sym (and_fails_left _ _ z)

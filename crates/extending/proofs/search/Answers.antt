@@ -1,25 +1,27 @@
--- `extending::search` meets its contract: the loop keeps that the records passed were looked at.
-use mathlib.Core.Path.{refl, sym, ◌∙◌}
+-- `extending::search` meets its contract: it ends with the record that has the year and day, or with the last.
 use native.Mathlib.Omega.{arith}
-use Rattle.lists.specs.Fold.{fold_none, fold_more, fold_done}
-use Rattle.picking.specs.Picker.{searched}
+use Prim.Native.Nat.{◌+◌}
+use Rattle.std.proofs.Common.{rules}
+use Rattle.format.specs.Diskette.{eight_inch}
+use Rattle.logging.specs.Held.{held}
+use Rattle.extending.specs.Laws.{search_begins, search_goes_on, search_ends}
 use Rattle.extending.proofs.search.Goals as goal
 
 pub loop-r-init : goal.loop-r-init
-loop-r-init c = (sym (fold_none _ _), omega arith, refl, refl)
+loop-r-init c = let a = c.args in (search_begins eight_inch a.time a.wanted (held a.disk.now) a.fcb, search rules)
+
+pub returns-then-look_at-clause-comes_to : goal.returns-then-look_at-clause-comes_to
+returns-then-look_at-clause-comes_to c =
+    let a = c.args in
+    let l = c.loop-r in
+    let d = held a.disk.now in
+    search_ends eight_inch a.time a.wanted d a.fcb _ (l.r + 1) a.n
+    (search_goes_on eight_inch a.time a.wanted d a.fcb (held l.disk) l.r l.invariant.0 _ c.if-look_at.ensures.comes_to) (omega arith)
 
 pub loop-r-preserved : goal.loop-r-preserved
 loop-r-preserved c =
-    let l = c.loop-r in
-    let m = c.look_at-s in
-    (fold_more _ _ _ _ l.r l.invariant.0 m.ensures, omega arith, m.auto.image ∙ l.invariant.2, m.auto.map ∙ l.invariant.3)
-
-pub shape_of-image : goal.shape_of-image
-shape_of-image c = c.loop-r.invariant.2
-
-pub shape_of-map : goal.shape_of-map
-shape_of-map c = c.loop-r.invariant.3
-
-pub returns : goal.returns
-unfolding searched
-returns c = let l = c.loop-r in fold_done _ _ _ l.r c.args.n (omega arith) (omega arith) l.invariant.0
+    let a = c.args in
+    let l = c.loop-r in (
+      search_goes_on eight_inch a.time a.wanted (held a.disk.now) a.fcb (held l.disk) l.r l.invariant.0 _ c.if-look_at.ensures.comes_to,
+      search rules,
+    )

@@ -1,17 +1,12 @@
--- `extending::search` meets its contract: the loop keeps that the records passed were looked at.
+-- `extending::search` meets its contract: none of the records passed had the year and day.
 use mathlib.Core.Path.{◌≡◌}
-use Prim.Native.Nat.{◌-◌, ◌≤◌}
-use lib.ListN.{length}
-use Rattle.lists.specs.Fold.{fold_below}
+use mathlib.Core.Bool.{false}
 use Rattle.format.specs.Diskette.{eight_inch}
-use Rattle.picking.specs.Picker.{look}
+use Rattle.picking.specs.Picker.{searched}
+use Rattle.logging.specs.Held.{held, StillLent}
 use Rattle.extending.specs.Laws.{searches}
 use Rattle.extending.proofs.search.Given as goal
 
 abbrev pub invariant-loop-r : goal.invariant-loop-r
 invariant-loop-r l =
-    (searches l.s l.image l.map ≡ fold_below (look eight_inch l.time l.wanted l.fcb) (searches l.initial.s l.initial.image l.initial.map) l.r)
-    × (l.r ≤ l.n) × (length l.image ≡ length l.initial.image) × (length l.map ≡ length l.initial.map)
-
-abbrev pub decreases-loop-r : goal.decreases-loop-r
-decreases-loop-r l = l.n - l.r
+    (searches false (held l.disk) ≡ searched eight_inch l.time l.wanted (held l.initial.disk) l.fcb l.r) × StillLent l.initial.disk l.disk

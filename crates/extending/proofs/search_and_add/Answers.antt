@@ -1,16 +1,19 @@
--- `extending::search_and_add` meets its contract: what the search found is what decides.
-use mathlib.Core.Path.{ap, ◌∙◌}
+-- `extending::search_and_add` meets its contract: by what was found, and by the size of the log.
+use mathlib.Core.Path.{◌∙◌}
 use Rattle.format.specs.Diskette.{eight_inch}
-use Rattle.picking.specs.Picker.{Search, added}
+use Rattle.logging.specs.Held.{held}
+use Rattle.extending.specs.Laws.{added_again, added_full, added_writes}
 use Rattle.extending.proofs.search_and_add.Goals as goal
 
-pub shape_of-image : goal.shape_of-image
-shape_of-image c = c.add.auto.image ∙ c.search-s.auto.image
+pub returns-then-search-clause-comes_to : goal.returns-then-search-clause-comes_to
+returns-then-search-clause-comes_to c = let a = c.args in added_again eight_inch a.time a.wanted _ _ a.fcb a.n c.if-search.ensures.comes_to
 
-pub shape_of-map : goal.shape_of-map
-shape_of-map c = c.add.auto.map ∙ c.search-s.auto.map
+pub returns-then-n-ge-FULL_LOG-clause-comes_to : goal.returns-then-n-ge-FULL_LOG-clause-comes_to
+returns-then-n-ge-FULL_LOG-clause-comes_to c =
+    let a = c.args in added_full eight_inch a.time a.wanted _ _ a.fcb a.n c.if-search.ensures.comes_to c.if-n-ge-FULL_LOG.true
 
-pub returns : goal.returns
-returns c =
+pub returns-clause-comes_to : goal.returns-clause-comes_to
+returns-clause-comes_to c =
     let a = c.args in
-    c.add.ensures ∙ ap (λ (s : Search). added eight_inch a.time a.wanted s a.fcb a.n) c.search-s.ensures
+    c.write_log.ensures.comes_to
+    ∙ added_writes eight_inch a.time a.wanted (held c.search.new.disk) _ a.fcb a.n c.if-search.ensures.comes_to c.if-n-ge-FULL_LOG.false

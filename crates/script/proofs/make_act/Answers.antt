@@ -13,4 +13,4 @@ returns-then-number-eq-PROTECTS c =
 pub returns : goal.returns
 returns c =
     let a = c.args in
-    act_calls a.image.now a.map.now a.session a.number a.asked a.fcb.now a.buffer.now c.if-number-eq-LIFTS.false c.if-number-eq-PROTECTS.false _ c.call-answer.ensures
+    act_calls a.image.now a.map.now a.session a.number a.asked a.fcb.now a.buffer.now c.if-number-eq-LIFTS.false c.if-number-eq-PROTECTS.false _ c.call.ensures

@@ -3,16 +3,16 @@ use Rattle.script.specs.Script.{length_mended, acts_next}
 use Rattle.script.proofs.next_act.Goals as goal
 
 pub shape_of-fcbs : goal.shape_of-fcbs
-shape_of-fcbs c = let m = c.make_act-t in length_mended m.new.fcb _ _ _ _ c.ends_at-fcb_to.ensures m.auto.fcb
+shape_of-fcbs c = let m = c.make_act-session in length_mended m.new.fcb _ _ _ _ c.ends_at-fcb_to.ensures m.auto.fcb
 
 pub shape_of-buffers : goal.shape_of-buffers
-shape_of-buffers c = let m = c.make_act-t in length_mended m.new.buffer _ _ _ _ c.ends_at-to.ensures m.auto.buffer
+shape_of-buffers c = let m = c.make_act-session in length_mended m.new.buffer _ _ _ _ c.ends_at-to.ensures m.auto.buffer
 
 pub shape_of-image : goal.shape_of-image
-shape_of-image c = c.make_act-t.auto.image
+shape_of-image c = c.make_act-session.auto.image
 
 pub shape_of-map : goal.shape_of-map
-shape_of-map c = c.make_act-t.auto.map
+shape_of-map c = c.make_act-session.auto.map
 
 pub returns : goal.returns
 returns c =
@@ -20,7 +20,7 @@ returns c =
     let a = s.args in
     let f = c.ends_at-fcb_to.ensures in
     let g = c.ends_at-to.ensures in
-    let m = c.make_act-t in (
+    let m = c.make_act-session in (
       acts_next a.script.now a.at a.fcbs.now a.buffers.now a.image.now a.map.now a.p s.requires.0 _ _ f g
           _ c.asked_at-asked.ensures _ _ m.new.fcb m.new.buffer _ m.ensures m.auto.fcb m.auto.buffer,
       f.high,
