@@ -35,10 +35,8 @@ pub fn erase_entries(image: &mut [u8], map: &mut [u16], user: u8, fcb: &[u8])
         (λ (e : ℕ). named true user fcb.now 1 (entry_at eight_inch image.old e)) map.old) }
 {
     let mut picked = [0u8; ENTRIES];
-    let mut e = 0;
-    while e < ENTRIES {
+    for e in 0..ENTRIES {
         picked[e] = erase_entry(image, map, e, user, fcb);
-        e += 1;
     }
     freeing::free_held(map, &picked);
 }

@@ -61,11 +61,7 @@ fn larger_size(image: &[u8], e: usize, user: u8, fcb: &[u8], size: usize) -> usi
     if !lookups::is_named(false, user, fcb, 1, r) {
         return size;
     }
-    let n = entries::end_of(r);
-    if size < n {
-        return n;
-    }
-    size
+    size.max(entries::end_of(r))
 }
 
 // The size of the file that the FCB names: the largest over its entries.
@@ -73,13 +69,7 @@ fn largest_size(image: &[u8], user: u8, fcb: &[u8]) -> usize
     requires { Long eight_inch image.now × (length fcb.now ≡ fcb_bytes) }
     ensures { result ≡ file_size_rule eight_inch (entry_at eight_inch image.now) (named false user fcb.now 1) }
 {
-    let mut size = 0;
-    let mut e = 0;
-    while e < ENTRIES {
-        size = larger_size(image, e, user, fcb, size);
-        e += 1;
-    }
-    size
+    (0..ENTRIES).fold(0, |size, e| larger_size(image, e, user, fcb, size))
 }
 
 // 35: the size of the file that the FCB names, in r0 to r2.

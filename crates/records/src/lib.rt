@@ -64,8 +64,7 @@ fn entry_of(plan: Plan) -> usize
 {
     match plan {
         Plan::Stay(e, _) => e,
-        Plan::Move(_, t, _) => t,
-        Plan::Make(_, t, _) => t,
+        Plan::Move(_, t, _) | Plan::Make(_, t, _) => t,
     }
 }
 
@@ -74,9 +73,7 @@ fn block_of(plan: Plan) -> usize
     ensures { result ≡ block_of plan }
 {
     match plan {
-        Plan::Stay(_, b) => b,
-        Plan::Move(_, _, b) => b,
-        Plan::Make(_, _, b) => b,
+        Plan::Stay(_, b) | Plan::Move(_, _, b) | Plan::Make(_, _, b) => b,
     }
 }
 

@@ -33,13 +33,14 @@ pub fn target_of(number: u8, fcb: &[u8]) -> Target
 {
     if calls::is_random(number) {
         let r = random_of(fcb);
+        let at = r % format::EXTENT_RECORDS;
         return Target {
             extent: r / format::EXTENT_RECORDS,
-            at: r % format::EXTENT_RECORDS,
-            after: r % format::EXTENT_RECORDS,
+            at,
+            after: at,
         };
     }
-    let cr = lists::wide(fcb[32]);
+    let cr = usize::from(fcb[32]);
     let extent = entries::extent(fcb);
     if cr == format::EXTENT_RECORDS {
         return Target {
@@ -59,10 +60,7 @@ pub fn target_of(number: u8, fcb: &[u8]) -> Target
 pub fn over_last(number: u8, extent: usize) -> bool
     ensures { result ≡ over_last_rule number extent }
 {
-    if extent < format::EXTENTS {
-        return false;
-    }
-    calls::is_random(number)
+    format::EXTENTS <= extent && calls::is_random(number)
 }
 
 // The code of a call whose target has no entry, where that refuses it: 33 and 34 have codes of their own.
@@ -98,10 +96,7 @@ pub fn target_entry(
 pub fn larger(x: u8, y: u8) -> u8
     ensures { result ≡ max x y }
 {
-    if x < y {
-        return y;
-    }
-    x
+    x.max(y)
 }
 
 // Slot j as the FCB has it once it has come from entry e to entry t.
@@ -122,7 +117,7 @@ pub fn arrived_count(image: &[u8], fcb: &[u8], e: usize, t: usize) -> u8
 {
     let count = entries::count_of(rows::row(image, t));
     if t == e {
-        return larger(entries::count_of(fcb), count);
+        return entries::count_of(fcb).max(count);
     }
     count
 }

@@ -4,7 +4,7 @@ use Rattle.std.proofs.Common.{rules}
 use borrow.Author.Tests.{tests}
 use Rattle.format.specs.Diskette.{eight_inch}
 use Rattle.format.specs.Entries.{entry_at}
-use Rattle.facts.specs.Found.{found_in_range}
+use Rattle.facts.specs.Search.{found_in_range}
 use Rattle.model.specs.Search.{find_hit_rule}
 use Rattle.hits.specs.Hits.{hit_test}
 use Rattle.hits.proofs.find_hit.Goals as goal
