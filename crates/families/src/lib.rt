@@ -61,22 +61,19 @@ pub fn rename_file(image: &mut [u8], fcb: &[u8], session: Session) -> Answer
     ensures { (asked : Asked) (map buffer : Bytes) → outcome result image.new map fcb.now buffer
         ≡ own_step eight_inch (calling 23 asked) (lend image.old map fcb.now buffer) session }
 {
-    if !names::name_right(false, fcb, 1) {
-        return answers::refuse(Code::BadName, session);
-    }
-    if !names::name_right(false, fcb, 17) {
+    if !names::name_right(false, fcb, 1) || !names::name_right(false, fcb, 17) {
         return answers::refuse(Code::BadName, session);
     }
     let user = session.user;
-    let Some(_) = lookups::find_named(image, false, user, fcb, 1) else {
+    if lookups::find_named(image, false, user, fcb, 1).is_none() {
         return answers::refuse(Code::Failed, session);
-    };
+    }
     if any_read_only(image, false, user, fcb) {
         return answers::refuse(Code::ReadOnly, session);
     }
-    let None = lookups::find_named(image, false, user, fcb, 17) else {
+    if lookups::find_named(image, false, user, fcb, 17).is_some() {
         return answers::refuse(Code::Exists, session);
-    };
+    }
     rename_entries(image, user, fcb);
     answers::done(0, session)
 }
@@ -92,9 +89,9 @@ pub fn delete_file(image: &mut [u8], map: &mut [u16], fcb: &[u8], session: Sessi
         return answers::refuse(Code::BadName, session);
     }
     let user = session.user;
-    let Some(_) = lookups::find_named(image, true, user, fcb, 1) else {
+    if lookups::find_named(image, true, user, fcb, 1).is_none() {
         return answers::refuse(Code::Failed, session);
-    };
+    }
     if any_read_only(image, true, user, fcb) {
         return answers::refuse(Code::ReadOnly, session);
     }

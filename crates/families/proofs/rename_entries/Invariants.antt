@@ -12,8 +12,4 @@ use Rattle.families.proofs.rename_entries.Given as goal
 
 abbrev pub invariant-loop-e : goal.invariant-loop-e
 invariant-loop-e l =
-    (l.image ≡ fold_below (changed_row eight_inch (named false l.user l.fcb 1) (renamed_row_rule l.fcb)) l.initial.image l.e)
-    × (length l.image ≡ length l.initial.image) × (l.e ≤ eight_inch.entries)
-
-abbrev pub decreases-loop-e : goal.decreases-loop-e
-decreases-loop-e l = eight_inch.entries - l.e
+    l.image ≡ fold_below (changed_row eight_inch (named false l.user l.fcb 1) (renamed_row_rule l.fcb)) l.initial.image l.e
