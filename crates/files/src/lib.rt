@@ -53,6 +53,7 @@ pub fn make_file(image: &mut [u8], fcb: &mut [u8], session: Session, chain: &[u8
 }
 
 // The larger of a size and that of an entry, where the entry is of the file.
+#[tactic(auto, unfolding(model::specs::Calls::larger_size_rule))]
 fn larger_size(image: &[u8], e: usize, user: u8, fcb: &[u8], size: usize) -> usize
     requires { Long eight_inch image.now × (e < eight_inch.entries) × (length fcb.now ≡ fcb_bytes) }
     ensures { result ≡ larger_size_rule (entry_at eight_inch image.now) (named false user fcb.now 1) size e }
