@@ -54,6 +54,7 @@ fn is_guarded(image: &[u8], e: usize, target: Option<usize>) -> bool
 }
 
 // The block for a slot: its own, or the first free one where it has none.
+#[tactic(auto, unfolding(crate::specs::Ruling::block_for_rule))]
 fn block_for(map: &[u16], slot: u8) -> Option<usize>
     requires { length map.now ≡ eight_inch.blocks }
     ensures { result ≡ block_for_rule eight_inch map.now slot }
@@ -65,6 +66,7 @@ fn block_for(map: &[u16], slot: u8) -> Option<usize>
 }
 
 // Writing into an extent that has no entry: one is made in the first empty place.
+#[tactic(auto, unfolding(crate::specs::Ruling::write_new_rule))]
 fn write_new(image: &[u8], map: &[u16], code: Code, e: usize) -> Result<Plan, Code>
     requires { Long eight_inch image.now × (length map.now ≡ eight_inch.blocks) }
     ensures { result ≡ write_new_rule eight_inch (entry_at eight_inch image.now) map.now code e }
@@ -96,6 +98,7 @@ fn write_to(
 }
 
 // What a write is told once the FCB's entry e is known, and the target's as it was looked up.
+#[tactic(auto, unfolding(crate::specs::Ruling::write_from))]
 fn rule_write(
     number: u8,
     extent: usize,
