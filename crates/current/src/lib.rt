@@ -39,6 +39,7 @@ pub fn current_entry(image: &[u8], map: &[u16], chain: &[u8], user: u8, fcb: &[u
     }
     let e = chains::find_file(image, chain, user, fcb, 1, entries::extent(fcb))?;
     let row = rows::row(image, e);
-    let fits = slots_own(row, fcb) || slots::slots_fit(map, e, entries::slots(row), entries::slots(fcb));
+    let fits = slots_own(row, fcb)
+        || slots::slots_fit(map, e, entries::slots(row), entries::slots(fcb));
     fits.then_some(e)
 }

@@ -65,5 +65,11 @@ pub fn search_next(image: &[u8], buffer: &mut [u8], session: Session) -> Answer
     if session.on == 0 {
         return answers::refuse(Code::Failed, session);
     }
-    first_match(image, session.pattern, usize::from(session.place), buffer, session)
+    first_match(
+        image,
+        session.pattern,
+        usize::from(session.place),
+        buffer,
+        session,
+    )
 }

@@ -1,5 +1,5 @@
 -- Byte 12 is tested first: it takes one compare.
-use Rattle.std.proofs.Common.{rules, le-leb}
+use Rattle.std.proofs.Common.{rules}
 use borrow.Author.Tests.{tests}
 use Rattle.lists.specs.Tests.{◌and◌}
 use Rattle.asking.specs.Asked.{asks_right_rule}

@@ -1,8 +1,8 @@
 -- Each way out is one case of the definition, and the look-up answers an entry of the directory, so that its row can be taken.
-use Rattle.std.proofs.Common.{◌≡◌, sym, ◌∙◌, ap, rules, true, false, ◌<◌, Some, Bool}
+use Rattle.std.proofs.Common.{◌≡◌, sym, ◌∙◌, rules, ◌<◌}
 use Rattle.format.specs.Diskette.{eight_inch}
-use Rattle.format.specs.Entries.{entry_at, slots_of, extent_of, find_file_rule}
-use Rattle.format.specs.Fcb.{fcb_right_rule, current, slots_fit_rule}
+use Rattle.format.specs.Entries.{entry_at, slots_of}
+use Rattle.format.specs.Fcb.{slots_fit_rule}
 use Rattle.facts.specs.Current.{current_wrong, current_missing}
 use Rattle.facts.specs.Slots.{short_slots_of}
 use Rattle.slots.specs.Slots.{same_slots_fit}
@@ -37,12 +37,12 @@ returns c =
     let fcb = c.args.fcb.now in
     let e = c.in_ok-e.e in
     let fits : c.if-slots_own.fits ≡ slots_fit_rule eight_inch m e (slots_of (d e)) (slots_of fcb) =
-        elim c.if-slots_own.branch [
-          then-slots_own w ↦ w.fits-is ∙ w.if-slots_own.true
-              ∙ sym (same_slots_fit eight_inch _ _ (short_slots_of (d e)) (short_slots_of fcb) (sym (rw c.row-row.ensures.0 at w.if-slots_own.ensures)) m e)
-        | else-slots_own w ↦ w.fits-is ∙ rw (w.slots_fit-fits.ensures, w.slots.ensures, w.slots-else-slots_own.ensures, c.row-row.ensures.0)
-        ]
+    elim c.if-slots_own.branch [
+      | then-slots_own w ↦ w.fits-is ∙ w.if-slots_own.true
+          ∙ sym (same_slots_fit eight_inch _ _ (short_slots_of (d e)) (short_slots_of fcb) (sym (rw c.row-row.ensures.0 at w.if-slots_own.ensures)) m e)
+      | else-slots_own w ↦ w.fits-is ∙ rw (w.slots_fit-fits.ensures, w.slots.ensures, w.slots-else-slots_own.ensures, c.row-row.ensures.0)
+    ]
     in
     c.then_some.ensures
     ∙ current_by eight_inch d m c.args.user fcb e c.if-slots_own.fits (sym c.if-not-fcb_right.ensures)
-          (sym (rw c.extent.ensures.0 at c.in_ok-e.ensures)) fits
+    (sym (rw c.extent.ensures.0 at c.in_ok-e.ensures)) fits

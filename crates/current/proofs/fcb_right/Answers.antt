@@ -2,7 +2,6 @@
 use Rattle.std.proofs.Common.{rules}
 use borrow.Author.Tests.{tests}
 use Rattle.lists.specs.Tests.{◌and◌}
-use Rattle.format.specs.Fcb.{cr_right}
 use Rattle.current.specs.Current.{fcb_fields}
 use Rattle.current.proofs.fcb_right.Goals as goal
 

@@ -1,6 +1,5 @@
 -- The invariant: the bytes below i are the cleared row's, the others the row's.
 use mathlib.Core.Path.{◌≡◌}
-use Prim.Native.Nat.{◌-◌, ◌≤◌}
 use lib.ListN.{length}
 use Rattle.lists.specs.Tab.{Filled}
 use Rattle.format.specs.Diskette.{entry_bytes}

@@ -1,8 +1,7 @@
 -- The invariant: the bytes up to name byte i are the made row's, the others as they were.
 use mathlib.Core.Path.{◌≡◌}
-use Prim.Native.Nat.{◌+◌, ◌-◌, ◌≤◌}
+use Prim.Native.Nat.{◌+◌}
 use lib.ListN.{length}
-use Rattle.format.specs.Names.{name_bytes}
 use Rattle.format.specs.Diskette.{entry_bytes}
 use Rattle.model.specs.Entering.{made_row_rule}
 use Rattle.entering.specs.Rows.{Made}

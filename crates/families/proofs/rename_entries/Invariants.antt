@@ -1,8 +1,6 @@
 -- The loop's invariant: the image is the lent one with its entries below e renamed.
 use mathlib.Core.Path.{◌≡◌}
 use mathlib.Core.Bool.{false}
-use Prim.Native.Nat.{◌-◌, ◌≤◌}
-use lib.ListN.{length}
 use Rattle.lists.specs.Fold.{fold_below}
 use Rattle.format.specs.Diskette.{eight_inch}
 use Rattle.format.specs.Entries.{named}

@@ -9,9 +9,9 @@ use Rattle.families.proofs.rename_file.Goals as goal
 pub returns-then-not-name_right : goal.returns-then-not-name_right
 returns-then-not-name_right c asked map buffer =
     elim c.then-not-name_right.branch [
-      then-not-name_right-via-then-not-name_right w ↦ rename_wrong eight_inch asked _ _ _ (sym w.if-not-name_right.ensures) c.refuse.ensures
-    | then-not-name_right-via-else-not-name_right+then-not-name_right-2 w ↦
-        rename_new_wrong eight_inch asked _ _ _ (sym w.if-not-name_right.ensures) (sym w.if-not-name_right-2.ensures) c.refuse.ensures
+      | then-not-name_right-via-then-not-name_right w ↦ rename_wrong eight_inch asked _ _ _ (sym w.if-not-name_right.ensures) c.refuse.ensures
+      | then-not-name_right-via-else-not-name_right+then-not-name_right-2 w ↦
+          rename_new_wrong eight_inch asked _ _ _ (sym w.if-not-name_right.ensures) (sym w.if-not-name_right-2.ensures) c.refuse.ensures
     ]
 
 pub returns-then-is_none : goal.returns-then-is_none

@@ -1,5 +1,5 @@
 -- Each answer is that of the row that decides; where none holds, the first empty entry and the FCB take the new row.
-use mathlib.Core.Path.{◌≡◌, refl, sym, ap, ◌∙◌}
+use mathlib.Core.Path.{refl, sym, ◌∙◌}
 use Prim.Native.Nat.{◌<◌}
 use Rattle.format.specs.Diskette.{eight_inch}
 use Rattle.facts.specs.Find.{empty_says}

@@ -1,5 +1,5 @@
 -- Each answer is that of the row that decides; where none holds, the FCB takes the entry found.
-use mathlib.Core.Path.{◌≡◌, refl, sym, ◌∙◌}
+use mathlib.Core.Path.{refl, sym, ◌∙◌}
 use mathlib.Core.List.{[]}
 use Prim.Native.Nat.{◌<◌}
 use borrow.Author.Rules.{rules}

@@ -1,5 +1,5 @@
 -- An FCB whose numbers are out of range is refused; otherwise the record that it stands at is put into r0 to r2.
-use mathlib.Core.Path.{refl, sym, ap, ◌∙◌}
+use mathlib.Core.Path.{refl, sym, ap}
 use mathlib.Core.Bool.{not}
 use Rattle.format.specs.Diskette.{eight_inch}
 use Rattle.model.specs.Calls.{positioned}

@@ -1,5 +1,5 @@
 -- A refusal is the ruling's or the protection's, with nothing touched; a plan that is not stopped is followed within the disk's bounds.
-use mathlib.Core.Path.{◌≡◌, sym, ◌∙◌}
+use mathlib.Core.Path.{sym}
 use Rattle.format.specs.Diskette.{eight_inch}
 use Rattle.disk.specs.Eight.{eight_sound}
 use Rattle.facts.specs.Naming.{run_own}

@@ -1,9 +1,8 @@
 -- Each way out is one case of the definition: the search is over, or e is the first entry that the pattern hits, and a number of an entry.
-use mathlib.Core.Path.{◌≡◌, sym, ◌∙◌}
+use mathlib.Core.Path.{sym, ◌∙◌}
 use Prim.Native.Nat.{◌<◌}
 use native.Mathlib.Omega.{arith}
 use Rattle.format.specs.Diskette.{eight_inch}
-use Rattle.format.specs.Entries.{entry_at}
 use Rattle.model.specs.Lent.{lend}
 use Rattle.hits.specs.Hits.{hit_low}
 use Rattle.searching.specs.Searches.{answers_over, answers_found}
