@@ -50,7 +50,8 @@ fn is_guarded(image: &[u8], e: usize, target: Option<usize>) -> bool
     requires { Long eight_inch image.now × (e < eight_inch.entries) × Among eight_inch.entries target }
     ensures { result ≡ guarded (entry_at eight_inch image.now) e target }
 {
-    entries::is_read_only(rows::row(image, e)) || target.is_some_and(|t| entries::is_read_only(rows::row(image, t)))
+    entries::is_read_only(rows::row(image, e))
+        || target.is_some_and(|t| entries::is_read_only(rows::row(image, t)))
 }
 
 // The block for a slot: its own, or the first free one where it has none.

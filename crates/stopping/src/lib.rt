@@ -18,7 +18,10 @@ fn move_changes(plan: Plan, image: &[u8], fcb: &[u8]) -> bool
 {
     match plan {
         Plan::Stay(_, _) => false,
-        Plan::Move(e, _, _) | Plan::Make(e, _, _) => merging::close_changes(rows::row(image, e), fcb),
+        Plan::Move(e, _, _) | Plan::Make(e, _, _) => merging::close_changes(
+            rows::row(image, e),
+            fcb,
+        ),
     }
 }
 

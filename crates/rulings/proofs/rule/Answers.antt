@@ -1,10 +1,8 @@
 -- Each way out is a row that the four calls share; then the rows of a read or of a write decide.
 use Rattle.std.specs.Prelude.{None, Err}
-use mathlib.Core.Bool.{false}
-use mathlib.Core.Path.{◌≡◌, sym, ap, ◌∙◌}
+use mathlib.Core.Path.{◌≡◌, sym, ◌∙◌}
 use Prim.Native.Nat.{◌<◌}
 use Rattle.format.specs.Diskette.{eight_inch}
-use Rattle.format.specs.Entries.{entry_at}
 use Rattle.model.specs.Lent.{lend}
 use Rattle.model.specs.declared.Code.TheVariants.{NotCurrent}
 use Rattle.model.specs.Target.{target_slot, present_entry, target_entry}

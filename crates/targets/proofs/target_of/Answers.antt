@@ -1,7 +1,6 @@
 -- The three cases of the definition, each with the numbers that the callees read out of the FCB.
 use mathlib.Core.Path.{◌≡◌, sym, ap, ◌∙◌}
 use Prim.Native.Nat.{ℕ, ◌+◌, ◌/◌, ◌%◌}
-use mathlib.Core.Bool.{false}
 use Rattle.fields.specs.Target.{extent_random, record_random, cr_after_random, extent_past, record_past, extent_within, record_within, cr_after_sequential}
 use Rattle.format.specs.Fcb.{cr_of}
 use Rattle.targets.proofs.target_of.Goals as goal
