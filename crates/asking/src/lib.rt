@@ -10,6 +10,7 @@ ghost use Rattle.chains.specs.Chain.{Findable};
 ghost use Rattle.asking.specs.Asked.{asks_right_rule};
 
 // Whether 15 and 22 can ask for a file by the FCB: its name obeys the name rule, and byte 12 is an ex.
+#[tactic(auto, using(crate::specs::Asked::asks_by))]
 pub fn asks_right(fcb: &[u8]) -> bool
     requires { length fcb.now ≡ fcb_bytes }
     ensures { result ≡ asks_right_rule fcb.now }
