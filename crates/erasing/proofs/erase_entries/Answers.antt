@@ -17,7 +17,7 @@ loop-e-preserved c =
     let l = c.loop-e in
     let t = c.erase_entry in (
       erasing_more eight_sound _ _ _ c.requires.0 c.requires.1 l.e l.image l.map l.picked
-          t.new.image t.new.map t.result refl (omega arith) l.invariant.0 t.ensures,
+          t.new.image t.new.map t.result c.from.result c.from.ensures refl (omega arith) l.invariant.0 t.ensures,
       simp length-set l.invariant.1,
     )
 
