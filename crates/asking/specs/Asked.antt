@@ -1,8 +1,8 @@
 -- What 15 and 22 ask of the FCB before they look for the file, and what the two rows of the table for it decide.
-use Rattle.std.specs.Prelude.{◌≡◌, refl, Bool, true, false, not, List, ◌∷◌, ℕ, ◌<◌, leb, ltb, Some}
-use Rattle.std.proofs.Common.{ap, sym, leb-true, leb-false, lt-ltb, le-ltb}
+use Rattle.std.specs.Prelude.{◌≡◌, refl, Bool, true, false, not, cond, List, ◌∷◌, ℕ, ◌<◌, leb, ltb, Some}
+use Rattle.std.proofs.Common.{ap, sym, ◌∙◌, leb-true, leb-false, lt-ltb, le-ltb}
 use Rattle.lists.specs.Cases.{split, bool_cases}
-use Rattle.lists.specs.Tests.{◌and◌, and_left, and_right, second_fails}
+use Rattle.lists.specs.Tests.{◌and◌, and_left, and_right, and_first, and_fails_right, second_fails}
 use Rattle.format.specs.Diskette.{Bytes, Geometry}
 use Rattle.format.specs.Names.{name_right_rule}
 use Rattle.format.specs.Entries.{ex_of, extent_of, run_of}
@@ -15,6 +15,14 @@ use Rattle.table.specs.First.{Decides, here, later}
 -- the name obeys the name rule, and byte 12 is an ex
 unfoldable pub asks_right_rule : Bytes → Bool
 asks_right_rule fcb = name_right_rule false fcb 1 and leb (ex_of fcb) 31
+
+-- byte 12 first: it takes one compare
+pub asks_by : (fcb : Bytes) → asks_right_rule fcb ≡ cond (leb (ex_of fcb) 31) (name_right_rule false fcb 1) false
+unfolding asks_right_rule ◌and◌
+asks_by fcb =
+    split (bool_cases (leb (ex_of fcb) 31))
+    (λ t. and_first _ _ t ∙ sym (rw t))
+    (λ f. and_fails_right _ _ f ∙ sym (rw f))
 
 -- the two rows of 15 and 22 that it decides: one of them holds, or neither
 pub asked_wrong : (fcb : Bytes) (rows : List Row) → asks_right_rule fcb ≡ false

@@ -33,8 +33,8 @@ fn clear_attributes(fcb: &mut [u8])
     requires { length fcb.old ≡ fcb_bytes }
     ensures { fcb.new ≡ closed_fcb fcb.old }
 {
-    fcb[5] = fcb[5] % 128;
-    fcb[6] = fcb[6] % 128;
+    fcb[5] %= 128;
+    fcb[6] %= 128;
 }
 
 // Call 16, once the disk and the parameters are known to be right. The transfer buffer is not touched.

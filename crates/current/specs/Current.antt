@@ -1,6 +1,7 @@
 -- What it says that an FCB is current, as facts: its fields are in range, its entry is found, and its slots fit, slot by slot.
-use Rattle.std.specs.Prelude.{◌≡◌, Bool, true, false, cond, ℕ, ◌≤◌, ◌<◌, None, Some}
-use Rattle.std.proofs.Common.{sym, leb-true, le-leb}
+use Rattle.std.specs.Prelude.{◌≡◌, refl, Bool, true, false, cond, ℕ, ◌≤◌, ◌<◌, None, Some}
+use Rattle.std.specs.Bool.{then_some}
+use Rattle.std.proofs.Common.{sym, ◌∙◌, leb-true, le-leb}
 use Rattle.lists.specs.Tests.{◌and◌, and_left, and_right, and_both, and_assoc}
 use Rattle.format.specs.Diskette.{Bytes, Geometry, slot_count}
 use Rattle.format.specs.Names.{name_right_rule}
@@ -38,11 +39,15 @@ unfolding fcb_right_rule fields_right_rule
 fcb_fields fcb = sym (and_assoc _ _ _)
 
 -- ---- the FCB is current, and e is its entry
+then_cond : (f : Bool) (e : ℕ) → then_some f e ≡ cond f (Some e) None
+then_cond true e = refl
+then_cond false e = refl
+
 module _ (G : Geometry) (d : Rows) (map : Bytes) (user : ℕ) (fcb : Bytes) where
   -- from the slots taken out and the test of them
-  pub current_by : (e : ℕ) (es fs : Bytes) (f : Bool) → fcb_right_rule fcb ≡ true → find_file_rule G d user fcb 1 (extent_of fcb) ≡ Some e
-      → es ≡ slots_of (d e) → fs ≡ slots_of fcb → f ≡ slots_fit_rule G map e es fs → cond f (Some e) None ≡ current G d map user fcb
-  current_by e es fs f t q he hf h = rw (h, he, hf) (sym (current_fitting G d map user fcb e t q))
+  pub current_by : (e : ℕ) (f : Bool) → fcb_right_rule fcb ≡ true → find_file_rule G d user fcb 1 (extent_of fcb) ≡ Some e
+      → f ≡ slots_fit_rule G map e (slots_of (d e)) (slots_of fcb) → then_some f e ≡ current G d map user fcb
+  current_by e f t q h = then_cond f e ∙ rw h (sym (current_fitting G d map user fcb e t q))
 
   -- the entry of a current FCB is the first of its file
   pub current_file : (e : ℕ) → Current G d map user fcb e → FirstAt (file_test G d user fcb 1 (extent_of fcb)) 0 G.entries e

@@ -13,10 +13,7 @@ fn fcb_right(fcb: &[u8]) -> bool
     requires { length fcb.now ≡ fcb_bytes }
     ensures { result ≡ fcb_right_rule fcb.now }
 {
-    if !heads::fields_right(fcb) {
-        return false;
-    }
-    fcb[32] <= 128
+    heads::fields_right(fcb) && fcb[32] <= 128
 }
 
 // Whether an FCB's slots are simply the entry's own, as they are as a rule. The arrays stay in this function: handed on by value they
@@ -40,15 +37,9 @@ pub fn current_entry(image: &[u8], map: &[u16], chain: &[u8], user: u8, fcb: &[u
     if !fcb_right(fcb) {
         return None;
     }
-    let Some(e) = chains::find_file(image, chain, user, fcb, 1, entries::extent(fcb)) else {
-        return None;
-    };
+    let e = chains::find_file(image, chain, user, fcb, 1, entries::extent(fcb))?;
     let row = rows::row(image, e);
-    if slots_own(row, fcb) {
-        return Some(e);
-    }
-    if !slots::slots_fit(map, e, entries::slots(row), entries::slots(fcb)) {
-        return None;
-    }
-    Some(e)
+    let fits = slots_own(row, fcb)
+        || slots::slots_fit(map, e, entries::slots(row), entries::slots(fcb));
+    fits.then_some(e)
 }

@@ -20,10 +20,8 @@ fn clear_interface(row: [u8; 32]) -> [u8; 32]
     ensures { result ≡ interface_cleared row }
 {
     let mut r = row;
-    let mut i = 5;
-    while i < 9 {
-        r[i] = r[i] % 128;
-        i += 1;
+    for i in 5..9 {
+        r[i] %= 128;
     }
     r
 }
@@ -43,10 +41,8 @@ pub fn made_row(user: u8, fcb: &[u8]) -> [u8; 32]
 {
     let mut r = [0u8; 32];
     r[0] = user;
-    let mut i = 0;
-    while i < format::NAME_BYTES {
+    for i in 0..format::NAME_BYTES {
         r[1 + i] = fcb[1 + i] % 128;
-        i += 1;
     }
     r[12] = fcb[12];
     r
@@ -77,10 +73,8 @@ pub fn renamed_row(fcb: &[u8], row: [u8; 32]) -> [u8; 32]
     ensures { result ≡ renamed_row_rule fcb.now row }
 {
     let mut r = row;
-    let mut i = 0;
-    while i < format::NAME_BYTES {
+    for i in 0..format::NAME_BYTES {
         r[1 + i] = renamed_byte(row[1 + i], fcb[17 + i]);
-        i += 1;
     }
     r
 }

@@ -47,11 +47,11 @@ module _ (G : Geometry) (d : Rows) (p q : ℕ → Bool) (same : (e : ℕ) → e 
       (λ y. let w : note_at_rule map b ≡ free_note = rw y at z in rw w (free_unheld p ∙ sym (free_unheld q)))
       (λ y. let w : note_at_rule map b ≡ note_at_rule old b = rw y at z in rw w (held_same b (note_at_rule old b) (map_ok G d old t b h))) in rw k)
 
--- ---- one entry: what becomes of the image and the map, and its mark
-pub record Erased (G : Geometry) (picks : Bytes → Bool) (img map : Bytes) (e : ℕ) (img' map' : Bytes) (mark : ℕ) : Type 0 where
+-- ---- one entry: what becomes of the image and the map, and whether it is erased
+pub record Erased (G : Geometry) (picks : Bytes → Bool) (img map : Bytes) (e : ℕ) (img' map' : Bytes) (erased : Bool) : Type 0 where
   pub image : img' ≡ changed_row G picks erased_row img e
   pub notes : map' ≡ cond (picks (entry_at G img e)) (unlisted_map G (slots_of (entry_at G img e)) map) map
-  pub marked : mark ≡ bit (picks (entry_at G img e))
+  pub told : erased ≡ picks (entry_at G img e)
 
 -- ---- all entries: those below i are done, and the others as they were lent
 pub record Erasing (G : Geometry) (picks : Bytes → Bool) (img map old : Bytes) (i : ℕ) (img' map' marks : Bytes) : Type 0 where
@@ -73,9 +73,9 @@ module _ {G : Geometry} (S : Sound G) (picks : Bytes → Bool) (img map : Bytes)
   }
 
   -- entry i is done too; its row is still the one that was lent
-  pub erasing_more : {old : Bytes} (i : ℕ) (img₁ map₁ marks₁ img₂ map₂ : Bytes) (mark : ℕ) → length old ≡ G.entries → i < G.entries
-      → Erasing G picks img map old i img₁ map₁ marks₁ → Erased G picks img₁ map₁ i img₂ map₂ mark → Erasing G picks img map old (i + 1) img₂ map₂ (set marks₁ i mark)
-  erasing_more {old} i img₁ map₁ marks₁ img₂ map₂ mark whole below s t =
+  pub erasing_more : {old : Bytes} (i : ℕ) (img₁ map₁ marks₁ img₂ map₂ : Bytes) (erased : Bool) (mark : ℕ) → mark ≡ bit erased → length old ≡ G.entries → i < G.entries
+      → Erasing G picks img map old i img₁ map₁ marks₁ → Erased G picks img₁ map₁ i img₂ map₂ erased → Erasing G picks img map old (i + 1) img₂ map₂ (set marks₁ i mark)
+  erasing_more {old} i img₁ map₁ marks₁ img₂ map₂ erased mark is whole below s t =
       let q : entry_at G img₁ i ≡ entry_at G img i =
       ap (λ (x : Bytes). entry_at G x i) s.image ∙ row_to_come S picks erased_row length_erased_row img long i i (omega arith) below in
       let next : img₂ ≡ fold_below (changed_row G picks erased_row) img (i + 1) = fold_more _ img img₁ img₂ i s.image t.image in
@@ -88,7 +88,7 @@ module _ {G : Geometry} (S : Sound G) (picks : Bytes → Bool) (img map : Bytes)
             (cond_either (Freed (in_entries G (entry_at G img) picked (i + 1)) map) (picked i)
             (λ y. entries_more G (entry_at G img) picked map map₁ i blocks y s.notes)
             (λ y. entries_kept G (entry_at G img) picked map map₁ i y s.notes));
-        marked = filled_more _ old i marks₁ mark (omega arith) (t.marked ∙ ap (λ (r : Bytes). bit (picks r)) q) s.marked;
+        marked = filled_more _ old i marks₁ mark (omega arith) (is ∙ ap bit (t.told ∙ ap picks q)) s.marked;
       }
 
   -- all are done, and what is pending for those that are marked becomes free

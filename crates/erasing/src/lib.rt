@@ -11,19 +11,19 @@ ghost use Rattle.erasing.specs.Erasing.{Erased};
 
 use format::ENTRIES;
 
-// Empties an entry that the FCB names and frees the blocks that it lists; the answer is its mark.
-fn erase_entry(image: &mut [u8], map: &mut [u16], e: usize, user: u8, fcb: &[u8]) -> u8
+// Empties an entry that the FCB names and frees the blocks that it lists; the answer is whether it did.
+fn erase_entry(image: &mut [u8], map: &mut [u16], e: usize, user: u8, fcb: &[u8]) -> bool
     requires { Long eight_inch image.old × (length map.old ≡ eight_inch.blocks) × (e < eight_inch.entries) × (length fcb.now ≡ fcb_bytes) }
     ensures { Erased eight_inch (named true user fcb.now 1) image.old map.old e image.new map.new result }
 {
     let r = rows::row(image, e);
     if !lookups::is_named(true, user, fcb, 1, r) {
-        return 0;
+        return false;
     }
     freeing::free_slots(map, entries::slots(r));
     let at = rows::entry_place(e);
     image[at] = 0xE5;
-    1
+    true
 }
 
 // Empties the entries that the FCB names; the blocks that they list, and those that are pending for them, become free.
@@ -35,10 +35,8 @@ pub fn erase_entries(image: &mut [u8], map: &mut [u16], user: u8, fcb: &[u8])
         (λ (e : ℕ). named true user fcb.now 1 (entry_at eight_inch image.old e)) map.old) }
 {
     let mut picked = [0u8; ENTRIES];
-    let mut e = 0;
-    while e < ENTRIES {
-        picked[e] = erase_entry(image, map, e, user, fcb);
-        e += 1;
+    for e in 0..ENTRIES {
+        picked[e] = u8::from(erase_entry(image, map, e, user, fcb));
     }
     freeing::free_held(map, &picked);
 }

@@ -23,10 +23,7 @@ fn guards(wild: bool, user: u8, fcb: &[u8], r: &[u8]) -> bool
     requires { (length fcb.now ≡ fcb_bytes) × (entry_bytes ≤ length r.now) }
     ensures { result ≡ (named wild user fcb.now 1 r.now and read_only r.now) }
 {
-    if !entries::is_read_only(r) {
-        return false;
-    }
-    lookups::is_named(wild, user, fcb, 1, r)
+    entries::is_read_only(r) && lookups::is_named(wild, user, fcb, 1, r)
 }
 
 // Whether t1' is set in an entry that the FCB names.
@@ -34,14 +31,7 @@ fn any_read_only(image: &[u8], wild: bool, user: u8, fcb: &[u8]) -> bool
     requires { Long eight_inch image.now × (length fcb.now ≡ fcb_bytes) }
     ensures { (map buffer : Bytes) → result ≡ any_read_only_rule eight_inch (lend image.now map fcb.now buffer) wild user }
 {
-    let mut e = 0;
-    while e < ENTRIES {
-        if guards(wild, user, fcb, rows::row(image, e)) {
-            return true;
-        }
-        e += 1;
-    }
-    false
+    (0..ENTRIES).any(|e| guards(wild, user, fcb, rows::row(image, e)))
 }
 
 // Gives an entry the new name, where it has the old one.
@@ -60,10 +50,8 @@ fn rename_entries(image: &mut [u8], user: u8, fcb: &[u8])
     requires { Long eight_inch image.old × (length fcb.now ≡ fcb_bytes) }
     ensures { image.new ≡ changed_rows eight_inch (named false user fcb.now 1) (renamed_row_rule fcb.now) image.old }
 {
-    let mut e = 0;
-    while e < ENTRIES {
+    for e in 0..ENTRIES {
         rename_entry(image, e, user, fcb);
-        e += 1;
     }
 }
 
@@ -73,22 +61,19 @@ pub fn rename_file(image: &mut [u8], fcb: &[u8], session: Session) -> Answer
     ensures { (asked : Asked) (map buffer : Bytes) → outcome result image.new map fcb.now buffer
         ≡ own_step eight_inch (calling 23 asked) (lend image.old map fcb.now buffer) session }
 {
-    if !names::name_right(false, fcb, 1) {
-        return answers::refuse(Code::BadName, session);
-    }
-    if !names::name_right(false, fcb, 17) {
+    if !names::name_right(false, fcb, 1) || !names::name_right(false, fcb, 17) {
         return answers::refuse(Code::BadName, session);
     }
     let user = session.user;
-    let Some(_) = lookups::find_named(image, false, user, fcb, 1) else {
+    if lookups::find_named(image, false, user, fcb, 1).is_none() {
         return answers::refuse(Code::Failed, session);
-    };
+    }
     if any_read_only(image, false, user, fcb) {
         return answers::refuse(Code::ReadOnly, session);
     }
-    let None = lookups::find_named(image, false, user, fcb, 17) else {
+    if lookups::find_named(image, false, user, fcb, 17).is_some() {
         return answers::refuse(Code::Exists, session);
-    };
+    }
     rename_entries(image, user, fcb);
     answers::done(0, session)
 }
@@ -104,9 +89,9 @@ pub fn delete_file(image: &mut [u8], map: &mut [u16], fcb: &[u8], session: Sessi
         return answers::refuse(Code::BadName, session);
     }
     let user = session.user;
-    let Some(_) = lookups::find_named(image, true, user, fcb, 1) else {
+    if lookups::find_named(image, true, user, fcb, 1).is_none() {
         return answers::refuse(Code::Failed, session);
-    };
+    }
     if any_read_only(image, true, user, fcb) {
         return answers::refuse(Code::ReadOnly, session);
     }

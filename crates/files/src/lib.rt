@@ -40,9 +40,9 @@ pub fn make_file(image: &mut [u8], fcb: &mut [u8], session: Session, chain: &[u8
     if !asking::asks_right(fcb) {
         return answers::refuse(Code::BadName, session);
     }
-    let None = asking::find_asked(image, chain, session.user, fcb) else {
+    if asking::find_asked(image, chain, session.user, fcb).is_some() {
         return answers::refuse(Code::Exists, session);
-    };
+    }
     let Some(e) = lookups::find_empty(image) else {
         return answers::refuse(Code::Failed, session);
     };
@@ -53,6 +53,7 @@ pub fn make_file(image: &mut [u8], fcb: &mut [u8], session: Session, chain: &[u8
 }
 
 // The larger of a size and that of an entry, where the entry is of the file.
+#[tactic(auto, unfolding(model::specs::Calls::larger_size_rule))]
 fn larger_size(image: &[u8], e: usize, user: u8, fcb: &[u8], size: usize) -> usize
     requires { Long eight_inch image.now × (e < eight_inch.entries) × (length fcb.now ≡ fcb_bytes) }
     ensures { result ≡ larger_size_rule (entry_at eight_inch image.now) (named false user fcb.now 1) size e }
@@ -61,11 +62,7 @@ fn larger_size(image: &[u8], e: usize, user: u8, fcb: &[u8], size: usize) -> usi
     if !lookups::is_named(false, user, fcb, 1, r) {
         return size;
     }
-    let n = entries::end_of(r);
-    if size < n {
-        return n;
-    }
-    size
+    size.max(entries::end_of(r))
 }
 
 // The size of the file that the FCB names: the largest over its entries.
@@ -73,13 +70,7 @@ fn largest_size(image: &[u8], user: u8, fcb: &[u8]) -> usize
     requires { Long eight_inch image.now × (length fcb.now ≡ fcb_bytes) }
     ensures { result ≡ file_size_rule eight_inch (entry_at eight_inch image.now) (named false user fcb.now 1) }
 {
-    let mut size = 0;
-    let mut e = 0;
-    while e < ENTRIES {
-        size = larger_size(image, e, user, fcb, size);
-        e += 1;
-    }
-    size
+    (0..ENTRIES).fold(0, |size, e| larger_size(image, e, user, fcb, size))
 }
 
 // 35: the size of the file that the FCB names, in r0 to r2.
@@ -91,9 +82,9 @@ pub fn file_size(image: &[u8], fcb: &mut [u8], session: Session) -> Answer
     if !names::name_right(false, fcb, 1) {
         return answers::refuse(Code::BadName, session);
     }
-    let Some(_) = lookups::find_named(image, false, session.user, fcb, 1) else {
+    if lookups::find_named(image, false, session.user, fcb, 1).is_none() {
         return answers::refuse(Code::Failed, session);
-    };
+    }
     let size = largest_size(image, session.user, fcb);
     entering::put_three(fcb, 33, size);
     answers::done(0, session)

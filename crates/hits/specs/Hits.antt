@@ -1,5 +1,5 @@
 -- A row against a search pattern: the name decides last, and byte 12 asks for two bytes of a row. And the first entry that a pattern hits.
-use Rattle.std.specs.Prelude.{◌≡◌, Bool, true, ℕ, ◌+◌, ◌*◌, eqb, get_or, Some}
+use Rattle.std.specs.Prelude.{◌≡◌, Bool, true, ℕ, ◌+◌, ◌*◌, ◌<◌, eqb, get_or, Some}
 use Rattle.std.proofs.Common.{sym, ◌∙◌, arith, eqb-true, eq-eqb}
 use Rattle.lists.specs.Cases.{bool_ext}
 use Rattle.lists.specs.Tests.{◌and◌, ◌or◌, and_then, and_first, and_left, and_right, and_both}
@@ -37,3 +37,7 @@ pub hit_says : (G : Geometry) (d : Rows) (user : ℕ) (pattern : Bytes) (i e : �
     → FirstAt (hit_test G d user pattern) i G.entries e
 unfolding find_hit_rule
 hit_says G d user pattern i e q = first_says (hit_test G d user pattern) i G.entries e q
+
+-- and it is one of the directory's
+pub hit_low : (G : Geometry) (d : Rows) (user : ℕ) (pattern : Bytes) (i e : ℕ) → Some e ≡ find_hit_rule G d user pattern i → e < G.entries
+hit_low G d user pattern i e q = (hit_says G d user pattern i e (sym q)).below

@@ -14,13 +14,7 @@ fn extent_hit(x: u8, row: &[u8]) -> bool
     requires { entry_bytes ≤ length row.now }
     ensures { result ≡ extent_hit_rule eight_inch x row.now }
 {
-    if x == 63 {
-        return true;
-    }
-    if row[12] != x {
-        return false;
-    }
-    row[14] == 0
+    x == 63 || (row[12] == x && row[14] == 0)
 }
 
 // Whether a row is the user's and matches a pattern. The name is compared last: it takes longest.
@@ -28,13 +22,7 @@ fn hit(user: u8, pattern: &[u8], row: &[u8]) -> bool
     requires { (pattern_bytes ≤ length pattern.now) × (entry_bytes ≤ length row.now) }
     ensures { result ≡ hit eight_inch user pattern.now row.now }
 {
-    if row[0] != user {
-        return false;
-    }
-    if !extent_hit(pattern[11], row) {
-        return false;
-    }
-    matching::name_like(true, pattern, 0, row, 1)
+    row[0] == user && extent_hit(pattern[11], row) && matching::name_like(true, pattern, 0, row, 1)
 }
 
 // The first entry from a place on that a pattern hits.
@@ -42,12 +30,5 @@ pub fn find_hit(image: &[u8], user: u8, pattern: &[u8], from: usize) -> Option<u
     requires { Long eight_inch image.now × (pattern_bytes ≤ length pattern.now) }
     ensures { result ≡ find_hit_rule eight_inch (entry_at eight_inch image.now) user pattern.now from }
 {
-    let mut e = from;
-    while e < ENTRIES {
-        if hit(user, pattern, rows::row(image, e)) {
-            return Some(e);
-        }
-        e += 1;
-    }
-    None
+    (from..ENTRIES).find(|&e| hit(user, pattern, rows::row(image, e)))
 }

@@ -33,8 +33,7 @@ pub fn user_number(asked: Asked, session: Session) -> Answer
 {
     let argument = asked.argument;
     if argument == 255 {
-        let user = session.user;
-        return answers::done(user, session);
+        return answers::done(session.user, session);
     }
     if 15 < argument {
         return answers::refuse(Code::Failed, session);
@@ -47,10 +46,7 @@ fn position_right(fcb: &[u8]) -> bool
     requires { length fcb.now ≡ fcb_bytes }
     ensures { result ≡ position_right_rule fcb.now }
 {
-    if !entries::extent_right(fcb) {
-        return false;
-    }
-    fcb[32] <= 128
+    entries::extent_right(fcb) && fcb[32] <= 128
 }
 
 // 36: r0 to r2 become the record that the FCB stands at.
@@ -62,7 +58,7 @@ pub fn random_record(fcb: &mut [u8], session: Session) -> Answer
     if !position_right(fcb) {
         return answers::refuse(Code::Failed, session);
     }
-    let n = format::EXTENT_RECORDS * entries::extent(fcb) + lists::wide(fcb[32]);
+    let n = format::EXTENT_RECORDS * entries::extent(fcb) + usize::from(fcb[32]);
     entering::put_three(fcb, 33, n);
     answers::done(0, session)
 }

@@ -22,6 +22,7 @@ use model::{Answer, Asked, Code, Plan, Session};
 use targets::Target;
 
 // A move: the present extent, entry e, is closed, and the FCB takes entry t as it stands then, of its own extent.
+#[tactic(auto, unfolding(model::specs::Target::moved))]
 fn move_to(image: &mut [u8], map: &mut [u16], fcb: &mut [u8], e: usize, t: usize)
     requires { Long eight_inch image.old × (length fcb.old ≡ fcb_bytes) × (e < eight_inch.entries) × (t < eight_inch.entries) }
     ensures { (buffer : Bytes) → lend image.new map.new fcb.new buffer
@@ -64,8 +65,7 @@ fn entry_of(plan: Plan) -> usize
 {
     match plan {
         Plan::Stay(e, _) => e,
-        Plan::Move(_, t, _) => t,
-        Plan::Make(_, t, _) => t,
+        Plan::Move(_, t, _) | Plan::Make(_, t, _) => t,
     }
 }
 
@@ -74,9 +74,7 @@ fn block_of(plan: Plan) -> usize
     ensures { result ≡ block_of plan }
 {
     match plan {
-        Plan::Stay(_, b) => b,
-        Plan::Move(_, _, b) => b,
-        Plan::Make(_, _, b) => b,
+        Plan::Stay(_, b) | Plan::Move(_, _, b) | Plan::Make(_, _, b) => b,
     }
 }
 
@@ -110,9 +108,9 @@ fn transfer(
             target.at,
             target.after,
         );
-        return;
+    } else {
+        transfers::read_at(image, fcb, buffer, b, target.at, target.after);
     }
-    transfers::read_at(image, fcb, buffer, b, target.at, target.after);
 }
 
 // A plan followed.

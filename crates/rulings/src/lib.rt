@@ -18,14 +18,14 @@ fn read_to(image: &[u8], fcb: &[u8], e: usize, t: usize, j: usize, r: usize) -> 
     requires { Long eight_inch image.now × (length fcb.now ≡ fcb_bytes) × (t < eight_inch.entries) × (j < slot_count) }
     ensures { result ≡ read_to_rule eight_inch (entry_at eight_inch image.now) fcb.now e t j r }
 {
-    if lists::wide(targets::arrived_count(image, fcb, e, t)) <= r {
+    if usize::from(targets::arrived_count(image, fcb, e, t)) <= r {
         return Err(Code::NoRecord);
     }
     let slot = targets::arrived_slot(image, fcb, e, t, j);
     if slot == 0 {
         return Err(Code::NoRecord);
     }
-    Ok(targets::go_to(e, t, lists::wide(slot)))
+    Ok(targets::go_to(e, t, usize::from(slot)))
 }
 
 // What a read is told once the FCB's entry e is known, and the target's as it was looked up.
@@ -41,9 +41,7 @@ fn rule_read(
     requires { Long eight_inch image.now × (length fcb.now ≡ fcb_bytes) × (j < slot_count) × Among eight_inch.entries target }
     ensures { result ≡ read_from eight_inch (entry_at eight_inch image.now) fcb.now number e j at target }
 {
-    let Some(t) = target else {
-        return Err(targets::missing(number, Code::NoExtent));
-    };
+    let t = target.ok_or(targets::missing(number, Code::NoExtent))?;
     read_to(image, fcb, e, t, j, at)
 }
 
@@ -52,16 +50,12 @@ fn is_guarded(image: &[u8], e: usize, target: Option<usize>) -> bool
     requires { Long eight_inch image.now × (e < eight_inch.entries) × Among eight_inch.entries target }
     ensures { result ≡ guarded (entry_at eight_inch image.now) e target }
 {
-    if entries::is_read_only(rows::row(image, e)) {
-        return true;
-    }
-    let Some(t) = target else {
-        return false;
-    };
-    entries::is_read_only(rows::row(image, t))
+    entries::is_read_only(rows::row(image, e))
+        || target.is_some_and(|t| entries::is_read_only(rows::row(image, t)))
 }
 
 // The block for a slot: its own, or the first free one where it has none.
+#[tactic(auto, unfolding(crate::specs::Ruling::block_for_rule))]
 fn block_for(map: &[u16], slot: u8) -> Option<usize>
     requires { length map.now ≡ eight_inch.blocks }
     ensures { result ≡ block_for_rule eight_inch map.now slot }
@@ -69,20 +63,17 @@ fn block_for(map: &[u16], slot: u8) -> Option<usize>
     if slot == 0 {
         return notes::first_free(map);
     }
-    Some(lists::wide(slot))
+    Some(usize::from(slot))
 }
 
 // Writing into an extent that has no entry: one is made in the first empty place.
+#[tactic(auto, unfolding(crate::specs::Ruling::write_new_rule))]
 fn write_new(image: &[u8], map: &[u16], code: Code, e: usize) -> Result<Plan, Code>
     requires { Long eight_inch image.now × (length map.now ≡ eight_inch.blocks) }
     ensures { result ≡ write_new_rule eight_inch (entry_at eight_inch image.now) map.now code e }
 {
-    let Some(t) = lookups::find_empty(image) else {
-        return Err(code);
-    };
-    let Some(b) = notes::first_free(map) else {
-        return Err(Code::DiskFull);
-    };
+    let t = lookups::find_empty(image).ok_or(code)?;
+    let b = notes::first_free(map).ok_or(Code::DiskFull)?;
     Ok(Plan::Make(e, t, b))
 }
 
@@ -103,13 +94,12 @@ fn write_to(
     let Some(t) = target else {
         return write_new(image, map, code, e);
     };
-    let Some(b) = block_for(map, targets::arrived_slot(image, fcb, e, t, j)) else {
-        return Err(Code::DiskFull);
-    };
+    let b = block_for(map, targets::arrived_slot(image, fcb, e, t, j)).ok_or(Code::DiskFull)?;
     Ok(targets::go_to(e, t, b))
 }
 
 // What a write is told once the FCB's entry e is known, and the target's as it was looked up.
+#[tactic(auto, unfolding(crate::specs::Ruling::write_from))]
 fn rule_write(
     number: u8,
     extent: usize,
@@ -147,14 +137,11 @@ pub fn rule(
     requires { (length map.now ≡ eight_inch.blocks) × TargetOf number fcb.now target × Findable eight_inch image.now chain.now user fcb.now }
     ensures { (buffer : Bytes) → result ≡ ruling eight_inch number user (lend image.now map.now fcb.now buffer) }
 {
-    let extent = target.extent;
-    let at = target.at;
+    let Target { extent, at, .. } = target;
     if targets::over_last(number, extent) {
         return Err(Code::BadRecord);
     }
-    let Some(e) = current::current_entry(image, map, chain, user, fcb) else {
-        return Err(Code::NotCurrent);
-    };
+    let e = current::current_entry(image, map, chain, user, fcb).ok_or(Code::NotCurrent)?;
     let found = targets::target_entry(image, chain, user, fcb, e, extent);
     let j = entries::slot_for(extent, at);
     if calls::writes(number) {

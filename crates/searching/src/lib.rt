@@ -26,8 +26,7 @@ fn first_match(
     ensures { (map fcb : Bytes) → outcome result image.now map fcb buffer.new
         ≡ searched_from eight_inch session (lend image.now map fcb buffer.old) pattern from }
 {
-    let user = session.user;
-    let Some(e) = hits::find_hit(image, user, &pattern, from) else {
+    let Some(e) = hits::find_hit(image, session.user, &pattern, from) else {
         return answers::refuse(Code::SearchOver, session);
     };
     disk::read_record(image, e / ENTRIES_PER_RECORD, buffer);
@@ -40,13 +39,7 @@ fn pattern_right(fcb: &[u8]) -> bool
     requires { length fcb.now ≡ fcb_bytes }
     ensures { result ≡ pattern_right_rule fcb.now }
 {
-    if !names::name_right(true, fcb, 1) {
-        return false;
-    }
-    if fcb[12] <= 31 {
-        return true;
-    }
-    fcb[12] == 63
+    names::name_right(true, fcb, 1) && (fcb[12] <= 31 || fcb[12] == 63)
 }
 
 // 17: the first entry that the FCB's name and byte 12 match.
@@ -72,7 +65,11 @@ pub fn search_next(image: &[u8], buffer: &mut [u8], session: Session) -> Answer
     if session.on == 0 {
         return answers::refuse(Code::Failed, session);
     }
-    let pattern = session.pattern;
-    let place = session.place as usize;
-    first_match(image, pattern, place, buffer, session)
+    first_match(
+        image,
+        session.pattern,
+        usize::from(session.place),
+        buffer,
+        session,
+    )
 }

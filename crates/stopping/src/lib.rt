@@ -18,8 +18,10 @@ fn move_changes(plan: Plan, image: &[u8], fcb: &[u8]) -> bool
 {
     match plan {
         Plan::Stay(_, _) => false,
-        Plan::Move(e, _, _) => merging::close_changes(rows::row(image, e), fcb),
-        Plan::Make(e, _, _) => merging::close_changes(rows::row(image, e), fcb),
+        Plan::Move(e, _, _) | Plan::Make(e, _, _) => merging::close_changes(
+            rows::row(image, e),
+            fcb,
+        ),
     }
 }
 
@@ -29,8 +31,5 @@ pub fn stops(session: Session, plan: Plan, image: &[u8], fcb: &[u8]) -> bool
     ensures { (map buffer : Bytes)
         → result ≡ (protected session and plan_changes eight_inch (lend image.now map fcb.now buffer) plan) }
 {
-    if protection::is_protected(session) {
-        return move_changes(plan, image, fcb);
-    }
-    false
+    protection::is_protected(session) && move_changes(plan, image, fcb)
 }

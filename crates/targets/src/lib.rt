@@ -33,13 +33,14 @@ pub fn target_of(number: u8, fcb: &[u8]) -> Target
 {
     if calls::is_random(number) {
         let r = random_of(fcb);
+        let at = r % format::EXTENT_RECORDS;
         return Target {
             extent: r / format::EXTENT_RECORDS,
-            at: r % format::EXTENT_RECORDS,
-            after: r % format::EXTENT_RECORDS,
+            at,
+            after: at,
         };
     }
-    let cr = lists::wide(fcb[32]);
+    let cr = usize::from(fcb[32]);
     let extent = entries::extent(fcb);
     if cr == format::EXTENT_RECORDS {
         return Target {
@@ -59,13 +60,11 @@ pub fn target_of(number: u8, fcb: &[u8]) -> Target
 pub fn over_last(number: u8, extent: usize) -> bool
     ensures { result ≡ over_last_rule number extent }
 {
-    if extent < format::EXTENTS {
-        return false;
-    }
-    calls::is_random(number)
+    calls::is_random(number) && format::EXTENTS <= extent
 }
 
 // The code of a call whose target has no entry, where that refuses it: 33 and 34 have codes of their own.
+#[tactic(auto, unfolding(crate::specs::Target::missing_code))]
 pub fn missing(number: u8, random: Code) -> Code
     ensures { result ≡ missing_code number random }
 {
@@ -98,13 +97,11 @@ pub fn target_entry(
 pub fn larger(x: u8, y: u8) -> u8
     ensures { result ≡ max x y }
 {
-    if x < y {
-        return y;
-    }
-    x
+    x.max(y)
 }
 
 // Slot j as the FCB has it once it has come from entry e to entry t.
+#[tactic(auto, using(facts::specs::Slots::slot_byte), unfolding(crate::specs::Target::arrived_slot_rule))]
 pub fn arrived_slot(image: &[u8], fcb: &[u8], e: usize, t: usize, j: usize) -> u8
     requires { Long eight_inch image.now × (length fcb.now ≡ fcb_bytes) × (t < eight_inch.entries) × (j < slot_count) }
     ensures { result ≡ arrived_slot_rule eight_inch (entry_at eight_inch image.now) fcb.now e t j }
@@ -116,18 +113,20 @@ pub fn arrived_slot(image: &[u8], fcb: &[u8], e: usize, t: usize, j: usize) -> u
 }
 
 // The larger of the counts that the FCB, come from entry e to entry t, and that entry have.
+#[tactic(auto, unfolding(crate::specs::Target::arrived_count_rule))]
 pub fn arrived_count(image: &[u8], fcb: &[u8], e: usize, t: usize) -> u8
     requires { Long eight_inch image.now × (length fcb.now ≡ fcb_bytes) × (t < eight_inch.entries) }
     ensures { result ≡ arrived_count_rule (entry_at eight_inch image.now) fcb.now e t }
 {
     let count = entries::count_of(rows::row(image, t));
     if t == e {
-        return larger(entries::count_of(fcb), count);
+        return entries::count_of(fcb).max(count);
     }
     count
 }
 
 // The plan of a call whose target has an entry: there is a move where it is another than the FCB's.
+#[tactic(auto, unfolding(crate::specs::Target::go_to_rule))]
 pub fn go_to(e: usize, t: usize, b: usize) -> Plan
     ensures { result ≡ go_to_rule e t b }
 {

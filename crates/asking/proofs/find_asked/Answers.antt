@@ -4,4 +4,4 @@ use Rattle.asking.proofs.find_asked.Goals as goal
 
 pub returns : goal.returns
 unfolding asked_entry
-returns c = λ map buffer. rw (c.find_file.ensures, c.wide.ensures.0)
+returns c = λ map buffer. rw (c.find_file.ensures, c.from.ensures)

@@ -1,4 +1,4 @@
--- `closing::clear_attributes` meets its contract: byte 6 is read after byte 5 was set, which is another.
+-- Byte 6 is read after byte 5 was set, which is another.
 use Prim.Native.Nat.{ℕ}
 use native.Mathlib.Omega.{arith}
 use lib.Seq.{get_or-set_other}

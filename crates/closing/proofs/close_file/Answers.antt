@@ -1,4 +1,4 @@
--- `closing::close_file` meets its contract: the entry of the FCB decides, and a refusal comes before anything is written.
+-- The entry of the FCB decides, and a refusal comes before anything is written.
 use Prim.Native.Nat.{◌<◌}
 use borrow.Author.Rules.{rules}
 use Rattle.format.specs.Diskette.{eight_inch}

@@ -1,6 +1,5 @@
--- `entering::clear_interface` meets its contract. The invariant: the bytes below i are the cleared row's, the others the row's.
+-- The invariant: the bytes below i are the cleared row's, the others the row's.
 use mathlib.Core.Path.{◌≡◌}
-use Prim.Native.Nat.{◌-◌, ◌≤◌}
 use lib.ListN.{length}
 use Rattle.lists.specs.Tab.{Filled}
 use Rattle.format.specs.Diskette.{entry_bytes}
@@ -8,7 +7,4 @@ use Rattle.model.specs.Entering.{interface_byte}
 use Rattle.entering.proofs.clear_interface.Given as goal
 
 abbrev pub invariant-loop-i : goal.invariant-loop-i
-invariant-loop-i l = Filled (interface_byte l.initial.r) l.initial.r l.i l.r × (5 ≤ l.i) × (l.i ≤ 9) × (length l.r ≡ entry_bytes)
-
-abbrev pub decreases-loop-i : goal.decreases-loop-i
-decreases-loop-i l = 9 - l.i
+invariant-loop-i l = Filled (interface_byte l.initial.r) l.initial.r l.i l.r × (length l.r ≡ entry_bytes)

@@ -1,4 +1,4 @@
--- `entering::copy_fields` meets its contract: `put` splices the part.
+-- `put` splices the part.
 use Rattle.lists.specs.Splice.{part}
 use Rattle.model.specs.Entering.{copied}
 use Rattle.entering.proofs.copy_fields.Goals as goal

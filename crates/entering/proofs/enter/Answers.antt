@@ -1,4 +1,4 @@
--- `entering::enter` meets its contract: of its own extent a row is as it is.
+-- Of its own extent a row is as it is.
 use mathlib.Core.Path.{refl, ap, sym, ◌∙◌}
 use Rattle.model.specs.Entering.{copied, interface_cleared, entered}
 use Rattle.fields.specs.Entering.{as_extent_own}

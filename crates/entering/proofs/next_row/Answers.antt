@@ -1,4 +1,4 @@
--- `entering::next_row` meets its contract: zeros take the head of the row, then ex and s2.
+-- Zeros take the head of the row, then ex and s2.
 use mathlib.Core.Path.{refl}
 use borrow.Author.Rules.{rules}
 use Rattle.lists.specs.Tab.{get_d_zeros}

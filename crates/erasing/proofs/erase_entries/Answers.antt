@@ -10,30 +10,24 @@ use Rattle.erasing.specs.Erasing.{erasing_none, erasing_more, erasing_image, era
 use Rattle.erasing.proofs.erase_entries.Goals as goal
 
 pub loop-e-init : goal.loop-e-init
-loop-e-init c =
-    let s = c in
-    (erasing_none eight_sound _ _ _ s.requires.0 s.requires.1 _, refl, refl, omega arith)
+loop-e-init c = (erasing_none eight_sound _ _ _ c.requires.0 c.requires.1 _, refl)
 
 pub loop-e-preserved : goal.loop-e-preserved
 loop-e-preserved c =
-    let l = c in
-    let s = l in
+    let l = c.loop-e in
     let t = c.erase_entry in (
-      erasing_more eight_sound _ _ _ s.requires.0 s.requires.1 l.loop-e.e l.loop-e.image l.loop-e.map l.loop-e.picked
-          t.new.image t.new.map t.result refl (omega arith) l.loop-e.invariant.0 t.ensures,
-      t.auto.map ∙ l.loop-e.invariant.1,
-      simp length-set l.loop-e.invariant.2,
-      omega arith,
+      erasing_more eight_sound _ _ _ c.requires.0 c.requires.1 l.e l.image l.map l.picked
+          t.new.image t.new.map t.result c.from.result c.from.ensures refl (omega arith) l.invariant.0 t.ensures,
+      simp length-set l.invariant.1,
     )
 
 pub returns : goal.returns
 returns c =
-    let l = c in
-    let s = l in
-    let q : l.loop-e.e ≡ eight_inch.entries = omega arith in
-    let i = rw q at l.loop-e.invariant.0 in (
-      erasing_image eight_sound _ _ _ s.requires.0 s.requires.1 l.loop-e.image l.loop-e.map l.loop-e.picked i,
+    let l = c.loop-e in
+    let q : l.e ≡ eight_inch.entries = omega arith in
+    let i = rw q at l.invariant.0 in (
+      erasing_image eight_sound _ _ _ c.requires.0 c.requires.1 l.image l.map l.picked i,
       c.free_held.ensures
-          ∙ erasing_map eight_sound _ _ _ s.requires.0 s.requires.1 l.loop-e.image l.loop-e.map l.loop-e.picked
-          (λ e h t. named_used true s.args.user s.args.fcb.now 1 _ t s.requires.3) s.requires.4 i,
+          ∙ erasing_map eight_sound _ _ _ c.requires.0 c.requires.1 l.image l.map l.picked
+          (λ e h t. named_used true c.args.user c.args.fcb.now 1 _ t c.requires.3) c.requires.4 i,
     )

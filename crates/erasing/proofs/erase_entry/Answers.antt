@@ -16,7 +16,7 @@ returns-then-not-is_named c =
     let s = c in
     let z : c.is_named.result ≡ false = c.if-not-is_named.true in
     let f : named true s.args.user s.args.fcb.now 1 (entry_at eight_inch s.args.image.now s.args.e) ≡ false = rw (c.is_named.ensures, c.row-r.ensures.0) at z in
-    record { image = rw f; notes = rw f; marked = rw f }
+    record { image = rw f; notes = rw f; told = rw f }
 
 pub returns : goal.returns
 unfolding changed_row
@@ -30,5 +30,5 @@ returns c =
       image = rw t (ap (λ (k : ℕ). set m k 229) c.entry_place-at.ensures.0
           ∙ sym (erased_in_place eight_sound m s.requires.0 s.args.e s.requires.2));
       notes = rw (t, ← u.row-r.ensures.0, ← c.slots.ensures) c.free_slots.ensures;
-      marked = rw t;
+      told = rw t;
     }

@@ -1,34 +1,26 @@
--- The loop's invariant: no entry below e is named and read-only.
-use mathlib.Core.Path.{◌≡◌, sym}
-use mathlib.Core.Bool.{true, false}
-use native.Mathlib.Omega.{arith}
-use Rattle.lists.specs.Below.{any_none, any_at, any_more, any_done}
-use Rattle.format.specs.Diskette.{eight_inch}
+-- The closure tells the definition's test.
+use mathlib.Core.Path.{refl, ◌∙◌}
+use mathlib.Core.Bool.{Bool}
+use Prim.Native.Nat.{ℕ}
+use Rattle.std.proofs.Common.{rules}
+use borrow.Author.Tests.{tests}
+use Rattle.std.proofs.lemmas.Iterator.{YieldsList-from_range}
+use Rattle.std.proofs.lemmas.Iterator.Search.{any_from_yields_List}
+use Rattle.lists.specs.Tests.{◌and◌}
+use Rattle.lists.specs.Ranges.{any_range}
+use Rattle.format.specs.Diskette.{Bytes, eight_inch}
+use Rattle.format.specs.Entries.{entry_at, named, read_only}
 use Rattle.model.specs.Table.{any_read_only_rule}
-use Rattle.families.proofs.any_read_only.Invariants.{guarded}
 use Rattle.families.proofs.any_read_only.Goals as goal
 
-pub loop-e-init : goal.loop-e-init
-loop-e-init c = (any_none _, omega arith)
-
-pub returns-then-guards : goal.returns-then-guards
-unfolding any_read_only_rule
-returns-then-guards c =
-    let l = c in
-    let m = l in
-    let t : (let a = m.args in guarded a.image.now a.wild a.user a.fcb.now) l.loop-e.e ≡ true = rw (c.guards.ensures, c.row.ensures.0) at c.if-guards.true in
-    λ map buffer. sym (any_at ((let a = m.args in guarded a.image.now a.wild a.user a.fcb.now)) eight_inch.entries l.loop-e.e (omega arith) t)
-
-pub loop-e-preserved : goal.loop-e-preserved
-loop-e-preserved c =
-    let l = c in
-    let m = l in
-    let t : (let a = m.args in guarded a.image.now a.wild a.user a.fcb.now) l.loop-e.e ≡ false = rw (c.guards.ensures, c.row.ensures.0) at c.if-guards.false in
-    (any_more ((let a = m.args in guarded a.image.now a.wild a.user a.fcb.now)) l.loop-e.e l.loop-e.invariant.0 t, omega arith)
+-- the test at each entry
+abbrev guarded : Bytes → Bool → ℕ → Bytes → ℕ → Bool
+guarded image wild user fcb e = named wild user fcb 1 (entry_at eight_inch image e) and read_only (entry_at eight_inch image e)
 
 pub returns : goal.returns
 unfolding any_read_only_rule
-returns c =
-    let l = c in
-    let m = l in
-    λ map buffer. any_done ((let a = m.args in guarded a.image.now a.wild a.user a.fcb.now)) l.loop-e.e eight_inch.entries l.loop-e.invariant.1 (omega arith) l.loop-e.invariant.0
+returns c map buffer =
+    let a = c.args in
+    let n = eight_inch.entries in
+    let test = guarded a.image.now a.wild a.user a.fcb.now in
+    any_from_yields_List test _ _ c.any.result c.any.ensures.ran (YieldsList-from_range 0 n n refl refl) (λ x b q k. search (rules, tests)) ∙ any_range test n

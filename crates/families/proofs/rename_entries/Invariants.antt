@@ -1,8 +1,6 @@
 -- The loop's invariant: the image is the lent one with its entries below e renamed.
 use mathlib.Core.Path.{◌≡◌}
 use mathlib.Core.Bool.{false}
-use Prim.Native.Nat.{◌-◌, ◌≤◌}
-use lib.ListN.{length}
 use Rattle.lists.specs.Fold.{fold_below}
 use Rattle.format.specs.Diskette.{eight_inch}
 use Rattle.format.specs.Entries.{named}
@@ -12,8 +10,4 @@ use Rattle.families.proofs.rename_entries.Given as goal
 
 abbrev pub invariant-loop-e : goal.invariant-loop-e
 invariant-loop-e l =
-    (l.image ≡ fold_below (changed_row eight_inch (named false l.user l.fcb 1) (renamed_row_rule l.fcb)) l.initial.image l.e)
-    × (length l.image ≡ length l.initial.image) × (l.e ≤ eight_inch.entries)
-
-abbrev pub decreases-loop-e : goal.decreases-loop-e
-decreases-loop-e l = eight_inch.entries - l.e
+    l.image ≡ fold_below (changed_row eight_inch (named false l.user l.fcb 1) (renamed_row_rule l.fcb)) l.initial.image l.e

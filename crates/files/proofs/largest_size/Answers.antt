@@ -1,17 +1,20 @@
--- The loop's invariant: the size is the largest over the entries below e.
-use mathlib.Core.Path.{sym}
-use native.Mathlib.Omega.{arith}
-use Rattle.lists.specs.Fold.{fold_none, fold_more, fold_done}
-use Rattle.model.specs.Calls.{file_size_rule}
+-- The closure tells the definition's step.
+use mathlib.Core.Path.{refl, ◌∙◌}
+use mathlib.Core.Bool.{false}
+use Rattle.std.proofs.Common.{rules}
+use borrow.Author.Tests.{tests}
+use Rattle.std.proofs.lemmas.Iterator.{YieldsList-from_range}
+use Rattle.std.proofs.lemmas.Iterator.Consumers.{fold_from_yields_List}
+use Rattle.lists.specs.Ranges.{fold_range}
+use Rattle.format.specs.Diskette.{eight_inch}
+use Rattle.format.specs.Entries.{entry_at, named}
+use Rattle.model.specs.Calls.{larger_size_rule, file_size_rule}
 use Rattle.files.proofs.largest_size.Goals as goal
-
-pub loop-e-init : goal.loop-e-init
-loop-e-init c = (sym (fold_none _ _), omega arith)
-
-pub loop-e-preserved : goal.loop-e-preserved
-loop-e-preserved c = let l = c in
-    (fold_more _ _ _ _ _ l.loop-e.invariant.0 c.larger_size-size.ensures, omega arith)
 
 pub returns : goal.returns
 unfolding file_size_rule
-returns c = let l = c in fold_done _ _ _ _ _ l.loop-e.invariant.1 (omega arith) l.loop-e.invariant.0
+returns c =
+    let a = c.args in
+    let n = eight_inch.entries in
+    let step = larger_size_rule (entry_at eight_inch a.image.now) (named false a.user a.fcb.now 1) in
+    fold_from_yields_List _ step 0 c.fold.result c.fold.ensures.ran (YieldsList-from_range 0 n n refl refl) (λ s e t q k. search (rules, tests)) ∙ fold_range step 0 n

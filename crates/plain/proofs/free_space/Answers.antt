@@ -4,5 +4,4 @@ use Rattle.plain.proofs.free_space.Goals as goal
 
 pub returns : goal.returns
 unfolding space
-returns c = let p = c in
-    λ image fcb. rw (c.done.ensures, p.put_three.ensures, p.free_count-n.ensures.0)
+returns c = λ image fcb. rw (c.done.ensures, c.put_three.ensures, c.free_count-n.ensures.0)

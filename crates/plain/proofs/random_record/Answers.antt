@@ -1,5 +1,5 @@
 -- An FCB whose numbers are out of range is refused; otherwise the record that it stands at is put into r0 to r2.
-use mathlib.Core.Path.{refl, sym, ap, ◌∙◌}
+use mathlib.Core.Path.{refl, sym, ap}
 use mathlib.Core.Bool.{not}
 use Rattle.format.specs.Diskette.{eight_inch}
 use Rattle.model.specs.Calls.{positioned}
@@ -13,12 +13,10 @@ use Rattle.plain.proofs.random_record.Goals as goal
 
 pub returns-then-not-position_right : goal.returns-then-not-position_right
 returns-then-not-position_right c = λ asked image map buffer.
-    refuses_own eight_inch (calling 36 asked) _ _ Failed _ (here (ap not (sym c.position_right.ensures) ∙ c.if-not-position_right.true-raw) refl) c.refuse.ensures
+    refuses_own eight_inch (calling 36 asked) _ _ Failed _ (here (ap not (sym c.if-not-position_right.ensures)) refl) c.refuse.ensures
 
 pub returns : goal.returns
 unfolding positioned kind_of told
 returns c =
-    let p = c in
-    let b = p in
-    λ asked image map buffer. quiet_own eight_inch (calling 36 asked) _ _ _ refl (ap not (sym b.position_right.ensures) ∙ b.if-not-position_right.false-raw, tt)
-    (rw (c.done.ensures, p.put_three.ensures, p.extent.ensures.0, p.wide.ensures.0))
+    λ asked image map buffer. quiet_own eight_inch (calling 36 asked) _ _ _ refl (ap not (sym c.if-not-position_right.ensures), tt)
+    (rw (c.done.ensures, c.put_three.ensures, c.extent.ensures.0, c.from.ensures))

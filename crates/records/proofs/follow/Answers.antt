@@ -14,14 +14,17 @@ use Rattle.records.proofs.follow.Goals as goal
 
 pub transfer-requires : goal.transfer-requires
 transfer-requires c =
-    let d = c in let s = d in let a = s.args in let came = d.arrive in let q = came.ensures [] in
+    let a = c.args in
+    let p = c.requires in
+    let came = c.arrive in
+    let q = came.ensures [] in
     let o : extent_of came.new.fcb ≡ extent_of (entry_at eight_inch came.new.image (entry_of a.plan)) =
     ap (λ (l : Lent). extent_of l.fcb) q
-    ∙ arrived_own eight_sound a.target.extent (lend a.image.now a.map.now a.fcb.now []) a.plan s.requires.5.0 s.requires.5.2 s.requires.3 s.requires.4
+    ∙ arrived_own eight_sound a.target.extent (lend a.image.now a.map.now a.fcb.now []) a.plan p.5.0 p.5.2 p.3 p.4
     ∙ sym (ap (λ (l : Lent). extent_of (entry_at eight_inch l.drive.image (entry_of a.plan))) q) in
-    (s.requires.1, s.requires.2, s.requires.3, o, (search rules, search rules, search rules, s.requires.5.3))
+    (p.1, p.2, p.3, o, (search rules, search rules, search rules, p.5.3))
 
 pub returns : goal.returns
 returns c =
-    let t = c in let d = t in let a = d.args in
-    t.transfer.ensures ∙ ap (transferred eight_inch (same (kind_of a.number) Write) a.plan a.target) (d.arrive.ensures a.buffer.now)
+    let a = c.args in
+    c.transfer.ensures ∙ ap (transferred eight_inch (same (kind_of a.number) Write) a.plan a.target) (c.arrive.ensures a.buffer.now)

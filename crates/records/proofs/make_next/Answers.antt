@@ -12,23 +12,13 @@ use Rattle.records.proofs.make_next.Goals as goal
 
 pub returns : goal.returns
 unfolding made
-returns c =
-    let row = c in
-    let shut = c in
-    let s = c in
+returns c buffer =
+    let a = c.args in
+    let img = a.image.now in
     let next = c.next_row-row.ensures in
-    let closed = shut.close_entry.ensures in
-    let img = s.args.image.now in
-    let after : Bytes = closed_image eight_inch img s.args.e s.args.fcb.now in
-    let taken : row.copy_row.result ≡ entry_at eight_inch after s.args.e = row.copy_row.ensures ∙ ap (λ (i : Bytes). entry_at eight_inch i s.args.e) closed.0 in
-    let whole = ap length taken ∙ length_row_closed eight_sound img s.requires.0 s.args.e s.requires.2 s.args.fcb.now s.args.e s.requires.2 in
-    let own = ap extent_of next ∙ extent_next row.copy_row.result s.args.extent whole in
-    λ buffer. rw (
-      c.store_row.ensures,
-      closed.0,
-      closed.1,
-      c.enter.ensures,
-      own,
-      next,
-      taken,
-    )
+    let closed = c.close_entry.ensures in
+    let after : Bytes = closed_image eight_inch img a.e a.fcb.now in
+    let taken : c.copy_row.result ≡ entry_at eight_inch after a.e = c.copy_row.ensures ∙ ap (λ (i : Bytes). entry_at eight_inch i a.e) closed.0 in
+    let whole = ap length taken ∙ length_row_closed eight_sound img c.requires.0 a.e c.requires.2 a.fcb.now a.e c.requires.2 in
+    let own = ap extent_of next ∙ extent_next c.copy_row.result a.extent whole in
+    rw (c.store_row.ensures, closed.0, closed.1, c.enter.ensures, own, next, taken)

@@ -9,22 +9,18 @@ use Rattle.records.proofs.transfer.Goals as goal
 
 pub write_at-requires : goal.write_at-requires
 write_at-requires c =
-    let d = c in let b = d.block_of-b in let s = d in let a = s.args in
-    let h : b.result < eight_inch.blocks = rw b.ensures (block_on_disk eight_inch a.plan s.requires.2) in
-    let k : c.entry_of.result < eight_inch.entries = rw c.entry_of.ensures (entry_on_disk eight_inch a.plan s.requires.2) in
-    let o : extent_of a.fcb.now ≡ extent_of (entry_at eight_inch a.image.now c.entry_of.result) = rw c.entry_of.ensures s.requires.3 in search rules
+    let a = c.args in
+    let b : c.block_of-b.result < eight_inch.blocks = rw c.block_of-b.ensures (block_on_disk eight_inch a.plan c.requires.2) in
+    let e : c.entry_of.result < eight_inch.entries = rw c.entry_of.ensures (entry_on_disk eight_inch a.plan c.requires.2) in
+    let own : extent_of a.fcb.now ≡ extent_of (entry_at eight_inch a.image.now c.entry_of.result) = rw c.entry_of.ensures c.requires.3 in search rules
 
 pub returns-then-writes : goal.returns-then-writes
 returns-then-writes c =
-    let w = c in let j = w in let d = j in
-    rw (sym d.writes.ensures ∙ j.if-writes.true) (w.write_at.ensures ∙ rw (d.block_of-b.ensures, w.entry_of.ensures, j.slot_for-j.ensures.0))
+    rw (sym c.writes.ensures ∙ c.if-writes.true) (c.write_at.ensures ∙ rw (c.block_of-b.ensures, c.entry_of.ensures, c.slot_for-j.ensures.0))
 
 pub read_at-requires : goal.read_at-requires
 read_at-requires c =
-    let s = c in let b = c.block_of-b in
-    let h : b.result < eight_inch.blocks = rw b.ensures (block_on_disk eight_inch s.args.plan s.requires.2) in search rules
+    let b : c.block_of-b.result < eight_inch.blocks = rw c.block_of-b.ensures (block_on_disk eight_inch c.args.plan c.requires.2) in search rules
 
-pub returns : goal.returns
-returns c =
-    let r = c in let i = r in
-    rw (sym i.writes.ensures ∙ i.if-writes.false) (r.read_at.ensures _ ∙ rw i.block_of-b.ensures)
+pub returns-else-writes : goal.returns-else-writes
+returns-else-writes c = rw (sym c.writes.ensures ∙ c.if-writes.false) (c.read_at.ensures _ ∙ rw c.block_of-b.ensures)

@@ -1,31 +1,26 @@
 -- The FCB's entry first; then what was found decides.
-use Rattle.std.specs.Prelude.{None, Some}
+use Rattle.std.specs.Prelude.{◌≡◌, Bool, false, MatchOption, None, Option, Some, ℕ}
+use Rattle.std.proofs.Common.{refl, sym, ◌∙◌, rules}
+use borrow.Author.Tests.{tests}
+use Rattle.format.specs.Entries.{Rows, entry_at, read_only}
 use Rattle.format.specs.Diskette.{eight_inch}
-use Rattle.format.specs.Entries.{entry_at, read_only}
-use mathlib.Core.Path.{sym, ap, ◌∙◌}
+use Rattle.model.specs.Target.{read_only_in}
 use Rattle.rulings.specs.Laws.{guarded_here, guarded_there}
-use Prim.Native.Nat.{◌<◌}
-use borrow.Author.Rules.{rules}
 use Rattle.rulings.proofs.is_guarded.Goals as goal
+
+-- a test of the target's entry, where there is one
+there : {P : ℕ → Type 0} (d : Rows) (target : Option ℕ) (r : Bool) → MatchOption target (r ≡ false) P
+    → ((t : ℕ) → P t → r ≡ read_only (d t)) → r ≡ read_only_in d target
+there d (Some t) r h tells = tells t h
+there d None r h tells = h
 
 pub returns-then-is_read_only : goal.returns-then-is_read_only
 returns-then-is_read_only c =
-    let a = c.args in
-    sym (guarded_here (entry_at eight_inch a.image.now) a.e a.target
-    (sym (c.is_read_only.ensures ∙ ap read_only c.row.ensures.0) ∙ c.if-is_read_only.true))
+    let h = rw c.row.ensures.0 at c.if-is_read_only.ensures in
+    c.if-is_read_only.true ∙ sym (guarded_here _ _ _ (sym h))
 
-pub returns-in_default : goal.returns-in_default
-returns-in_default c =
-    let a = c.args in
-    sym (guarded_there (entry_at eight_inch a.image.now) a.e a.target None
-    (sym (c.is_read_only.ensures ∙ ap read_only c.row.ensures.0) ∙ c.if-is_read_only.false) c.in_default.is)
-
-pub row-requires-2 : goal.row-requires-2
-row-requires-2 c = let h : c.in-Some.t < eight_inch.entries = c.requires.2 c.in-Some.t c.in-Some.is in search rules
-
-pub returns : goal.returns
-returns c =
-    let a = c.args in
-    c.is_read_only-2.ensures ∙ ap read_only c.row-2.ensures.0
-    ∙ sym (guarded_there (entry_at eight_inch a.image.now) a.e a.target (Some c.in-Some.t)
-    (sym (c.is_read_only.ensures ∙ ap read_only c.row.ensures.0) ∙ c.if-is_read_only.false) c.in-Some.is)
+pub returns-else-is_read_only : goal.returns-else-is_read_only
+returns-else-is_read_only c =
+    let h = rw c.row.ensures.0 at c.if-is_read_only.ensures in
+    there (entry_at eight_inch c.args.image.now) c.args.target _ c.is_some_and.ensures (λ t q. search (rules, tests))
+    ∙ sym (guarded_there _ _ _ _ (sym h) refl)

@@ -5,11 +5,11 @@ use Rattle.rulings.specs.Laws.{read_short, read_empty, read_there}
 use mathlib.Core.Path.{sym, ◌∙◌}
 use Rattle.rulings.proofs.read_to.Goals as goal
 
-pub returns-then-wide-r : goal.returns-then-wide-r
-returns-then-wide-r c =
+pub returns-then-from-r : goal.returns-then-from-r
+returns-then-from-r c =
     let a = c.args in
-    read_short eight_inch (entry_at eight_inch a.image.now) a.fcb.now a.e a.t a.j a.r c.wide.result
-    (c.wide.ensures.0 ∙ c.arrived_count.ensures) c.if-wide-r.true
+    read_short eight_inch (entry_at eight_inch a.image.now) a.fcb.now a.e a.t a.j a.r c.from.result
+    (c.from.ensures ∙ c.arrived_count.ensures) c.if-from-r.true
 
 pub returns-then-slot-eq0 : goal.returns-then-slot-eq0
 returns-then-slot-eq0 c =
@@ -20,6 +20,6 @@ returns-then-slot-eq0 c =
 pub returns : goal.returns
 returns c =
     let a = c.args in
-    read_there eight_inch (entry_at eight_inch a.image.now) a.fcb.now a.e a.t a.j a.r c.wide.result c.wide-2.result
-    c.go_to.result (c.wide.ensures.0 ∙ c.arrived_count.ensures) c.if-wide-r.false (c.wide-2.ensures.0 ∙ c.arrived_slot-slot.ensures)
-    (λ z. c.if-slot-eq0.false (sym c.wide-2.ensures.0 ∙ z)) c.go_to.ensures
+    read_there eight_inch (entry_at eight_inch a.image.now) a.fcb.now a.e a.t a.j a.r c.from.result c.from-2.result
+    c.go_to.result (c.from.ensures ∙ c.arrived_count.ensures) c.if-from-r.false (c.from-2.ensures ∙ c.arrived_slot-slot.ensures)
+    (λ z. c.if-slot-eq0.false (sym c.from-2.ensures ∙ z)) c.go_to.ensures

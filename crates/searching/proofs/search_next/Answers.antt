@@ -17,7 +17,6 @@ returns-then-session-eq0 c =
 
 pub returns : goal.returns
 returns c =
-    let b = c in
-    let a = b.args in
+    let a = c.args in
     λ asked map fcb. let l : Lent = lend a.image.now map fcb a.buffer.now in
-    c.first_match.ensures map fcb ∙ next_searched eight_inch a.session l asked b.if-session-eq0.false
+    c.first_match.ensures map fcb ∙ rw c.from.ensures (next_searched eight_inch a.session l asked c.if-session-eq0.false)

@@ -1,14 +1,14 @@
--- An extent below 2,048 is none of a record over the last; past it the number decides.
-use mathlib.Core.Path.{sym, ◌∙◌}
-use borrow.Author.Tests.{lt-leb, le-leb}
-use Rattle.lists.specs.Tests.{and_fails_right, and_first}
+-- The number decides first, by the test of random calls; of a random call the extent does.
+use Rattle.std.proofs.Common.{rules}
+use borrow.Author.Tests.{tests}
+use Rattle.lists.specs.Tests.{◌and◌}
 use Rattle.targets.specs.Target.{over_last_rule}
 use Rattle.targets.proofs.over_last.Goals as goal
 
-pub returns-then-extent-lt-EXTENTS : goal.returns-then-extent-lt-EXTENTS
-unfolding over_last_rule
-returns-then-extent-lt-EXTENTS c = sym (and_fails_right _ _ (lt-leb _ _ c.if-extent-lt-EXTENTS.true))
+pub returns-then-is_random : goal.returns-then-is_random
+unfolding over_last_rule ◌and◌
+returns-then-is_random c = search (rules, tests)
 
-pub returns : goal.returns
-unfolding over_last_rule
-returns c = c.is_random.ensures ∙ sym (and_first _ _ (le-leb _ _ c.if-extent-lt-EXTENTS.false))
+pub returns-else-is_random : goal.returns-else-is_random
+unfolding over_last_rule ◌and◌
+returns-else-is_random c = search (rules, tests)

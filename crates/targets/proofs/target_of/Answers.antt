@@ -1,8 +1,6 @@
 -- The three cases of the definition, each with the numbers that the callees read out of the FCB.
 use mathlib.Core.Path.{◌≡◌, sym, ap, ◌∙◌}
 use Prim.Native.Nat.{ℕ, ◌+◌, ◌/◌, ◌%◌}
-use mathlib.Core.Bool.{true, false}
-use Rattle.model.specs.Kinds.{is_random_rule}
 use Rattle.fields.specs.Target.{extent_random, record_random, cr_after_random, extent_past, record_past, extent_within, record_within, cr_after_sequential}
 use Rattle.format.specs.Fcb.{cr_of}
 use Rattle.targets.proofs.target_of.Goals as goal
@@ -11,7 +9,7 @@ pub returns-then-is_random : goal.returns-then-is_random
 returns-then-is_random c =
     let n = c.args.number in
     let fcb = c.args.fcb.now in
-    let random : is_random_rule n ≡ true = sym c.is_random.ensures ∙ c.if-is_random.true in
+    let random = sym c.if-is_random.ensures in
     let at = ap (λ (r : ℕ). r % 128) c.random_of-r.ensures.0 ∙ sym (record_random n fcb random) in
     record {
       extent = ap (λ (r : ℕ). r / 128) c.random_of-r.ensures.0 ∙ sym (extent_random n fcb random);
@@ -23,8 +21,8 @@ pub returns-then-cr-eq-EXTENT_RECORDS : goal.returns-then-cr-eq-EXTENT_RECORDS
 returns-then-cr-eq-EXTENT_RECORDS c =
     let n = c.args.number in
     let fcb = c.args.fcb.now in
-    let s = (let sequential' : is_random_rule c.args.number ≡ false = sym c.is_random.ensures ∙ c.if-is_random.false in sequential') in
-    let past : cr_of fcb ≡ 128 = sym c.wide-cr.ensures.0 ∙ c.if-cr-eq-EXTENT_RECORDS.true in
+    let s = sym c.if-is_random.ensures in
+    let past : cr_of fcb ≡ 128 = sym c.from-cr.ensures ∙ c.if-cr-eq-EXTENT_RECORDS.true in
     record {
       extent = ap (λ (x : ℕ). x + 1) c.extent-extent.ensures.0 ∙ sym (extent_past n fcb s past);
       at = sym (record_past n fcb s past);
@@ -35,8 +33,8 @@ pub returns : goal.returns
 returns c =
     let n = c.args.number in
     let fcb = c.args.fcb.now in
-    let s = (let sequential' : is_random_rule c.args.number ≡ false = sym c.is_random.ensures ∙ c.if-is_random.false in sequential') in
-    let cr = c.wide-cr.ensures.0 in
+    let s = sym c.if-is_random.ensures in
+    let cr = c.from-cr.ensures in
     let within : cr_of fcb ≡ 128 → ⊥ = λ q. c.if-cr-eq-EXTENT_RECORDS.false (cr ∙ q) in
     record {
       extent = c.extent-extent.ensures.0 ∙ sym (extent_within n fcb s within);
