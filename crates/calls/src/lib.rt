@@ -46,7 +46,10 @@ pub fn is_listed(kind: Kind) -> bool
 pub fn uses_fcb(number: u8) -> bool
     ensures { result ≡ uses_fcb_rule number }
 {
-    matches!(number, 15 | 16 | 17 | 19 | 20 | 21 | 22 | 23 | 33 | 34 | 35 | 36)
+    matches!(
+        number,
+        15 | 16 | 17 | 19 | 20 | 21 | 22 | 23 | 33 | 34 | 35 | 36
+    )
 }
 
 // Whether a call goes by the random record.

@@ -16,9 +16,8 @@ ghost use Rattle.chains.specs.Chain.{Indexed};
 ghost use Rattle.consistent.specs.Dating.{next_dates};
 ghost use Rattle.consistent.specs.Pass.{Passed, with_dates, with_label, aside_taken, aside_after};
 
-use format::{DIRECTORY_RECORDS, ENTRIES_PER_RECORD, ENTRY_BYTES, MARKS};
-
 use chains::CHAIN_BYTES;
+use format::{DIRECTORY_RECORDS, ENTRIES_PER_RECORD, ENTRY_BYTES, MARKS};
 
 // What a pass over the directory has seen: a mark for each block that is listed, the entries by their keys, the label's entry, and how many
 // date entries were met. Where the image is consistent, calls go by it.

@@ -34,7 +34,10 @@ pub fn is_protected(s: Session) -> bool
 fn kind_changes(kind: Kind) -> bool
     ensures { (number : ℕ) → kind_of number ≡ kind → result ≡ one_of number changers }
 {
-    matches!(kind, Kind::Close | Kind::Delete | Kind::Create | Kind::Rename | Kind::Write)
+    matches!(
+        kind,
+        Kind::Close | Kind::Delete | Kind::Create | Kind::Rename | Kind::Write
+    )
 }
 
 // Whether a session refuses the calls of a kind, whatever else they are handed: a protected one those that change the disk.

@@ -2,10 +2,8 @@
 use Rattle.consistent.specs.Pass.{passed_rows}
 use Rattle.rows.specs.Entries.{row_of, row_in_record}
 use Rattle.disk.specs.Eight.{eight_sound}
-use Rattle.lists.specs.Splice.{part}
 use Rattle.lists.specs.Cases.{clash}
-use Rattle.format.specs.Diskette.{Bytes, entry_bytes, entries_per_record}
-use Prim.Native.Nat.{ℕ, ◌+◌, ◌*◌}
+use Rattle.format.specs.Diskette.{Bytes, entries_per_record}
 use mathlib.Core.Path.{◌≡◌, sym, ap, ◌∙◌}
 use native.Mathlib.Omega.{arith}
 use Rattle.consistent.proofs.take_record.Goals as goal
