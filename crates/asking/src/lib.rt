@@ -9,6 +9,8 @@ ghost use Rattle.model.specs.Table.{asked_entry};
 ghost use Rattle.chains.specs.Chain.{Findable};
 ghost use Rattle.asking.specs.Asked.{asks_right_rule};
 
+use format::Found;
+
 // Whether 15 and 22 can ask for a file by the FCB: its name obeys the name rule, and byte 12 is an ex.
 #[tactic(auto, using(crate::specs::Asked::asks_by))]
 pub fn asks_right(fcb: &[u8]) -> bool
@@ -19,7 +21,7 @@ pub fn asks_right(fcb: &[u8]) -> bool
 }
 
 // The entry that 15 and 22 ask for: of the FCB's name, with ex = byte 12 and s2 0.
-pub fn find_asked(image: &[u8], chain: &[u8], user: u8, fcb: &[u8]) -> Option<usize>
+pub fn find_asked(image: &[u8], chain: &[u8], user: u8, fcb: &[u8]) -> Found
     requires { Findable eight_inch image.now chain.now user fcb.now }
     ensures { (map buffer : Bytes) → result ≡ asked_entry eight_inch (lend image.now map fcb.now buffer) user }
 {

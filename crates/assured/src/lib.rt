@@ -137,7 +137,7 @@ fn read_again(
         back.old) session }
 {
     let at = format::EXTENT_RECORDS * target.extent + target.at;
-    entering::put_three(fcb, 33, at);
+    lists::put_three(fcb, 33, at);
     let read = Asked {
         number: 33,
         ..asked

@@ -10,6 +10,7 @@ ghost use Rattle.format.specs.Consistent.{same_file_rule, alone};
 ghost use Rattle.chains.specs.Walk.{past};
 ghost use Rattle.chains.specs.Chain.{chain_bytes, Chained, Indexed};
 
+use format::Found;
 use keys::KEYS;
 
 // A number for each key, and then one for each entry.
@@ -32,7 +33,7 @@ fn same_file(r: &[u8], t: &[u8]) -> bool
 }
 
 // The entry that a number of the chains names, where it is not 0.
-fn linked(chain: &[u8], at: usize) -> Option<usize>
+fn linked(chain: &[u8], at: usize) -> Found
     requires { at < length chain.now }
     ensures { past result ≡ get_or chain.now at 0 }
 {
@@ -81,7 +82,7 @@ pub fn find_file(
     s: &[u8],
     q: usize,
     ext: usize,
-) -> Option<usize>
+) -> Found
     requires { Long eight_inch image.now × (q + name_bytes ≤ length s.now) × (user ≤ 15)
         × Indexed eight_inch (entry_at eight_inch image.now) chain.now }
     ensures { result ≡ find_file_rule eight_inch (entry_at eight_inch image.now) user s.now q ext }

@@ -8,6 +8,8 @@ ghost use Rattle.format.specs.Fcb.{fcb_bytes, fcb_right_rule, current};
 ghost use Rattle.slots.specs.Slots.{slots_same_rule};
 ghost use Rattle.chains.specs.Chain.{Findable};
 
+use format::Found;
+
 // Whether an FCB's name, ex, s2 and cr are in range.
 fn fcb_right(fcb: &[u8]) -> bool
     requires { length fcb.now ≡ fcb_bytes }
@@ -30,7 +32,7 @@ pub fn slots_own(row: &[u8], fcb: &[u8]) -> bool
 }
 
 // The entry of a current FCB.
-pub fn current_entry(image: &[u8], map: &[u16], chain: &[u8], user: u8, fcb: &[u8]) -> Option<usize>
+pub fn current_entry(image: &[u8], map: &[u16], chain: &[u8], user: u8, fcb: &[u8]) -> Found
     requires { Findable eight_inch image.now chain.now user fcb.now }
     ensures { result ≡ current eight_inch (entry_at eight_inch image.now) map.now user fcb.now }
 {

@@ -41,13 +41,8 @@ pub fn fcb_of(name: [u8; 11]) -> [u8; 36]
 pub fn at_record(fcb: [u8; 36], number: usize) -> [u8; 36]
     ensures { result ≡ at_record_rule fcb number }
 {
-    let bytes = [
-        (number % 256) as u8,
-        (number / 256 % 256) as u8,
-        (number / 65536 % 256) as u8,
-    ];
     let mut at = fcb;
-    lists::put(&mut at, 33, &bytes);
+    lists::put_three(&mut at, 33, number);
     at
 }
 
@@ -116,14 +111,14 @@ pub fn one_file(wanted: Wanted) -> bool
 pub fn size_in(fcb: [u8; 36]) -> usize
     ensures { result ≡ random_of_rule fcb }
 {
-    lists::wide(fcb[33]) + 256 * lists::wide(fcb[34]) + 65536 * lists::wide(fcb[35])
+    lists::three(&fcb, 33)
 }
 
 // The free records that 46 put into the buffer.
 pub fn space_in(buffer: [u8; 128]) -> usize
     ensures { result ≡ space_in_rule buffer }
 {
-    lists::wide(buffer[0]) + 256 * lists::wide(buffer[1]) + 65536 * lists::wide(buffer[2])
+    lists::three(&buffer, 0)
 }
 
 // Whether a day is over the last of a year.

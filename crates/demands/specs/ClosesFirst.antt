@@ -3,7 +3,7 @@
 -- an FCB that is not current), whatever else it answers, call 16 on the same disk, with the same FCB and the protection lifted, is accepted; the disk
 -- that its rule leaves is the one on which a move goes on, and its stamps are those with which the move's begin.
 -- The theorem itself, `closes_first`, is in proofs/ClosesFirst; here stands what it says, and what it rests on.
-use Rattle.std.specs.Prelude.{◌≡◌, ◌⊎◌, Bool, true, not, List, ◌∷◌, ◌++◌, ℕ, None, Option, Some}
+use Rattle.std.specs.Prelude.{◌≡◌, ◌⊎◌, Bool, true, not, List, ◌∷◌, ◌++◌, ℕ, None, Option, Some, is_some}
 use Rattle.std.proofs.Math.Path.{refl}
 use Rattle.std.proofs.Common.{ap, subst, ◌∙◌, inl, inr, ne_eqb}
 use Rattle.std.proofs.Math.Bool.{false}
@@ -12,7 +12,7 @@ use Rattle.lists.specs.Cases.{split, bool_cases, not_both, cond_either}
 use Rattle.format.specs.Diskette.{Geometry}
 use Rattle.format.specs.Entries.{entry_at, with_entry}
 use Rattle.format.specs.Dates.{dated}
-use Rattle.format.specs.Found.{is_found, number_of}
+use Rattle.format.specs.Found.{number_of}
 use Rattle.model.specs.declared.Asked.{Asked}
 use Rattle.model.specs.declared.Session.{Session}
 use Rattle.model.specs.declared.Answer.{Answer}
@@ -136,7 +136,7 @@ module _ (G : Geometry) (asked : Asked) (l : Lent) (s : Session) (b : ℕ) (nonz
   }
 
   -- and its one row asks for a current FCB
-  close_carried : Ready G (calling 16 asked) l (with_lifted s b) → not (is_found (present_entry G s.user l)) ≡ false → CarriedOut G (calling 16 asked) l (with_lifted s b)
+  close_carried : Ready G (calling 16 asked) l (with_lifted s b) → not (is_some (present_entry G s.user l)) ≡ false → CarriedOut G (calling 16 asked) l (with_lifted s b)
   unfolding is_call kind_of protected
   close_carried r f =
       total_accepted G (calling 16 asked) l (with_lifted s b)
@@ -144,7 +144,7 @@ module _ (G : Geometry) (asked : Asked) (l : Lent) (s : Session) (b : ℕ) (nonz
 
   -- 20 and 21 test the FCB first
   pub after_sequential : (n : ℕ) (rs : List Row) → is_call n ≡ true → uses_fcb_rule n ≡ true → (one_of n changers ≡ false) ⊎ (kind_of n ≡ Write)
-      → own_rows G (calling n asked) l s ≡ when (not (is_found (present_entry G s.user l))) NotCurrent ∷ rs → CloseFollows n
+      → own_rows G (calling n asked) l s ≡ when (not (is_some (present_entry G s.user l))) NotCurrent ∷ rs → CloseFollows n
   after_sequential n rs t u k own w =
       let o = by_own G (calling n asked) l s t k w in
       close_carried (close_ready n u o.ready)
@@ -153,7 +153,7 @@ module _ (G : Geometry) (asked : Asked) (l : Lent) (s : Session) (b : ℕ) (nonz
 
   -- 33 and 34 test the random record before it
   pub after_random : (n : ℕ) (test : Bool) (rs : List Row) → is_call n ≡ true → uses_fcb_rule n ≡ true → (one_of n changers ≡ false) ⊎ (kind_of n ≡ Write)
-      → own_rows G (calling n asked) l s ≡ when test BadRecord ∷ when (not (is_found (present_entry G s.user l))) NotCurrent ∷ rs → CloseFollows n
+      → own_rows G (calling n asked) l s ≡ when test BadRecord ∷ when (not (is_some (present_entry G s.user l))) NotCurrent ∷ rs → CloseFollows n
   after_random n test rs t u k own w =
       let o = by_own G (calling n asked) l s t k w in
       close_carried (close_ready n u o.ready)

@@ -5,7 +5,7 @@ ghost use Rattle.std.specs.Prelude.{◌≡◌, ◌+◌, ◌*◌, ◌/◌, ◌%�
 ghost use Rattle.lists.specs.Splice.{splice};
 ghost use Rattle.format.specs.Entries.{extent_of};
 ghost use Rattle.format.specs.Fcb.{fcb_bytes};
-ghost use Rattle.model.specs.Entering.{copied, interface_cleared, entered, made_row_rule, next_row_rule, renamed_row_rule, three_bytes};
+ghost use Rattle.model.specs.Entering.{copied, interface_cleared, entered, made_row_rule, next_row_rule, renamed_row_rule};
 
 // FCB bytes 1 to 31 become the row's.
 pub fn copy_fields(fcb: &mut [u8], row: [u8; 32])
@@ -77,16 +77,4 @@ pub fn renamed_row(fcb: &[u8], row: [u8; 32]) -> [u8; 32]
         r[1 + i] = renamed_byte(row[1 + i], fcb[17 + i]);
     }
     r
-}
-
-// A number in three bytes, lowest first.
-pub fn put_three(dst: &mut [u8], at: usize, n: usize)
-    requires { at + 3 ≤ length dst.old }
-    ensures { dst.new ≡ splice dst.old at (three_bytes n) }
-{
-    let mut bytes = [0u8; 3];
-    bytes[0] = (n % 256) as u8;
-    bytes[1] = (n / 256 % 256) as u8;
-    bytes[2] = (n / 65536 % 256) as u8;
-    lists::put(dst, at, &bytes);
 }

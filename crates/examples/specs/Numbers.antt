@@ -1,5 +1,5 @@
 -- Examples g and h: the numbers that 35 and 36 put into r0 to r2.
-use Rattle.std.specs.Prelude.{◌≡◌, refl, Bool, true, false, [], ◌∷◌, ℕ, ◌+◌, ◌*◌, ◌≤◌, ◌<◌, length}
+use Rattle.std.specs.Prelude.{◌≡◌, refl, Bool, true, false, [], ◌∷◌, ℕ, ◌+◌, ◌*◌, ◌≤◌, ◌<◌, length, is_some}
 use Rattle.std.proofs.Common.{subst, arith, eqb-true}
 use Rattle.lists.specs.Cases.{split, bool_cases, not_both}
 use Rattle.lists.specs.Tests.{and_left}
@@ -11,7 +11,6 @@ use Rattle.format.specs.Names.{name_right_rule}
 use Rattle.format.specs.Entries.{count_of, user_of, extent_of, end_of, named, find_named_rule}
 use Rattle.format.specs.Consistent.{consistent_rows, consistent}
 use Rattle.format.specs.Fcb.{cr_of}
-use Rattle.format.specs.Found.{is_found}
 use Rattle.facts.specs.Found.{FoundAt, is_found_law, not_found, none_says}
 use Rattle.model.specs.declared.Asked.{Asked}
 use Rattle.model.specs.declared.Session.{Session}
@@ -78,7 +77,7 @@ entry_size G l s ext count h = rw (h.extent, h.counted)
 pub some_entry : (G : Geometry) (l : Lent) (s : Session) (ext count : ℕ) → HasEntry G l s ext count → FoundAt (find_named_rule G (rows_of G l) false s.user l.fcb 1)
 unfolding find_named_rule
 some_entry G l s ext count h =
-    split (bool_cases (is_found (find_named_rule G (rows_of G l) false s.user l.fcb 1))) (λ t. is_found_law _ t)
+    split (bool_cases (is_some (find_named_rule G (rows_of G l) false s.user l.fcb 1))) (λ t. is_found_law _ t)
     (λ f. not_both _ h.mine (none_says (λ (e : ℕ). named false s.user l.fcb 1 (rows_of G l e)) 0 G.entries (not_found _ f) h.entry (omega arith) h.below))
 
 -- no entry of a consistent image is larger than 262,144 records

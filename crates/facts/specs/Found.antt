@@ -1,9 +1,9 @@
 -- The answer of a look-up: what it is, what it says, and the turns of the loop that makes it.
-use Rattle.std.specs.Prelude.{◌≡◌, refl, Bool, true, false, not, ℕ, ◌≤◌, ◌<◌, None, Option, Some}
+use Rattle.std.specs.Prelude.{◌≡◌, refl, Bool, true, false, not, ℕ, ◌≤◌, ◌<◌, None, Option, Some, is_some}
 use Rattle.std.proofs.Common.{sym, ap, ◌∙◌, arith, lt-ltb, le-ltb}
 use Rattle.lists.specs.Cases.{split, clash, lt_or_le}
 use Rattle.lists.specs.Below.{first_in, first_hit, first_end, first_low, first_holds, first_before, first_is, first_none}
-use Rattle.format.specs.Found.{found_below, is_found}
+use Rattle.format.specs.Found.{found_below}
 
 -- ---- the two answers
 pub at_not_nothing : (e : ℕ) → Some e ≡ None → ⊥
@@ -22,22 +22,22 @@ pub record FoundAt (r : Option ℕ) : Type 0 where
   pub place : ℕ
   pub is : r ≡ Some place
 
-pub is_found_law : (r : Option ℕ) → is_found r ≡ true → FoundAt r
+pub is_found_law : (r : Option ℕ) → is_some r ≡ true → FoundAt r
 is_found_law (Some k) h = record { place = k; is = refl }
 is_found_law None h = clash (sym h)
 
-pub found_so : (r : Option ℕ) → FoundAt r → is_found r ≡ true
-found_so r f = ap is_found f.is
+pub found_so : (r : Option ℕ) → FoundAt r → is_some r ≡ true
+found_so r f = ap is_some f.is
 
-pub not_found : (r : Option ℕ) → is_found r ≡ false → r ≡ None
+pub not_found : (r : Option ℕ) → is_some r ≡ false → r ≡ None
 not_found (Some k) h = clash h
 not_found None h = refl
 
 -- the test of a row that asks for something found
-pub found_row : (r : Option ℕ) {e : ℕ} → r ≡ Some e → not (is_found r) ≡ false
+pub found_row : (r : Option ℕ) {e : ℕ} → r ≡ Some e → not (is_some r) ≡ false
 found_row r q = rw q
 
-pub missed_row : (r : Option ℕ) → r ≡ None → not (is_found r) ≡ true
+pub missed_row : (r : Option ℕ) → r ≡ None → not (is_some r) ≡ true
 missed_row r q = rw q
 
 -- ---- a number among n

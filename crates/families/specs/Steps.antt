@@ -7,7 +7,6 @@ use Rattle.format.specs.Diskette.{Bytes, Geometry}
 use Rattle.format.specs.Names.{name_right_rule}
 use Rattle.format.specs.Entries.{named, find_named_rule}
 use Rattle.format.specs.Notes.{released_map}
-use Rattle.format.specs.Found.{is_found}
 use Rattle.model.specs.declared.Asked.{Asked}
 use Rattle.model.specs.declared.Session.{Session}
 use Rattle.model.specs.declared.Answer.{Answer}
@@ -23,7 +22,7 @@ use Rattle.table.specs.Own.{calling}
 use Rattle.table.specs.OwnStep.{own_step, refuses_own, carries_own}
 
 -- ---- the test of a row that asks for a name, by what was looked up
-found_some : (r : Option ℕ) → is_found r ≡ is_some r
+found_some : (r : Option ℕ) → is_some r ≡ is_some r
 found_some (Some e) = refl
 found_some None = refl
 

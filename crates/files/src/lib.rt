@@ -86,6 +86,6 @@ pub fn file_size(image: &[u8], fcb: &mut [u8], session: Session) -> Answer
         return answers::refuse(Code::Failed, session);
     }
     let size = largest_size(image, session.user, fcb);
-    entering::put_three(fcb, 33, size);
+    lists::put_three(fcb, 33, size);
     answers::done(0, session)
 }

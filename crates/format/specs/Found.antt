@@ -1,5 +1,5 @@
 -- The numbers of a look-up's answer.
-use Rattle.std.specs.Prelude.{Bool, true, false, cond, ℕ, ltb, None, Option, Some}
+use Rattle.std.specs.Prelude.{cond, ℕ, ltb, None, Option, Some}
 
 -- the number k, where it is below n
 unfoldable pub found_below : ℕ → ℕ → Option ℕ
@@ -9,7 +9,3 @@ found_below n k = cond (ltb k n) (Some k) None
 abbrev pub number_of : ℕ → Option ℕ → ℕ
 number_of n (Some k) = k
 number_of n None = n
-
-abbrev pub is_found : Option ℕ → Bool
-is_found (Some k) = true
-is_found None = false

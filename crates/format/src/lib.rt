@@ -1,7 +1,10 @@
-// What the bytes of a diskette, its directory, its map and an FCB mean: the definitions are in specs/. Here stand the
-// 8-inch disk's sizes as code names them. (Lengths of arrays by value and the places of fields within a row
-// or an FCB are written as numbers where they are used.)
+// What the bytes of a diskette, its directory, its map and an FCB mean: the definitions are in specs/. Here stand what a look-up
+// answers, and the 8-inch disk's sizes as code names them. (Lengths of arrays by value and the places of fields within a row or an FCB are
+// written as numbers where they are used.)
 #![tactic(auto)]
+
+// The answer of a look-up: the number of an entry or a block, or that there is none.
+pub type Found = Option<usize>;
 
 // The image: tracks, sectors a track, and the first track that holds blocks.
 pub const TRACKS: usize = 77;

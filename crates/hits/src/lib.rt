@@ -6,7 +6,7 @@ ghost use Rattle.format.specs.Diskette.{eight_inch, Long, entry_bytes};
 ghost use Rattle.format.specs.Entries.{entry_at};
 ghost use Rattle.model.specs.Search.{pattern_bytes, extent_hit_rule, hit, find_hit_rule};
 
-use format::ENTRIES;
+use format::{ENTRIES, Found};
 
 // Whether byte 12 of a pattern asks for a row's extent: 3FH for any, another value for the same ex where s2 is 0, which is the row that covers
 // that extent.
@@ -26,7 +26,7 @@ fn hit(user: u8, pattern: &[u8], row: &[u8]) -> bool
 }
 
 // The first entry from a place on that a pattern hits.
-pub fn find_hit(image: &[u8], user: u8, pattern: &[u8], from: usize) -> Option<usize>
+pub fn find_hit(image: &[u8], user: u8, pattern: &[u8], from: usize) -> Found
     requires { Long eight_inch image.now × (pattern_bytes ≤ length pattern.now) }
     ensures { result ≡ find_hit_rule eight_inch (entry_at eight_inch image.now) user pattern.now from }
 {

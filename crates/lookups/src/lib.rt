@@ -6,7 +6,7 @@ ghost use Rattle.format.specs.Diskette.{eight_inch, Long, entry_bytes};
 ghost use Rattle.format.specs.Names.{name_bytes};
 ghost use Rattle.format.specs.Entries.{entry_at, named, is_file_rule, find_named_rule, find_empty_rule};
 
-use format::ENTRIES;
+use format::{ENTRIES, Found};
 
 // Whether a row is the user's, and its name is what the name in s at q asks for.
 #[tactic(auto, using(lists::specs::Tests::short_circuits), unfolding(format::specs::Entries::named))]
@@ -32,7 +32,7 @@ pub fn is_file(user: u8, s: &[u8], q: usize, ext: usize, r: &[u8]) -> bool
 }
 
 // The first entry of this user whose name is asked for.
-pub fn find_named(image: &[u8], wild: bool, user: u8, s: &[u8], q: usize) -> Option<usize>
+pub fn find_named(image: &[u8], wild: bool, user: u8, s: &[u8], q: usize) -> Found
     requires { Long eight_inch image.now × (q + name_bytes ≤ length s.now) }
     ensures { result ≡ find_named_rule eight_inch (entry_at eight_inch image.now) wild user s.now q }
 {
@@ -40,7 +40,7 @@ pub fn find_named(image: &[u8], wild: bool, user: u8, s: &[u8], q: usize) -> Opt
 }
 
 // The first empty entry.
-pub fn find_empty(image: &[u8]) -> Option<usize>
+pub fn find_empty(image: &[u8]) -> Found
     requires { Long eight_inch image.now }
     ensures { result ≡ find_empty_rule eight_inch (entry_at eight_inch image.now) }
 {

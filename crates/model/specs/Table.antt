@@ -1,7 +1,7 @@
 -- Document 01, "Codes, in the order they are tested", without the row of 3, 0, which request [7] takes away (docs/changes/07-code-3.md), and with
 -- the row of 255, 2, which request [12] puts in (docs/changes/12-protect.md). Each row says to which calls it applies, when, and with which code.
 -- Every row looks at the state as it came; the first that holds decides, and only the table refuses.
-use Rattle.std.specs.Prelude.{Bool, true, false, cond, not, List, [], ◌∷◌, ℕ, eqb, leb, ltb, get_or, length, Option, None, Some}
+use Rattle.std.specs.Prelude.{Bool, true, false, cond, not, List, [], ◌∷◌, ℕ, eqb, leb, ltb, get_or, length, Option, None, Some, is_some}
 use Rattle.lists.specs.Tests.{◌and◌, ◌or◌}
 use Rattle.lists.specs.Below.{any_below}
 use Rattle.format.specs.Diskette.{Bytes, Geometry, is_long, record_bytes, extents, last_record}
@@ -11,7 +11,7 @@ use Rattle.format.specs.Dates.{bcd}
 use Rattle.format.specs.Consistent.{extent_right_rule, consistent}
 use Rattle.format.specs.Notes.{map_right, find_free}
 use Rattle.format.specs.Fcb.{fcb_bytes, cr_right, random_of_rule}
-use Rattle.format.specs.Found.{is_found, number_of}
+use Rattle.format.specs.Found.{number_of}
 use Rattle.model.specs.declared.Session.{Session}
 use Rattle.model.specs.declared.Code.{Code}
 use Rattle.model.specs.declared.Asked.{Asked}
@@ -43,7 +43,7 @@ module _ (G : Geometry) (l : Lent) where
 
   -- some extent of the name in the FCB at q is there
   unfoldable pub any_named : Bool → ℕ → ℕ → Bool
-  any_named wild user q = is_found (find_named_rule G (rows_of G l) wild user l.fcb q)
+  any_named wild user q = is_some (find_named_rule G (rows_of G l) wild user l.fcb q)
 
   -- the entry of this name, with ex = byte 12 and s2 0: the extent of that number, since byte 12 and every ex are at most 31 here
   unfoldable pub asked_entry : ℕ → Option ℕ
@@ -104,9 +104,9 @@ module _ (G : Geometry) (asked : Asked) (l : Lent) (s : Session) where
       -- 6, 0
       row (33 ∷ 34 ∷ []) (ltb last_record (random_of_rule l.fcb)) Code.BadRecord
       -- 9, 0
-      ∷ row (20 ∷ 21 ∷ 33 ∷ 34 ∷ []) (not (is_found (present_entry G s.user l))) Code.NotCurrent
+      ∷ row (20 ∷ 21 ∷ 33 ∷ 34 ∷ []) (not (is_some (present_entry G s.user l))) Code.NotCurrent
       -- 255, 0
-      ∷ row (16 ∷ []) (not (is_found (present_entry G s.user l))) Code.Failed
+      ∷ row (16 ∷ []) (not (is_some (present_entry G s.user l))) Code.Failed
       ∷ row (36 ∷ []) (not (position_right_rule l.fcb)) Code.Failed
       ∷ row (32 ∷ []) (not (eqb asked.argument 255 or leb asked.argument 15)) Code.Failed
       -- 255, 9
@@ -116,10 +116,10 @@ module _ (G : Geometry) (asked : Asked) (l : Lent) (s : Session) where
       ∷ row (15 ∷ 22 ∷ []) (ltb 31 (ex_of l.fcb)) Code.BadName
       ∷ row (17 ∷ []) (ltb 31 (ex_of l.fcb) and not (eqb (ex_of l.fcb) 63)) Code.BadName
       -- 255, 0: nothing matches; no search on
-      ∷ row (15 ∷ []) (not (is_found (asked_entry G l s.user))) Code.Failed
-      ∷ row (17 ∷ []) (not (is_found (find_hit_rule G (rows_of G l) s.user (pattern_of l.fcb) 0))) Code.SearchOver
+      ∷ row (15 ∷ []) (not (is_some (asked_entry G l s.user))) Code.Failed
+      ∷ row (17 ∷ []) (not (is_some (find_hit_rule G (rows_of G l) s.user (pattern_of l.fcb) 0))) Code.SearchOver
       ∷ row (18 ∷ []) (not (search_on s)) Code.Failed
-      ∷ row (18 ∷ []) (not (is_found (find_hit_rule G (rows_of G l) s.user s.pattern s.place))) Code.SearchOver
+      ∷ row (18 ∷ []) (not (is_some (find_hit_rule G (rows_of G l) s.user s.pattern s.place))) Code.SearchOver
       ∷ row (19 ∷ []) (not (any_named G l true s.user 1)) Code.Failed
       ∷ row (23 ∷ 35 ∷ []) (not (any_named G l false s.user 1)) Code.Failed
       -- 255, 3
@@ -127,20 +127,20 @@ module _ (G : Geometry) (asked : Asked) (l : Lent) (s : Session) where
       ∷ row (23 ∷ []) (any_read_only_rule G l false s.user) Code.ReadOnly
       ∷ row (21 ∷ 34 ∷ []) (read_only_there G asked.number s.user l) Code.ReadOnly
       -- 255, 8
-      ∷ row (22 ∷ []) (is_found (asked_entry G l s.user)) Code.Exists
+      ∷ row (22 ∷ []) (is_some (asked_entry G l s.user)) Code.Exists
       ∷ row (23 ∷ []) (any_named G l false s.user 17) Code.Exists
       -- 255, 0
-      ∷ row (22 ∷ []) (not (is_found (find_empty_rule G (rows_of G l)))) Code.Failed
+      ∷ row (22 ∷ []) (not (is_some (find_empty_rule G (rows_of G l)))) Code.Failed
       -- 4, 0
-      ∷ row (33 ∷ []) (not (is_found (target_entry G asked.number s.user l))) Code.NoExtent
+      ∷ row (33 ∷ []) (not (is_some (target_entry G asked.number s.user l))) Code.NoExtent
       -- 1, 0
       ∷ row (20 ∷ 33 ∷ []) (not (record_there G asked.number s.user l)) Code.NoRecord
       -- 1, 0 (21) or 5, 0 (34)
       ∷ row (21 ∷ []) (leb extents (target_extent asked.number l.fcb)) Code.NoRecord
-      ∷ row (21 ∷ []) (not (is_found (target_entry G asked.number s.user l)) and not (is_found (find_empty_rule G (rows_of G l)))) Code.NoRecord
-      ∷ row (34 ∷ []) (not (is_found (target_entry G asked.number s.user l)) and not (is_found (find_empty_rule G (rows_of G l)))) Code.NoEntry
+      ∷ row (21 ∷ []) (not (is_some (target_entry G asked.number s.user l)) and not (is_some (find_empty_rule G (rows_of G l)))) Code.NoRecord
+      ∷ row (34 ∷ []) (not (is_some (target_entry G asked.number s.user l)) and not (is_some (find_empty_rule G (rows_of G l)))) Code.NoEntry
       -- 2, 0
-      ∷ row (21 ∷ 34 ∷ []) (eqb (block_there G asked.number s.user l) 0 and not (is_found (find_free G l.drive.map))) Code.DiskFull
+      ∷ row (21 ∷ 34 ∷ []) (eqb (block_there G asked.number s.user l) 0 and not (is_some (find_free G l.drive.map))) Code.DiskFull
       ∷ []
 
   -- those of this call

@@ -6,6 +6,8 @@ ghost use Rattle.format.specs.Diskette.{eight_inch, slot_count};
 ghost use Rattle.format.specs.Notes.{free_note, note_at_rule, pending_for, with_note, find_free, free_count_rule};
 ghost use Rattle.notes.specs.Holder.{holder_of};
 
+use format::Found;
+
 // The numbers of notes. From PENDING on, each entry has PLACES of them, one for each of its slots.
 pub const FREE: u16 = 0;
 
@@ -27,7 +29,7 @@ pub fn pending_note(e: usize, j: usize) -> u16
 }
 
 // The entry for which a note is pending.
-pub fn holder(n: u16) -> Option<usize>
+pub fn holder(n: u16) -> Found
     ensures { result ≡ holder_of eight_inch n }
 {
     let e = usize::from(n).checked_sub(PENDING)? / PLACES;
@@ -51,7 +53,7 @@ pub fn set_note(map: &mut [u16], b: usize, n: u16)
 }
 
 // The first free block: the lowest, so that what was freed is handed out again.
-pub fn first_free(map: &[u16]) -> Option<usize>
+pub fn first_free(map: &[u16]) -> Found
     requires { length map.now ≡ eight_inch.blocks }
     ensures { result ≡ find_free eight_inch map.now }
 {

@@ -1,6 +1,6 @@
 -- Theorem 2: "again" is told exactly where no earlier trouble is and a log record has the year and day; after "picked and logged" the log has one record
 -- more, which has them, and all that it had. Theorem 3: a second run answers again, with the same word, and harms nothing.
-use Rattle.std.specs.Prelude.{◌≡◌, ◌⊎◌, Bool, ℕ, ◌*◌, ◌≤◌, ◌<◌, eqb, ltb, length}
+use Rattle.std.specs.Prelude.{◌≡◌, ◌⊎◌, Bool, ℕ, ◌*◌, ◌≤◌, ◌<◌, eqb, ltb, length, is_some}
 use Rattle.std.proofs.Math.Path.{refl, ap, subst}
 use Rattle.std.proofs.Common.{sym, ◌∙◌, arith}
 use Rattle.std.proofs.Math.Bool.{true, false, cond, not}
@@ -11,7 +11,6 @@ use Rattle.lists.specs.Below.{any_some}
 use Rattle.lists.specs.Splice.{length_copies}
 use Rattle.format.specs.Diskette.{Bytes, Geometry, Sound, record_bytes}
 use Rattle.format.specs.Entries.{entry_at}
-use Rattle.format.specs.Found.{is_found}
 use Rattle.facts.specs.Found.{is_found_law}
 use Rattle.facts.specs.Naming.{file_named}
 use Rattle.model.specs.declared.Asked.{Asked}
@@ -71,13 +70,13 @@ module _ {G : Geometry} (S : Sound G) (countable : G.per_block * G.blocks < 1677
       let a2 = past (not (parameters_are G d t)) (Other 255 4) _ refl a1.1 in
       let a3 = past (not (disk_is G d)) (Other 255 1) _ refl a2.1 in
       let a4 = past (not (name_is w.book)) (Other 255 9) _ refl a3.1 in
-      let a5 = past (not (is_found (extent_at G d w.book 0))) NoBook _ refl a4.1 in
+      let a5 = past (not (is_some (extent_at G d w.book 0))) NoBook _ refl a4.1 in
       let a6 = past (not (eqb (length buffer) record_bytes)) (Other 255 4) _ refl a5.1 in
       let a7 = past (not (record_is G d w.book w.day)) NoWord _ refl a6.1 in
       let a8 = past (one_file_rule w) OneFile _ refl a7.1 in
       let a9 = past (not (name_is w.log)) (Other 255 9) _ refl a8.1 in
       let b1 = past (not (has_entry G d w.log)) (beginning G w d) _ (not_beginning G w d) a9.1 in
-      let b2 = past (not (is_found (extent_at G d w.log 0))) NoFirst _ refl b1.1 in
+      let b2 = past (not (is_some (extent_at G d w.log 0))) NoFirst _ refl b1.1 in
       let day : has_day G w d ≡ true = has_day_law G w d b2.1 in
       let word : has_word G t w d buffer ≡ true =
       and_both _ _ (ap not a1.0) (and_both _ _ (not-false _ a2.0) (and_both _ _ (not-false _ a3.0) (and_both _ _ (not-false _ a4.0)

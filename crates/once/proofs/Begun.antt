@@ -1,5 +1,5 @@
 -- The second half of a run, whatever the log.
-use Rattle.std.specs.Prelude.{◌≡◌, Bool}
+use Rattle.std.specs.Prelude.{◌≡◌, Bool, is_some}
 use Rattle.std.proofs.Math.Path.{refl, ap, sym}
 use Rattle.std.proofs.Common.{◌∙◌}
 use Rattle.std.proofs.Math.Bool.{true, false, cond, not}
@@ -10,7 +10,6 @@ use Rattle.lists.specs.Cases.{split, bool_cases}
 use Rattle.lists.specs.Tests.{◌and◌, and_both, and_fails_left, and_fails_right}
 use Rattle.format.specs.Diskette.{Bytes, Geometry, Sound}
 use Rattle.format.specs.Fcb.{random_of_rule}
-use Rattle.format.specs.Found.{is_found}
 use Rattle.model.specs.Kinds.{kind_of}
 use Rattle.model.specs.Lent.{Outcome}
 use Rattle.demands.specs.Runs.{Disk, outcome_of, left, accepts}
@@ -63,7 +62,7 @@ module _ {G : Geometry} (S : Sound G) (countable : G.per_block * G.blocks < 1677
         let some' : has_entry G (left sized) w.log ≡ true = entry_same S (LogAccess G t w d) d (left sized) sane asked_size w.log ∙ some in
         rw (a, size_is_law a)
         (run_before S t timed w nm d (left sized) sane asked_size (extended G t w (left sized) (size_is G (left sized) w.log))
-        (split (bool_cases (is_found (extent_at G (left sized) w.log 0)))
+        (split (bool_cases (is_some (extent_at G (left sized) w.log 0)))
         (λ h. found_run S t timed w nm (left sized) sane_sized name some' h)
         (λ h. missed_run S t timed w nm (left sized) sane_sized name some' h (size_is G (left sized) w.log))))
       where

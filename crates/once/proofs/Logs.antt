@@ -1,12 +1,11 @@
 -- A log that is there: it is opened and searched, and its answer is that of the table.
-use Rattle.std.specs.Prelude.{◌≡◌, Bool, ℕ, Some}
+use Rattle.std.specs.Prelude.{◌≡◌, Bool, ℕ, Some, is_some}
 use Rattle.std.proofs.Math.Path.{refl, ap, sym}
 use Rattle.std.proofs.Common.{◌∙◌}
 use Rattle.std.proofs.Math.Bool.{true, false, cond}
 use Rattle.std.proofs.Math.Dec.{eqb}
 use Rattle.lists.specs.Tests.{◌and◌, and_both, and_fails_right}
 use Rattle.format.specs.Diskette.{Bytes, Geometry, Sound}
-use Rattle.format.specs.Found.{is_found}
 use Rattle.model.specs.Lent.{Outcome, ended}
 use Rattle.demands.specs.Runs.{Disk, outcome_of, left, accepts}
 use Rattle.stored.specs.Closed.{Sane, Restamped}
@@ -37,7 +36,7 @@ module _ {G : Geometry} (S : Sound G) (t : Time) (timed : Timed t) (w : Wanted) 
     restamped : Restamped G (LogAccess G t w d) d m
     restamped = opened_restamped S (call_at t 0) d log blank
 
-    pub found_run : is_found (extent_at G d w.log 0) ≡ true → LogRun G t w d (extended G t w d (size_is G d w.log))
+    pub found_run : is_some (extent_at G d w.log 0) ≡ true → LogRun G t w d (extended G t w d (size_is G d w.log))
     unfolding extended
     found_run h =
         let a : accepts G d (opening t w.log) ≡ true = open_accepts d sane t timed w.log nm.log ∙ and_both _ _ name h in
@@ -54,11 +53,11 @@ module _ {G : Geometry} (S : Sound G) (t : Time) (timed : Timed t) (w : Wanted) 
         over : accepts G d (opening t w.log) ≡ true → m.session ≡ ended m.session
         over a = let q = opened_ended S d (opening t w.log) refl a in q ∙ ap ended (sym q)
 
-    pub missed_run : is_found (extent_at G d w.log 0) ≡ false → (n : ℕ) → LogRun G t w d (extended G t w d n)
+    pub missed_run : is_some (extent_at G d w.log 0) ≡ false → (n : ℕ) → LogRun G t w d (extended G t w d n)
     unfolding extended is_code log_answer ◌and◌
     missed_run h n =
         let a : accepts G d (opening t w.log) ≡ false =
-        open_accepts d sane t timed w.log nm.log ∙ and_fails_right (name_is w.log) (is_found (extent_at G d w.log 0)) h in
+        open_accepts d sane t timed w.log nm.log ∙ and_fails_right (name_is w.log) (is_some (extent_at G d w.log 0)) h in
         let p : cond (eqb o.answer.a 255 and eqb o.answer.h 0) NoFirst (Other o.answer.a o.answer.h) ≡ NoFirst =
         ap (λ (b : Bool). cond b Logged (cond (eqb o.answer.a 255 and eqb o.answer.h 0) NoFirst (Other o.answer.a o.answer.h))) (sym a)
         ∙ open_by d sane t timed w.log nm.log Logged (λ x y. cond (eqb x 255 and eqb y 0) NoFirst (Other x y)) ∙ rw (name, h) in

@@ -1,6 +1,6 @@
 -- A whole run of the picker, on any disk and with any bytes lent: its answer is the table's; the word is the day's record of the book, or stays as it
 -- was lent; and the disk is the same but for access stamps of book and log, or has the log grown.
-use Rattle.std.specs.Prelude.{◌≡◌, Bool, not, ℕ, ◌*◌, ◌≤◌, ◌<◌, eqb, ltb, length}
+use Rattle.std.specs.Prelude.{◌≡◌, Bool, not, ℕ, ◌*◌, ◌≤◌, ◌<◌, eqb, ltb, length, is_some}
 use Rattle.std.proofs.Math.Path.{refl, ap, sym}
 use Rattle.std.proofs.Common.{◌∙◌, inl, inr, arith}
 use Rattle.std.proofs.Math.Bool.{true, false, cond}
@@ -8,7 +8,6 @@ use borrow.Author.Tests.{eqb-true, eqb-false, ltb-false}
 use Rattle.lists.specs.Cases.{split, bool_cases, refute}
 use Rattle.lists.specs.Tests.{◌and◌, ◌or◌, and_both, and_fails_left, and_fails_right}
 use Rattle.format.specs.Diskette.{Bytes, Geometry, Sound, record_bytes}
-use Rattle.format.specs.Found.{is_found}
 use Rattle.model.specs.Kinds.{kind_of, is_call}
 use Rattle.model.specs.Lent.{Outcome}
 use Rattle.model.specs.Stamps.{Stamp}
@@ -56,7 +55,7 @@ module _ {G : Geometry} (S : Sound G) (countable : G.per_block * G.blocks < 1677
 
   -- ---- the book was opened
   module _ (day : ltb last_day w.day ≡ false) (params : parameters_are G d t ≡ true) (disk : disk_is G d ≡ true) (name : name_is w.book ≡ true)
-      (found : is_found (extent_at G d w.book 0) ≡ true) where
+      (found : is_some (extent_at G d w.book 0) ≡ true) where
     sane : Sane G d
     sane = sane_of G d t params disk
 
@@ -143,7 +142,7 @@ module _ {G : Geometry} (S : Sound G) (countable : G.per_block * G.blocks < 1677
           let is : told u.answer.a u.answer.h ≡ NoWord =
           ap (λ (b : Bool). cond b Logged (told u.answer.a u.answer.h)) (sym a)
           ∙ read_by Logged told S m f op.at.entry k t timed w.day (let x = low in omega arith) buffer hb
-          ∙ either (is_found (extent_entry G (seen_on G m) m.session.user f w.day)) (is_stored G (seen_on G m) m.session.user f w.day) (stored_is ∙ none) in
+          ∙ either (is_some (extent_entry G (seen_on G m) m.session.user f w.day)) (is_stored G (seen_on G m) m.session.user f w.day) (stored_is ∙ none) in
           refused_run a (word_is ∙ and_fails_right (eqb (length buffer) record_bytes) (record_is G d w.book w.day) none) NoWord is refl (rw (long, none))
         where
           either : (x y : Bool) → y ≡ false → cond (not x) NoWord (cond (not y) NoWord Logged) ≡ NoWord
@@ -219,13 +218,13 @@ module _ {G : Geometry} (S : Sound G) (countable : G.per_block * G.blocks < 1677
   opening_is : {A : Type 0} (went : A) (not_so : ℕ → ℕ → A) → accepts G d (opening t w.book) ≡ false
       → not_so o.answer.a o.answer.h
       ≡ cond (not (parameters_are G d t)) (not_so 255 4) (cond (not (disk_is G d)) (not_so 255 1)
-      (cond (not (name_is w.book)) (not_so 255 9) (cond (not (is_found (extent_at G d w.book 0))) (not_so 255 0) went)))
+      (cond (not (name_is w.book)) (not_so 255 9) (cond (not (is_some (extent_at G d w.book 0))) (not_so 255 0) went)))
   opening_is went not_so a =
       ap (λ (b : Bool). cond b went (not_so o.answer.a o.answer.h)) (sym a) ∙ open_any G d t w.book nm.book went not_so
 
   accepts_is_all : accepts G d (opening t w.book)
       ≡ cond (not (parameters_are G d t)) false (cond (not (disk_is G d)) false
-      (cond (not (name_is w.book)) false (cond (not (is_found (extent_at G d w.book 0))) false true)))
+      (cond (not (name_is w.book)) false (cond (not (is_some (extent_at G d w.book 0))) false true)))
   accepts_is_all = as_test (accepts G d (opening t w.book)) ∙ open_any G d t w.book nm.book true (λ x y. false)
 
   module _ (day : ltb last_day w.day ≡ false) where
@@ -247,14 +246,14 @@ module _ {G : Geometry} (S : Sound G) (countable : G.per_block * G.blocks < 1677
         let a : accepts G d (opening t w.book) ≡ false = accepts_is_all ∙ rw (p, q, x) in
         closed_run day a (rw (day, p, q, x)) (Other 255 9) (opening_is Logged told_open a ∙ rw (p, q, x)) refl (rw (day, p, q, x))
 
-    book_run_law : parameters_are G d t ≡ true → disk_is G d ≡ true → name_is w.book ≡ true → is_found (extent_at G d w.book 0) ≡ false
+    book_run_law : parameters_are G d t ≡ true → disk_is G d ≡ true → name_is w.book ≡ true → is_some (extent_at G d w.book 0) ≡ false
         → PickRun G t w d buffer (picked G t w d buffer)
     unfolding has_word answer book_answer ◌and◌
     book_run_law p q n x =
         let a : accepts G d (opening t w.book) ≡ false = accepts_is_all ∙ rw (p, q, n, x) in
         closed_run day a (rw (day, p, q, n, x)) NoBook (opening_is Logged told_open a ∙ rw (p, q, n, x)) refl (rw (day, p, q, n, x))
 
-    open_run : parameters_are G d t ≡ true → disk_is G d ≡ true → name_is w.book ≡ true → is_found (extent_at G d w.book 0) ≡ true
+    open_run : parameters_are G d t ≡ true → disk_is G d ≡ true → name_is w.book ≡ true → is_some (extent_at G d w.book 0) ≡ true
         → PickRun G t w d buffer (picked G t w d buffer)
     unfolding picked looked
     open_run p q n x = rw (day, accepts_book day p q n x) (fetched_run day p q n x)
@@ -264,7 +263,7 @@ module _ {G : Geometry} (S : Sound G) (countable : G.per_block * G.blocks < 1677
         split (bool_cases (parameters_are G d t))
         (λ p. split (bool_cases (disk_is G d))
         (λ q. split (bool_cases (name_is w.book))
-        (λ n. split (bool_cases (is_found (extent_at G d w.book 0))) (λ x. open_run p q n x) (λ x. book_run_law p q n x))
+        (λ n. split (bool_cases (is_some (extent_at G d w.book 0))) (λ x. open_run p q n x) (λ x. book_run_law p q n x))
         (λ n. name_run p q n))
         (λ q. disk_run p q))
         (λ p. params_run p)

@@ -1,6 +1,6 @@
 -- Theorem 2: "again" is told exactly where no earlier trouble is and a log record has the year and day; after "picked and logged" the log has one record
 -- more, which has them, and all that it had. Theorem 3: a second run answers again, with the same word, and harms nothing.
-use Rattle.std.specs.Prelude.{◌≡◌, Bool, ℕ, ◌+◌, ◌%◌, ◌≤◌, ◌<◌, eqb, leb, length, None}
+use Rattle.std.specs.Prelude.{◌≡◌, Bool, ℕ, ◌+◌, ◌%◌, ◌≤◌, ◌<◌, eqb, leb, length, None, is_some}
 use Rattle.std.proofs.Math.Path.{refl, ap, subst}
 use Rattle.std.proofs.Common.{sym, ◌∙◌, arith}
 use Rattle.std.proofs.Math.Bool.{true, false, cond, not}
@@ -11,7 +11,6 @@ use Rattle.lists.specs.Below.{any_at}
 use Rattle.format.specs.Diskette.{Bytes, Geometry, Sound, record_bytes}
 use Rattle.format.specs.Entries.{entry_at, named, find_named_rule}
 use Rattle.format.specs.Fcb.{random_of_rule}
-use Rattle.format.specs.Found.{is_found}
 use Rattle.facts.specs.Found.{found_cases, none_says}
 use Rattle.facts.specs.Names.{like_at, like_intro}
 use Rattle.facts.specs.Naming.{named_like, file_named}
@@ -64,7 +63,7 @@ module _ (G : Geometry) (w : Wanted) (d : Disk) where
   not_growing =
       cond_either (λ (p : Pick). is_again p ≡ false) (leb full_log (size_is G d w.log)) (λ y. refl)
       (λ y. cond_either (λ (p : Pick). is_again p ≡ false) (log_locked G w d) (λ z. refl)
-      (λ z. cond_either (λ (p : Pick). is_again p ≡ false) (not (is_found (next_entry G w d)) and not (some_empty G d)) (λ u. refl)
+      (λ z. cond_either (λ (p : Pick). is_again p ≡ false) (not (is_some (next_entry G w d)) and not (some_empty G d)) (λ u. refl)
       (λ u. cond_either (λ (p : Pick). is_again p ≡ false) (no_block G w d and not (some_free G d)) (λ v. refl) (λ v. refl))))
 
 -- ---- a disk whose book has the word and whose log has the year and day
@@ -85,7 +84,7 @@ module _ {G : Geometry} (w : Wanted) (d : Disk) (word : Bytes) (x : Done G w d w
   some_entry : has_entry G d w.log ≡ true
   unfolding has_entry find_named_rule
   some_entry =
-      found_cases (find_named_rule G (entry_at G d.drive.image) false d.session.user (fcb_of_rule w.log) 1) (λ k q. ap is_found q)
+      found_cases (find_named_rule G (entry_at G d.drive.image) false d.session.user (fcb_of_rule w.log) 1) (λ k q. ap is_some q)
       (λ q. not_both _ (file_named G d.session.user (fcb_of_rule w.log) 1 0 (entry_at G d.drive.image x.log.entry) x.log.file) (none_named q))
     where
       none_named : find_named_rule G (entry_at G d.drive.image) false d.session.user (fcb_of_rule w.log) 1 ≡ None

@@ -1,5 +1,5 @@
 -- A log that is missing: the look at the space, the make, and the first record.
-use Rattle.std.specs.Prelude.{◌≡◌, Bool, Option}
+use Rattle.std.specs.Prelude.{◌≡◌, Bool, Option, is_some}
 use Rattle.std.proofs.Math.Path.{refl, ap, sym, subst}
 use Rattle.std.proofs.Common.{◌∙◌, eqb-true}
 use Rattle.std.proofs.Math.Bool.{true, false, cond, not}
@@ -13,7 +13,6 @@ use Rattle.format.specs.Diskette.{Bytes, Geometry, Sound}
 use Rattle.format.specs.Entries.{entry_at, named, is_file_rule, end_of, find_named_rule}
 use Rattle.format.specs.Dates.{is_dates}
 use Rattle.format.specs.Notes.{find_free}
-use Rattle.format.specs.Found.{is_found}
 use Rattle.facts.specs.Found.{FoundAt, is_found_law, none_says, found_cases}
 use Rattle.facts.specs.Find.{file_says}
 use Rattle.facts.specs.Naming.{file_named}
@@ -66,17 +65,17 @@ module _ {G : Geometry} (S : Sound G) (countable : G.per_block * G.blocks < 1677
     unfolding has_entry find_named_rule
     none e low =
         found_cases (find_named_rule G (entry_at G d.drive.image) false user log 1)
-        (λ k q. not_both _ (ap is_found q) missing)
+        (λ k q. not_both _ (ap is_some q) missing)
         (λ q. none_says (λ (k : ℕ). named false user log 1 (entry_at G d.drive.image k)) 0 G.entries q e (omega arith) low)
 
     -- nor, then, is there an extent 0
-    no_extent : is_found (extent_at G d w.log 0) ≡ false
+    no_extent : is_some (extent_at G d w.log 0) ≡ false
     unfolding extent_at
     no_extent =
         found_cases (extent_at G d w.log 0)
         (λ e q. let k = file_says G (entry_at G d.drive.image) user log 1 0 e q in
         not_both _ (file_named G user log 1 0 (entry_at G d.drive.image e) k.holds) (none e k.below))
-        (λ q. ap is_found q)
+        (λ q. ap is_some q)
 
     -- a file without entries has the size 0
     size_before : size_is G d w.log ≡ 0
@@ -217,8 +216,8 @@ module _ {G : Geometry} (S : Sound G) (countable : G.per_block * G.blocks < 1677
     unfolding space_in_rule
     space_is =
         split (bool_cases (eqb (space_in_rule look.lent.buffer) 0))
-        (λ z. z ∙ sym (ap (λ (x : Option ℕ). not (is_found x)) (space_none G d (spacing t w.log) refl told_space S countable (eqb-true _ _ z))))
-        (λ z. z ∙ sym (ap (λ (x : Option ℕ). not (is_found x)) (space_free G d (spacing t w.log) refl told_space (eqb-false _ _ z)).is))
+        (λ z. z ∙ sym (ap (λ (x : Option ℕ). not (is_some x)) (space_none G d (spacing t w.log) refl told_space S countable (eqb-true _ _ z))))
+        (λ z. z ∙ sym (ap (λ (x : Option ℕ). not (is_some x)) (space_free G d (spacing t w.log) refl told_space (eqb-false _ _ z)).is))
 
   pub begun_run : (d : Disk) → Sane G d → name_is w.log ≡ true → has_entry G d w.log ≡ false → LogRun G t w d (begun G t w d)
   unfolding begun beginning

@@ -1,5 +1,5 @@
 -- The picker's calls that look for a name, 15, 35, 46 and 22: what they answer on a disk that is right, in words of the directory.
-use Rattle.std.specs.Prelude.{◌≡◌, Bool, false, cond, not, ℕ, ◌≤◌, ltb, length, get_or}
+use Rattle.std.specs.Prelude.{◌≡◌, Bool, false, cond, not, ℕ, ◌≤◌, ltb, length, get_or, is_some}
 use Rattle.std.proofs.Math.Path.{refl, ap}
 use Rattle.std.proofs.Common.{◌∙◌}
 use Rattle.std.proofs.Math.Bool.{true}
@@ -8,7 +8,6 @@ use Rattle.format.specs.Diskette.{Bytes, Geometry, record_bytes}
 use Rattle.format.specs.Names.{name_bytes}
 use Rattle.format.specs.Entries.{entry_at, ex_of, find_file_rule}
 use Rattle.format.specs.Dates.{bcd}
-use Rattle.format.specs.Found.{is_found}
 use Rattle.model.specs.Kinds.{kind_of, is_call}
 use Rattle.model.specs.Lent.{protected}
 use Rattle.model.specs.Table.{time_right_rule, any_named, asked_entry}
@@ -59,7 +58,7 @@ module _ {G : Geometry} (d : Disk) (sane : Sane G d) (t : Time) (timed : Timed t
     module _ {A : Type 0} (went : A) (not_so : ℕ → ℕ → A) where
       -- 15
       pub open_by : answered went not_so G d (opening t name)
-          ≡ cond (not (name_is name)) (not_so 255 9) (cond (not (is_found (extent_at G d name 0))) (not_so 255 0) went)
+          ≡ cond (not (name_is name)) (not_so 255 9) (cond (not (is_some (extent_at G d name 0))) (not_so 255 0) went)
       unfolding is_call kind_of
       open_by =
           answered_own went not_so G d (opening t name) refl (ready_name 15) (other_spared G _ _ _ refl)
@@ -79,16 +78,16 @@ module _ {G : Geometry} (d : Disk) (sane : Sane G d) (t : Time) (timed : Timed t
       -- 22, on a session that is not protected
       pub make_by : protected d.session ≡ false → answered went not_so G d (making t name)
           ≡ cond (not (name_is name)) (not_so 255 9)
-          (cond (is_found (extent_at G d name 0)) (not_so 255 8) (cond (not (some_empty G d)) (not_so 255 0) went))
+          (cond (is_some (extent_at G d name 0)) (not_so 255 8) (cond (not (some_empty G d)) (not_so 255 0) went))
       unfolding is_call kind_of
       make_by p =
           answered_own went not_so G d (making t name) refl (ready_name 22) (lifted_spared G _ _ _ p)
           ∙ rw (first_row_law, asked_first 22)
 
     -- ---- so they are accepted
-    pub open_accepts : accepts G d (opening t name) ≡ (name_is name and is_found (extent_at G d name 0))
+    pub open_accepts : accepts G d (opening t name) ≡ (name_is name and is_some (extent_at G d name 0))
     unfolding ◌and◌
-    open_accepts = as_test (accepts G d (opening t name)) ∙ open_by true (λ a h. false) ∙ both (name_is name) (is_found (extent_at G d name 0))
+    open_accepts = as_test (accepts G d (opening t name)) ∙ open_by true (λ a h. false) ∙ both (name_is name) (is_some (extent_at G d name 0))
 
     pub size_accepts : accepts G d (sizing t name) ≡ (name_is name and has_entry G d name)
     unfolding ◌and◌

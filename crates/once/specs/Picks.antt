@@ -1,10 +1,9 @@
 -- What is said of a whole run of the picker: its answer is the table's; the word is the day's record of the book, or stays as it was lent; and the disk
 -- is the same but for access stamps of book and log, or has the log grown.
-use Rattle.std.specs.Prelude.{◌≡◌, ◌⊎◌, Bool, not, eqb, ltb, length}
+use Rattle.std.specs.Prelude.{◌≡◌, ◌⊎◌, Bool, not, eqb, ltb, length, is_some}
 use Rattle.std.proofs.Math.Bool.{true, false, cond}
 use Rattle.lists.specs.Tests.{◌and◌}
 use Rattle.format.specs.Diskette.{Bytes, Geometry, record_bytes}
-use Rattle.format.specs.Found.{is_found}
 use Rattle.model.specs.Stamps.{Stamp}
 use Rattle.demands.specs.Runs.{Disk}
 use Rattle.stored.specs.Closed.{Sane, Access, Restamped}
@@ -20,7 +19,7 @@ use Rattle.once.specs.Table.{parameters_are, disk_is, name_is, extent_at, record
 -- the day is one of a year, all is right, and the book has the day's record: the word can be read
 unfoldable pub has_word : Geometry → Time → Wanted → Disk → Bytes → Bool
 has_word G t w d buffer =
-    not (ltb last_day w.day) and parameters_are G d t and disk_is G d and name_is w.book and is_found (extent_at G d w.book 0)
+    not (ltb last_day w.day) and parameters_are G d t and disk_is G d and name_is w.book and is_some (extent_at G d w.book 0)
     and eqb (length buffer) record_bytes and record_is G d w.book w.day
 
 -- the stamps that may be put: access stamps of the book and of the log, of the time that is asked with

@@ -1,12 +1,11 @@
 -- The picker's record calls, 33 and 34 through an FCB that has nothing to close: what they answer, in words of the directory.
-use Rattle.std.specs.Prelude.{◌≡◌, false, cond, not, ℕ, ◌≤◌, ◌<◌, eqb, ltb, length, Some}
+use Rattle.std.specs.Prelude.{◌≡◌, false, cond, not, ℕ, ◌≤◌, ◌<◌, eqb, ltb, length, Some, is_some}
 use Rattle.std.proofs.Math.Path.{refl}
 use Rattle.std.proofs.Common.{◌∙◌, arith, le-ltb}
 use Rattle.lists.specs.Tests.{◌and◌, ◌or◌}
 use Rattle.format.specs.Diskette.{Bytes, Geometry, Sound, record_bytes, last_record}
 use Rattle.format.specs.Entries.{entry_at}
 use Rattle.format.specs.Fcb.{random_of_rule}
-use Rattle.format.specs.Found.{is_found}
 use Rattle.model.specs.Kinds.{kind_of, is_call, is_random_rule}
 use Rattle.model.specs.Lent.{protected}
 use Rattle.model.specs.Table.{time_right_rule}
@@ -34,7 +33,7 @@ module _ {A : Type 0} (went : A) (not_so : ℕ → ℕ → A) {G : Geometry} (S 
 
   -- 33
   pub read_by : answered went not_so G d (reading t f r buffer)
-      ≡ cond (not (is_found (extent_entry G (seen_on G d) d.session.user f r))) (not_so 4 0)
+      ≡ cond (not (is_some (extent_entry G (seen_on G d) d.session.user f r))) (not_so 4 0)
       (cond (not (is_stored G (seen_on G d) d.session.user f r)) (not_so 1 0) went)
   unfolding is_call kind_of is_random_rule time_right_rule
   read_by =
@@ -52,7 +51,7 @@ module _ {A : Type 0} (went : A) (not_so : ℕ → ℕ → A) {G : Geometry} (S 
   pub write_by : protected d.session ≡ false → answered went not_so G d (asking t 34 (at_record_rule f r) buffer)
       ≡ cond (read_only_in (entry_at G d.drive.image) (Some e)
       or read_only_in (entry_at G d.drive.image) (extent_entry G (seen_on G d) d.session.user f r)) (not_so 255 3)
-      (cond (not (is_found (extent_entry G (seen_on G d) d.session.user f r)) and not (some_empty G d)) (not_so 5 0)
+      (cond (not (is_some (extent_entry G (seen_on G d) d.session.user f r)) and not (some_empty G d)) (not_so 5 0)
       (cond (eqb (block_in G (entry_at G d.drive.image) r (extent_entry G (seen_on G d) d.session.user f r)) 0 and not (some_free G d)) (not_so 2 0) went))
   unfolding is_call kind_of is_random_rule time_right_rule
   write_by p =

@@ -1,5 +1,5 @@
 -- A disk, a session and a time that are right, as tests and as facts; and the open of a name on any disk at all.
-use Rattle.std.specs.Prelude.{◌≡◌, true, cond, not, ℕ, length}
+use Rattle.std.specs.Prelude.{◌≡◌, true, cond, not, ℕ, length, is_some}
 use Rattle.std.proofs.Math.Path.{refl}
 use Rattle.std.proofs.Common.{◌∙◌, arith}
 use borrow.Author.Tests.{eqb-true, eq-eqb, leb-true, le-leb}
@@ -7,7 +7,6 @@ use Rattle.lists.specs.Cases.{split, bool_cases, bool_ext}
 use Rattle.lists.specs.Tests.{and_left, and_right, and_both}
 use Rattle.format.specs.Diskette.{Bytes, Geometry}
 use Rattle.format.specs.Names.{name_bytes}
-use Rattle.format.specs.Found.{is_found}
 use Rattle.facts.specs.Long.{long_says, long_is}
 use Rattle.model.specs.Kinds.{kind_of, is_call}
 use Rattle.model.specs.Table.{time_right_rule, parameters_right_rule, disk_right_rule}
@@ -80,7 +79,7 @@ module _ (G : Geometry) (d : Disk) (t : Time) where
       pub open_any : answered went not_so G d (opening t name)
           ≡ cond (not (parameters_are G d t)) (not_so 255 4)
           (cond (not (disk_is G d)) (not_so 255 1)
-          (cond (not (name_is name)) (not_so 255 9) (cond (not (is_found (extent_at G d name 0))) (not_so 255 0) went)))
+          (cond (not (name_is name)) (not_so 255 9) (cond (not (is_some (extent_at G d name 0))) (not_so 255 0) went)))
       unfolding is_call kind_of
       open_any =
           split (bool_cases (parameters_are G d t))

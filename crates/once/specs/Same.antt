@@ -1,5 +1,5 @@
 -- Stamps change no row of the table of answers: a disk that differs in stamps alone has the same log and the same book.
-use Rattle.std.specs.Prelude.{◌≡◌, refl, true, false, ℕ, ◌/◌, ◌≤◌, None, Option, Some}
+use Rattle.std.specs.Prelude.{◌≡◌, refl, true, false, ℕ, ◌/◌, ◌≤◌, None, Option, Some, is_some}
 use Rattle.std.proofs.Math.Path.{ap}
 use Rattle.std.proofs.Common.{sym, ◌∙◌, subst}
 use Rattle.lists.specs.Cases.{bool_ext}
@@ -8,7 +8,6 @@ use Rattle.lists.specs.Below.{any_below, any_cong}
 use Rattle.format.specs.Diskette.{Bytes, Geometry, Sound, extent_records}
 use Rattle.format.specs.Entries.{entry_at}
 use Rattle.format.specs.Notes.{find_free}
-use Rattle.format.specs.Found.{is_found}
 use Rattle.facts.specs.Find.{file_says}
 use Rattle.consistency.specs.Naming.{file_used}
 use Rattle.model.specs.Stamps.{Stamp}
@@ -32,15 +31,15 @@ module _ {G : Geometry} (S : Sound G) (P : Stamp → Type 0) (d t : Disk) (sane 
   hu = sane.range.user
 
   pub empty_same : some_empty G t ≡ some_empty G d
-  empty_same = ap is_found (find_empty_restamped S P d t sane w)
+  empty_same = ap is_some (find_empty_restamped S P d t sane w)
 
   pub free_same : some_free G t ≡ some_free G d
-  free_same = ap (λ (m : Bytes). is_found (find_free G m)) w.map
+  free_same = ap (λ (m : Bytes). is_some (find_free G m)) w.map
 
   module _ (name : Bytes) where
     pub entry_same : has_entry G t name ≡ has_entry G d name
     unfolding has_entry
-    entry_same = rw w.user (ap is_found (find_named_restamped S P d t sane w user hu (fcb_of_rule name) false))
+    entry_same = rw w.user (ap is_some (find_named_restamped S P d t sane w user hu (fcb_of_rule name) false))
 
     pub extent_same : (ext : ℕ) → extent_at G t name ext ≡ extent_at G d name ext
     unfolding extent_at

@@ -1,6 +1,6 @@
 -- The picker's answers as a table, in words of the directory and the map: the first row that holds decides. Nothing here speaks of calls, but for the
 -- codes of the refusals that have no name of their own: 255, 4 for a length, the session or the time, 255, 1 for a damaged disk, 255, 9 for a bad name.
-use Rattle.std.specs.Prelude.{Bool, false, cond, not, ℕ, ◌/◌, eqb, leb, ltb, length, Option}
+use Rattle.std.specs.Prelude.{Bool, false, cond, not, ℕ, ◌/◌, eqb, leb, ltb, length, Option, is_some}
 use Rattle.lists.specs.Tests.{◌and◌, ◌or◌}
 use Rattle.lists.specs.Below.{any_below}
 use Rattle.format.specs.Diskette.{Bytes, Geometry, is_long, record_bytes, extent_records}
@@ -9,7 +9,6 @@ use Rattle.format.specs.Entries.{entry_at, named, find_file_rule, find_named_rul
 use Rattle.format.specs.Dates.{bcd}
 use Rattle.format.specs.Consistent.{consistent}
 use Rattle.format.specs.Notes.{map_right, find_free}
-use Rattle.format.specs.Found.{is_found}
 use Rattle.model.specs.Target.{read_only_in}
 use Rattle.model.specs.Calls.{file_size_rule}
 use Rattle.demands.specs.Runs.{Disk}
@@ -38,7 +37,7 @@ module _ (G : Geometry) (d : Disk) where
 
   -- ---- a file of the session's user: it has an entry at all; the entry of one of its extents; its size; a record of it is there, and its bytes
   unfoldable pub has_entry : Bytes → Bool
-  has_entry name = is_found (find_named_rule G (entry_at G d.drive.image) false d.session.user (fcb_of_rule name) 1)
+  has_entry name = is_some (find_named_rule G (entry_at G d.drive.image) false d.session.user (fcb_of_rule name) 1)
 
   unfoldable pub extent_at : Bytes → ℕ → Option ℕ
   extent_at name ext = find_file_rule G (entry_at G d.drive.image) d.session.user (fcb_of_rule name) 1 ext
@@ -54,10 +53,10 @@ module _ (G : Geometry) (d : Disk) where
 
   -- ---- the disk's room
   abbrev pub some_empty : Bool
-  some_empty = is_found (find_empty_rule G (entry_at G d.drive.image))
+  some_empty = is_some (find_empty_rule G (entry_at G d.drive.image))
 
   abbrev pub some_free : Bool
-  some_free = is_found (find_free G d.drive.map)
+  some_free = is_some (find_free G d.drive.map)
 
 module _ (G : Geometry) (w : Wanted) (d : Disk) where
   -- ---- the log
@@ -81,7 +80,7 @@ module _ (G : Geometry) (w : Wanted) (d : Disk) where
   growing =
       cond (leb full_log (size_is G d w.log)) LogFull
       (cond log_locked LogReadOnly
-      (cond (not (is_found next_entry) and not (some_empty G d)) DirectoryFull
+      (cond (not (is_some next_entry) and not (some_empty G d)) DirectoryFull
       (cond (no_block and not (some_free G d)) DiskFull Logged)))
 
   -- a log that is to be made
@@ -92,7 +91,7 @@ module _ (G : Geometry) (w : Wanted) (d : Disk) where
   log_answer =
       cond (not (name_is w.log)) (Other 255 9)
       (cond (not (has_entry G d w.log)) beginning
-      (cond (not (is_found (extent_at G d w.log 0))) NoFirst
+      (cond (not (is_some (extent_at G d w.log 0))) NoFirst
       (cond has_day Again growing)))
 
   -- ---- the word, and the whole
@@ -106,7 +105,7 @@ module _ (G : Geometry) (w : Wanted) (d : Disk) where
   unfoldable pub book_answer : Bytes → Pick
   book_answer buffer =
       cond (not (name_is w.book)) (Other 255 9)
-      (cond (not (is_found (extent_at G d w.book 0))) NoBook (word_answer buffer))
+      (cond (not (is_some (extent_at G d w.book 0))) NoBook (word_answer buffer))
 
   unfoldable pub answer : Time → Bytes → Pick
   answer t buffer =

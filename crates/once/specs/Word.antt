@@ -1,12 +1,11 @@
 -- What it says that the word can be read.
-use Rattle.std.specs.Prelude.{◌≡◌, ◌≤◌, length}
+use Rattle.std.specs.Prelude.{◌≡◌, ◌≤◌, length, is_some}
 use Rattle.std.proofs.Math.Path.{ap}
 use Rattle.std.proofs.Math.Bool.{true, not}
 use borrow.Author.Tests.{eqb-true, eq-eqb, ltb-false, le-ltb, not-true}
 use Rattle.lists.specs.Tests.{and_left, and_right, and_both}
 use Rattle.format.specs.Diskette.{Bytes, Geometry, record_bytes}
 use Rattle.format.specs.Entries.{entry_at}
-use Rattle.format.specs.Found.{is_found}
 use Rattle.facts.specs.Found.{is_found_law}
 use Rattle.facts.specs.Naming.{file_named}
 use Rattle.consistency.specs.Naming.{file_found}
@@ -30,10 +29,10 @@ module _ (G : Geometry) (d : Disk) (sane : Sane G d) (name : Bytes) (first : Fir
   first_named =
       entry_name G d sane (fcb_of_rule name) first.entry first.low (file_named G d.session.user (fcb_of_rule name) 1 0 (entry_at G d.drive.image first.entry) first.file)
 
-  pub first_found : is_found (extent_at G d name 0) ≡ true
+  pub first_found : is_some (extent_at G d name 0) ≡ true
   unfolding extent_at
   first_found =
-      ap is_found (file_found G (entry_at G d.drive.image) d.session.user sane.range.user (fcb_of_rule name) 1 0 first.entry first.low first.file
+      ap is_some (file_found G (entry_at G d.drive.image) d.session.user sane.range.user (fcb_of_rule name) 1 0 first.entry first.low first.file
       sane.good.inv.dir)
 
 -- ---- what it says that the word can be read

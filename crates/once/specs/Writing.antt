@@ -1,5 +1,5 @@
 -- The log's record written and closed, with the protection lifted for each call: what is answered, and the disk that is left.
-use Rattle.std.specs.Prelude.{◌≡◌, false, cond, not, ℕ, ◌≤◌, eqb, Some}
+use Rattle.std.specs.Prelude.{◌≡◌, false, cond, not, ℕ, ◌≤◌, eqb, Some, is_some}
 use Rattle.std.proofs.Math.Path.{refl, ap}
 use Rattle.std.proofs.Common.{sym, ◌∙◌, subst}
 use Rattle.std.proofs.Math.Bool.{true}
@@ -7,7 +7,6 @@ use Rattle.lists.specs.Cases.{split, bool_cases}
 use Rattle.lists.specs.Tests.{◌and◌, ◌or◌}
 use Rattle.format.specs.Diskette.{Bytes, Geometry, Sound, last_record}
 use Rattle.format.specs.Entries.{entry_at}
-use Rattle.format.specs.Found.{is_found}
 use Rattle.model.specs.Kinds.{kind_of}
 use Rattle.model.specs.Lent.{Outcome, with_lifted}
 use Rattle.model.specs.Stamps.{Stamp}
@@ -142,7 +141,7 @@ module _ {G : Geometry} (S : Sound G) (t : Time) (timed : Timed t) (w : Wanted) 
     pub written_by : (written G t w d f n).pick
         ≡ cond (read_only_in (entry_at G d.drive.image) (Some e)
         or read_only_in (entry_at G d.drive.image) (extent_entry G (seen_on G d) d.session.user f n)) LogReadOnly
-        (cond (not (is_found (extent_entry G (seen_on G d) d.session.user f n)) and not (some_empty G d)) DirectoryFull
+        (cond (not (is_some (extent_entry G (seen_on G d) d.session.user f n)) and not (some_empty G d)) DirectoryFull
         (cond (eqb (block_in G (entry_at G d.drive.image) n (extent_entry G (seen_on G d) d.session.user f n)) 0 and not (some_free G d)) DiskFull Logged))
     unfolding ◌and◌
     written_by =

@@ -59,7 +59,7 @@ pub fn random_record(fcb: &mut [u8], session: Session) -> Answer
         return answers::refuse(Code::Failed, session);
     }
     let n = format::EXTENT_RECORDS * entries::extent(fcb) + usize::from(fcb[32]);
-    entering::put_three(fcb, 33, n);
+    lists::put_three(fcb, 33, n);
     answers::done(0, session)
 }
 
@@ -70,7 +70,7 @@ pub fn free_space(map: &[u16], buffer: &mut [u8], session: Session) -> Answer
         outcome result image map.now fcb buffer.new ≡ quietly (space eight_inch session l) session l }
 {
     let n = format::RECORDS_PER_BLOCK * notes::free_count(map);
-    entering::put_three(buffer, 0, n);
+    lists::put_three(buffer, 0, n);
     answers::done(0, session)
 }
 

@@ -1,5 +1,5 @@
 -- The rulings by what the look-ups have found: one law for each way in which a record call is told what to do.
-use Rattle.std.specs.Prelude.{◌≡◌, refl, List, leb, None, Option, Some, Err, Ok, Result}
+use Rattle.std.specs.Prelude.{◌≡◌, refl, List, leb, None, Option, Some, Err, Ok, Result, is_some}
 use Rattle.std.proofs.Math.Path.{sym, ap}
 use Rattle.std.proofs.Common.{◌∙◌}
 use Rattle.std.proofs.Math.Bool.{Bool, true, false, not, cond}
@@ -12,7 +12,6 @@ use Rattle.format.specs.Diskette.{Bytes, Geometry, extents}
 use Rattle.format.specs.Entries.{Rows, run_of, read_only, find_empty_rule}
 use Rattle.format.specs.Notes.{find_free}
 use Rattle.format.specs.Fcb.{current}
-use Rattle.format.specs.Found.{is_found}
 use Rattle.facts.specs.Found.{found_cases, found_row, missed_row}
 use Rattle.facts.specs.Find.{found_own}
 use Rattle.facts.specs.Counts.{count_there_law, fcb_count_there}
@@ -106,7 +105,7 @@ module _ (G : Geometry) (n user : ℕ) (l : Lent) where
     past e at w q =
         ap (λ (v : Option Code). ruling_of v (plan G n user l))
         (first_passes (when (over_last_rule n (target_extent n l.fcb)) BadRecord) _ in_range
-        ∙ first_passes (when (not (is_found (present_entry G user l))) NotCurrent) _ (found_row _ at)
+        ∙ first_passes (when (not (is_some (present_entry G user l))) NotCurrent) _ (found_row _ at)
         ∙ ap (λ (b : Bool). first_row (cond b (write_rows G n user l) (read_rows G n user l))) q)
 
 -- ---- 20 and 33

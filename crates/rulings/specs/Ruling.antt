@@ -1,12 +1,11 @@
 -- What the state says of a record call that the first three rows of the table have passed: refused with a code, or a plan to follow.
 -- The four calls have one chain of rows, whose end goes by whether the call writes: the number decides only where document 01's table tells
 -- them apart.
-use Rattle.std.specs.Prelude.{◌≡◌, Bool, not, cond, List, [], ◌∷◌, ℕ, ◌<◌, eqb, leb, ltb, None, Option, Some, Err, Ok, Result}
+use Rattle.std.specs.Prelude.{◌≡◌, Bool, not, cond, List, [], ◌∷◌, ℕ, ◌<◌, eqb, leb, ltb, None, Option, Some, Err, Ok, Result, is_some}
 use Rattle.lists.specs.Tests.{◌and◌, ◌or◌}
 use Rattle.format.specs.Diskette.{Bytes, Geometry, extents}
 use Rattle.format.specs.Entries.{Rows, read_only, find_empty_rule}
 use Rattle.format.specs.Notes.{find_free}
-use Rattle.format.specs.Found.{is_found}
 use Rattle.model.specs.declared.Code.{Code}
 use Rattle.model.specs.declared.Code.TheVariants.{BadRecord, NotCurrent, ReadOnly, NoExtent, NoRecord, NoEntry, DiskFull}
 use Rattle.model.specs.declared.Plan.{Plan}
@@ -26,21 +25,21 @@ ruling_of (Some code) p = Err code
 module _ (G : Geometry) (n user : ℕ) (l : Lent) where
   -- the rows of 20 and 33 where the FCB is current
   unfoldable pub read_rows : List Row
-  read_rows = when (not (is_found (target_entry G n user l))) (missing_code n NoExtent) ∷ when (not (record_there G n user l)) NoRecord ∷ []
+  read_rows = when (not (is_some (target_entry G n user l))) (missing_code n NoExtent) ∷ when (not (record_there G n user l)) NoRecord ∷ []
 
   -- those of 21 and 34
   unfoldable pub write_rows : List Row
   write_rows =
       when (read_only_there G n user l) ReadOnly
       ∷ when (leb extents (target_extent n l.fcb)) NoRecord
-      ∷ when (not (is_found (target_entry G n user l)) and not (is_found (find_empty_rule G (rows_of G l)))) (missing_code n NoEntry)
-      ∷ when (eqb (block_there G n user l) 0 and not (is_found (find_free G l.drive.map))) DiskFull
+      ∷ when (not (is_some (target_entry G n user l)) and not (is_some (find_empty_rule G (rows_of G l)))) (missing_code n NoEntry)
+      ∷ when (eqb (block_there G n user l) 0 and not (is_some (find_free G l.drive.map))) DiskFull
       ∷ []
 
   unfoldable pub ruling_rows : List Row
   ruling_rows =
       when (over_last_rule n (target_extent n l.fcb)) BadRecord
-      ∷ when (not (is_found (present_entry G user l))) NotCurrent
+      ∷ when (not (is_some (present_entry G user l))) NotCurrent
       ∷ cond (same (kind_of n) Write) write_rows read_rows
 
   unfoldable pub ruling : Result Plan Code

@@ -10,6 +10,7 @@ ghost use Rattle.chains.specs.Chain.{Findable};
 ghost use Rattle.targets.specs.Target.{TargetOf};
 ghost use Rattle.rulings.specs.Ruling.{read_to_rule, read_from, Among, guarded, block_for_rule, write_new_rule, write_to_rule, write_from, ruling};
 
+use format::Found;
 use model::{Code, Plan};
 use targets::Target;
 
@@ -36,7 +37,7 @@ fn rule_read(
     fcb: &[u8],
     e: usize,
     j: usize,
-    target: Option<usize>,
+    target: Found,
 ) -> Result<Plan, Code>
     requires { Long eight_inch image.now × (length fcb.now ≡ fcb_bytes) × (j < slot_count) × Among eight_inch.entries target }
     ensures { result ≡ read_from eight_inch (entry_at eight_inch image.now) fcb.now number e j at target }
@@ -46,7 +47,7 @@ fn rule_read(
 }
 
 // Whether t1' is set in the FCB's entry or in the target's.
-fn is_guarded(image: &[u8], e: usize, target: Option<usize>) -> bool
+fn is_guarded(image: &[u8], e: usize, target: Found) -> bool
     requires { Long eight_inch image.now × (e < eight_inch.entries) × Among eight_inch.entries target }
     ensures { result ≡ guarded (entry_at eight_inch image.now) e target }
 {
@@ -56,7 +57,7 @@ fn is_guarded(image: &[u8], e: usize, target: Option<usize>) -> bool
 
 // The block for a slot: its own, or the first free one where it has none.
 #[tactic(auto, unfolding(crate::specs::Ruling::block_for_rule))]
-fn block_for(map: &[u16], slot: u8) -> Option<usize>
+fn block_for(map: &[u16], slot: u8) -> Found
     requires { length map.now ≡ eight_inch.blocks }
     ensures { result ≡ block_for_rule eight_inch map.now slot }
 {
@@ -85,7 +86,7 @@ fn write_to(
     code: Code,
     e: usize,
     j: usize,
-    target: Option<usize>,
+    target: Found,
 ) -> Result<Plan, Code>
     requires { Long eight_inch image.now × (length map.now ≡ eight_inch.blocks) × (length fcb.now ≡ fcb_bytes) × (j < slot_count)
         × Among eight_inch.entries target }
@@ -108,7 +109,7 @@ fn rule_write(
     fcb: &[u8],
     e: usize,
     j: usize,
-    target: Option<usize>,
+    target: Found,
 ) -> Result<Plan, Code>
     requires { Long eight_inch image.now × (length map.now ≡ eight_inch.blocks) × (length fcb.now ≡ fcb_bytes) × (e < eight_inch.entries) × (j < slot_count)
         × Among eight_inch.entries target }

@@ -1,5 +1,5 @@
 -- What calls 17 and 18 share: the search from a place on, which is over or finds a match.
-use Rattle.std.specs.Prelude.{◌≡◌, refl, Bool, false, cond, ℕ, ◌+◌, ◌/◌, eqb, leb, ltb, None, Option, Some}
+use Rattle.std.specs.Prelude.{◌≡◌, refl, Bool, false, cond, ℕ, ◌+◌, ◌/◌, eqb, leb, ltb, None, Option, Some, is_some}
 use Rattle.std.proofs.Math.Path.{sym, ap}
 use Rattle.std.proofs.Common.{◌∙◌, ne_eqb, le-ltb, lt-ltb, le-leb}
 use Rattle.std.proofs.Math.Bool.{true, not}
@@ -9,7 +9,7 @@ use Rattle.lists.specs.Tests.{◌and◌, ◌or◌, and_then, and_left, and_right
 use Rattle.format.specs.Diskette.{Bytes, Geometry, record_at, entries_per_record}
 use Rattle.format.specs.Names.{name_right_rule}
 use Rattle.format.specs.Entries.{ex_of}
-use Rattle.format.specs.Found.{number_of, is_found}
+use Rattle.format.specs.Found.{number_of}
 use Rattle.model.specs.declared.Asked.{Asked}
 use Rattle.model.specs.declared.Session.{Session}
 use Rattle.model.specs.declared.Answer.{Answer}
@@ -40,14 +40,14 @@ module _ (G : Geometry) (s : Session) (l : Lent) where
   -- the search from a place on: over where nothing matches
   unfoldable pub searched_from : Bytes → ℕ → Outcome
   searched_from pattern place =
-      cond (is_found (find_hit_rule G (rows_of G l) s.user pattern place)) (searched G s l pattern place) (refused SearchOver s l)
+      cond (is_some (find_hit_rule G (rows_of G l) s.user pattern place)) (searched G s l pattern place) (refused SearchOver s l)
 
-  from_found : (pattern : Bytes) (place : ℕ) → is_found (find_hit_rule G (rows_of G l) s.user pattern place) ≡ true
+  from_found : (pattern : Bytes) (place : ℕ) → is_some (find_hit_rule G (rows_of G l) s.user pattern place) ≡ true
       → searched G s l pattern place ≡ searched_from pattern place
   unfolding searched_from
   from_found pattern place t = rw t
 
-  from_missing : (pattern : Bytes) (place : ℕ) → is_found (find_hit_rule G (rows_of G l) s.user pattern place) ≡ false
+  from_missing : (pattern : Bytes) (place : ℕ) → is_some (find_hit_rule G (rows_of G l) s.user pattern place) ≡ false
       → refused SearchOver s l ≡ searched_from pattern place
   unfolding searched_from
   from_missing pattern place f = rw f
@@ -56,7 +56,7 @@ module _ (G : Geometry) (s : Session) (l : Lent) where
   pub answers_over : (pattern : Bytes) (place : ℕ) (r : Answer) → find_hit_rule G (rows_of G l) s.user pattern place ≡ None
       → r ≡ answer_of SearchOver (ended s) → outcome r l.drive.image l.drive.map l.fcb l.buffer ≡ searched_from pattern place
   answers_over pattern place r q a =
-      ap (λ (x : Answer). outcome x l.drive.image l.drive.map l.fcb l.buffer) a ∙ from_missing pattern place (ap is_found q)
+      ap (λ (x : Answer). outcome x l.drive.image l.drive.map l.fcb l.buffer) a ∙ from_missing pattern place (ap is_some q)
 
   -- the match at e, answered
   pub answers_found : (pattern : Bytes) (place e : ℕ) (r : Answer) (after : Session) (buffer : Bytes)
@@ -65,7 +65,7 @@ module _ (G : Geometry) (s : Session) (l : Lent) where
       → outcome r l.drive.image l.drive.map l.fcb buffer ≡ searched_from pattern place
   unfolding searched found_at
   answers_found pattern place e r after buffer q a n b =
-      rw (a, n, b) (ap (λ (f : Option ℕ). found_at G s l pattern (number_of G.entries f)) (sym q) ∙ from_found pattern place (ap is_found q))
+      rw (a, n, b) (ap (λ (f : Option ℕ). found_at G s l pattern (number_of G.entries f)) (sym q) ∙ from_found pattern place (ap is_some q))
 
   -- ---- 17
   pub first_refused : (asked : Asked) → pattern_right_rule l.fcb ≡ false → Decides BadName (own_rows G (calling 17 asked) l s)
@@ -80,7 +80,7 @@ module _ (G : Geometry) (s : Session) (l : Lent) where
   first_searched asked h =
       let n = ap not (and_left _ _ h) in
       let x = byte_asked (ex_of l.fcb) ∙ ap not (and_right _ _ h) in
-      sym (split (bool_cases (is_found (find_hit_rule G (rows_of G l) s.user (pattern_of l.fcb) 0)))
+      sym (split (bool_cases (is_some (find_hit_rule G (rows_of G l) s.user (pattern_of l.fcb) 0)))
       (λ t. own_carried G (calling 17 asked) l s (n & x & ap not t & tt) ∙ from_found (pattern_of l.fcb) 0 t)
       (λ f. own_refused G (calling 17 asked) l s SearchOver (later n (later x (here (ap not f) refl))) ∙ from_missing (pattern_of l.fcb) 0 f))
 
@@ -92,6 +92,6 @@ module _ (G : Geometry) (s : Session) (l : Lent) where
   unfolding effect kind_of pattern place
   next_searched asked h =
       let o : search_on s ≡ true = rw (ne_eqb s.on 0 h) in
-      sym (split (bool_cases (is_found (find_hit_rule G (rows_of G l) s.user s.pattern s.place)))
+      sym (split (bool_cases (is_some (find_hit_rule G (rows_of G l) s.user s.pattern s.place)))
       (λ t. own_carried G (calling 18 asked) l s (ap not o & ap not t & tt) ∙ from_found s.pattern s.place t)
       (λ f. own_refused G (calling 18 asked) l s SearchOver (later (ap not o) (here (ap not f) refl)) ∙ from_missing s.pattern s.place f))

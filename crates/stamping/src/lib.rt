@@ -20,6 +20,7 @@ ghost use Rattle.stamping.specs.Made.{Dues};
 ghost use Rattle.stamping.specs.Dated.{Dated};
 ghost use Rattle.stamping.specs.Due.{no_due, updated_if};
 
+use format::Found;
 use model::{Asked, Kind, Session};
 use stamps::Due;
 
@@ -50,7 +51,7 @@ impl<'a> Before<'a> {
     }
 
     // The FCB's entry, where it is current.
-    fn current_entry(&self) -> Option<usize>
+    fn current_entry(&self) -> Found
         ensures { result ≡ current eight_inch (entry_at eight_inch self.now.image.now) self.now.map.now self.now.session.user self.now.fcb.now }
     {
         current::current_entry(self.image, self.map, self.chain, self.session.user, self.fcb)
@@ -87,7 +88,7 @@ impl<'a> Before<'a> {
     }
 
     // The entry that a close stamps: e, where the label asks and the close changes it.
-    fn updated(&self, e: usize) -> Option<usize>
+    fn updated(&self, e: usize) -> Found
         requires { e < eight_inch.entries }
         ensures { result ≡ updated_if eight_inch self.now.image.now self.now.fcb.now e }
     {

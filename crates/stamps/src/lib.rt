@@ -9,16 +9,16 @@ ghost use Rattle.facts.specs.Beside.{Beside};
 ghost use Rattle.stamps.specs.Place.{number_of, place_of};
 ghost use Rattle.stamps.specs.Due.{stamps_at, beside_at, blank_at, BesideFound, due_stamps, Puttable, accepted_stamps};
 
-use format::ENTRIES_PER_RECORD;
+use format::{ENTRIES_PER_RECORD, Found};
 use model::{Answer, Asked};
 
 // The stamps that are due, in the order in which they are put: an entry's update gets the time, both stamps of a new entry become zero,
 // and an entry's create or access gets the time.
 #[derive(Clone, Copy)]
 pub struct Due {
-    pub update: Option<usize>,
-    pub new: Option<usize>,
-    pub first: Option<usize>,
+    pub update: Found,
+    pub new: Found,
+    pub first: Found,
 }
 
 impl Due {
@@ -68,7 +68,7 @@ fn time_stamp(asked: Asked) -> [u8; 4]
 }
 
 // A stamp of an entry, where there is one.
-fn put_at(image: &mut [u8], entry: Option<usize>, which: Which, stamp: [u8; 4])
+fn put_at(image: &mut [u8], entry: Found, which: Which, stamp: [u8; 4])
     requires { Long eight_inch image.old × BesideFound eight_inch entry }
     ensures { image.new ≡ stamped_with eight_inch (stamps_at (beside_at which stamp) entry) image.old }
 {
@@ -78,7 +78,7 @@ fn put_at(image: &mut [u8], entry: Option<usize>, which: Which, stamp: [u8; 4])
 }
 
 // Both stamps of a new entry, where there is one, become zero.
-fn put_blank(image: &mut [u8], entry: Option<usize>)
+fn put_blank(image: &mut [u8], entry: Found)
     requires { Long eight_inch image.old × BesideFound eight_inch entry }
     ensures { image.new ≡ stamped_with eight_inch (stamps_at blank_at entry) image.old }
 {

@@ -1,11 +1,10 @@
 -- Call 33 through a fresh FCB: it is accepted exactly where the record is stored, and gives the bytes that are stored.
-use Rattle.std.specs.Prelude.{◌≡◌, true, ℕ, ◌<◌, length}
+use Rattle.std.specs.Prelude.{◌≡◌, true, ℕ, ◌<◌, length, is_some}
 use Rattle.std.proofs.Math.Path.{refl, ap, sym}
 use Rattle.std.proofs.Common.{◌∙◌, subst, arith}
 use Rattle.lists.specs.Cases.{bool_ext}
 use Rattle.format.specs.Diskette.{Bytes, Geometry, Sound, record_bytes, record_at}
 use Rattle.format.specs.Entries.{entry_at}
-use Rattle.format.specs.Found.{is_found}
 use Rattle.facts.specs.Found.{at_once, is_found_law}
 use Rattle.model.specs.declared.Asked.{Asked}
 use Rattle.model.specs.declared.Plan.{Plan}
@@ -87,7 +86,7 @@ module _ {G : Geometry} (S : Sound G) (a : Asked) (d : Disk) (f : Bytes) (e : �
     unfolding is_random_rule
     can_read = record {
       entry = record { place = e; is = met_present S 33 refl d f e k r small buffer };
-      target = is_found_law _ (ap is_found (met_entry S 33 refl d f e k r small buffer) ∙ stored_found G (seen_on G d) user f r there);
+      target = is_found_law _ (ap is_some (met_entry S 33 refl d f e k r small buffer) ∙ stored_found G (seen_on G d) user f r there);
       extent = rw (met_extent S 33 refl d f e k r small buffer) (omega (arith, below));
       there = met_there S 33 refl d f e k r small buffer ∙ there;
     }

@@ -1,5 +1,5 @@
 -- The closed records of a file as tests: whether one is there, and its bytes, by the entry of its extent.
-use Rattle.std.specs.Prelude.{◌≡◌, Bool, true, ℕ, ◌/◌, ◌%◌, ◌≤◌, eqb, ltb, None, Option, Some}
+use Rattle.std.specs.Prelude.{◌≡◌, Bool, true, ℕ, ◌/◌, ◌%◌, ◌≤◌, eqb, ltb, None, Option, Some, is_some}
 use Rattle.std.proofs.Math.Path.{refl, ap}
 use Rattle.std.proofs.Common.{sym, ◌∙◌}
 use Rattle.std.proofs.Math.Bool.{not}
@@ -8,7 +8,6 @@ use Rattle.lists.specs.Cases.{clash}
 use Rattle.lists.specs.Tests.{◌and◌, and_left, and_right, and_both}
 use Rattle.format.specs.Diskette.{Bytes, Geometry, extent_records}
 use Rattle.format.specs.Entries.{Rows, slot_of, slot_for_rule, count_in, is_file_rule, find_file_rule}
-use Rattle.format.specs.Found.{is_found}
 use Rattle.facts.specs.Found.{find_cong}
 use Rattle.facts.specs.Find.{file_says}
 use Rattle.consistency.specs.Facts.{Consistent}
@@ -75,11 +74,11 @@ module _ (G : Geometry) (s : View) (user : ℕ) (f : Bytes) (r : ℕ) where
   stored_by_law None q t = clash (sym (and_right _ _ t))
 
   -- a record that is there has an entry for its extent
-  found_by : (x : Option ℕ) → stored_by G s.rows r x ≡ true → is_found x ≡ true
+  found_by : (x : Option ℕ) → stored_by G s.rows r x ≡ true → is_some x ≡ true
   found_by (Some e) t = refl
   found_by None t = clash (sym (and_right _ _ t))
 
-  pub stored_found : is_stored ≡ true → is_found extent_entry ≡ true
+  pub stored_found : is_stored ≡ true → is_some extent_entry ≡ true
   unfolding is_stored
   stored_found t = found_by extent_entry t
 

@@ -1,5 +1,5 @@
 -- A refusal comes from one row of the table, with a code that the table has for the call.
-use Rattle.std.specs.Prelude.{◌≡◌, Bool, true, false, cond, List, [], ◌∷◌, ◌++◌, ℕ, ◌<◌, eqb, ltb, None, Option, Some}
+use Rattle.std.specs.Prelude.{◌≡◌, Bool, true, false, cond, List, [], ◌∷◌, ◌++◌, ℕ, ◌<◌, eqb, ltb, None, Option, Some, is_some}
 use Rattle.std.proofs.Math.Path.{refl}
 use Rattle.std.proofs.Common.{sym, ap, subst, ◌∙◌, ltb-true, eq-eqb, eqb-true}
 use Rattle.std.proofs.Math.Bool.{not}
@@ -9,7 +9,6 @@ use Rattle.format.specs.Diskette.{Geometry, last_record}
 use Rattle.format.specs.Consistent.{consistent}
 use Rattle.format.specs.Notes.{map_right}
 use Rattle.format.specs.Fcb.{random_of_rule}
-use Rattle.format.specs.Found.{is_found}
 use Rattle.facts.specs.Found.{not_found, missed_row}
 use Rattle.model.specs.declared.Asked.{Asked}
 use Rattle.model.specs.declared.Session.{Session}
@@ -149,7 +148,7 @@ module _ (G : Geometry) (asked : Asked) (l : Lent) (s : Session) where
       & (λ r v. let p = behind (λ (c : Code). (says_of c).over) code h (_ ∷ []) _ refl v in ends18 r (not-false _ p.failed.0) (last_row _ _ p.rest)) & tt)
       d.0 d.1
     where
-      last_row : (r : Option ℕ) (c : Code) → Decides code (when (not (is_found r)) c ∷ []) → r ≡ None
+      last_row : (r : Option ℕ) (c : Code) → Decides code (when (not (is_some r)) c ∷ []) → r ≡ None
       last_row r c v = not_found r (not-true _ (only_row (λ (x : Code). (says_of x).over) code h _ c [] v refl))
 
   pub over_search : (n : ℕ) → SearchEnds G asked l s n → verdict G (calling n asked) l s ≡ Some Code.SearchOver

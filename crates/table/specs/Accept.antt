@@ -1,5 +1,5 @@
 -- What it says of a call that none of its own rows holds: its facts, by its kind; and back: such facts leave no row that holds.
-use Rattle.std.specs.Prelude.{◌≡◌, ◌⊎◌, true, false, ℕ, ◌/◌, ◌≤◌, ◌<◌, eqb, ltb, None}
+use Rattle.std.specs.Prelude.{◌≡◌, ◌⊎◌, true, false, ℕ, ◌/◌, ◌≤◌, ◌<◌, eqb, ltb, None, is_some}
 use Rattle.std.proofs.Math.Path.{refl, ap}
 use Rattle.std.proofs.Common.{sym, subst, ◌∙◌, arith}
 use Rattle.std.proofs.Math.Bool.{not}
@@ -11,7 +11,6 @@ use Rattle.format.specs.Entries.{find_empty_rule}
 use Rattle.format.specs.Consistent.{consistent}
 use Rattle.format.specs.Notes.{find_free}
 use Rattle.format.specs.Fcb.{random_of_rule}
-use Rattle.format.specs.Found.{is_found}
 use Rattle.facts.specs.Found.{FoundAt, not_found}
 use Rattle.model.specs.declared.Session.{Session}
 use Rattle.model.specs.declared.Code.TheVariants.{NotListed}
@@ -45,7 +44,7 @@ random_low n fcb r h = le-ltb last_record (random_of_rule fcb) (random_most n fc
 module _ (G : Geometry) (l : Lent) (s : Session) where
   -- ---- from the rows to the facts
   read_of : (n : ℕ) → consistent G l.drive.image ≡ true → s.user ≤ 15
-      → not (is_found (present_entry G s.user l)) ≡ false → not (record_there G n s.user l) ≡ false → Reads G l s n
+      → not (is_some (present_entry G s.user l)) ≡ false → not (record_there G n s.user l) ≡ false → Reads G l s n
   unfolding target_entry
   read_of n right low p t =
       let entry = found _ p in
@@ -58,9 +57,9 @@ module _ (G : Geometry) (l : Lent) (s : Session) where
         there = there;
       }
 
-  writes_of : (n : ℕ) → not (is_found (present_entry G s.user l)) ≡ false → read_only_there G n s.user l ≡ false → target_extent n l.fcb < extents
-      → (not (is_found (target_entry G n s.user l)) and not (is_found (find_empty_rule G (rows_of G l)))) ≡ false
-      → (eqb (block_there G n s.user l) 0 and not (is_found (find_free G l.drive.map))) ≡ false → Writes G l s n
+  writes_of : (n : ℕ) → not (is_some (present_entry G s.user l)) ≡ false → read_only_there G n s.user l ≡ false → target_extent n l.fcb < extents
+      → (not (is_some (target_entry G n s.user l)) and not (is_some (find_empty_rule G (rows_of G l)))) ≡ false
+      → (eqb (block_there G n s.user l) 0 and not (is_some (find_free G l.drive.map))) ≡ false → Writes G l s n
   writes_of n p w x r b =
       record {
         entry = found _ p;
@@ -71,7 +70,7 @@ module _ (G : Geometry) (l : Lent) (s : Session) where
       }
 
   block_right : (n : ℕ) → (block_there G n s.user l ≡ 0 → FoundAt (find_free G l.drive.map))
-      → (eqb (block_there G n s.user l) 0 and not (is_found (find_free G l.drive.map))) ≡ false
+      → (eqb (block_there G n s.user l) 0 and not (is_some (find_free G l.drive.map))) ≡ false
   block_right n f =
       split (eq_or_ne (block_there G n s.user l) 0) (λ z. and_fails_right _ _ (missed _ (f z))) (λ z. and_fails_left _ _ (ne_eqb _ _ z))
 
@@ -167,7 +166,7 @@ module _ (G : Geometry) (asked : Asked) (l : Lent) (s : Session) where
   positions_none o = positions_right G l s o & tt
 
   pub makes_right : Makes G l s → NoneHolds (own_rows G (calling 22 asked) l s)
-  makes_right o = ap not o.name & le-ltb _ _ o.ex & ap is_found o.new & missed _ o.entry & tt
+  makes_right o = ap not o.name & le-ltb _ _ o.ex & ap is_some o.new & missed _ o.entry & tt
 
   pub reads_right : Reads G l s 33 → NoneHolds (own_rows G (calling 33 asked) l s)
   unfolding is_random_rule

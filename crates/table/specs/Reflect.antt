@@ -1,5 +1,5 @@
 -- The tests of single rows and the facts imply each other.
-use Rattle.std.specs.Prelude.{◌≡◌, refl, ◌⊎◌, Bool, true, false, ℕ, ◌≤◌, ◌<◌, eqb, leb, ltb, get_or, None, Option, Some}
+use Rattle.std.specs.Prelude.{◌≡◌, refl, ◌⊎◌, Bool, true, false, ℕ, ◌≤◌, ◌<◌, eqb, leb, ltb, get_or, None, Option, Some, is_some}
 use Rattle.std.proofs.Math.Path.{sym, ap}
 use Rattle.std.proofs.Common.{◌∙◌, inl, inr, arith}
 use Rattle.std.proofs.Math.Bool.{not}
@@ -11,7 +11,6 @@ use Rattle.format.specs.Diskette.{Geometry}
 use Rattle.format.specs.Entries.{named, read_only, find_named_rule}
 use Rattle.format.specs.Consistent.{consistent}
 use Rattle.format.specs.Notes.{map_right}
-use Rattle.format.specs.Found.{is_found}
 use Rattle.facts.specs.Long.{long_says, long_is}
 use Rattle.facts.specs.Found.{FoundAt, found_row, missed_row, is_found_law, not_found, none_says}
 use Rattle.model.specs.declared.Session.{Session}
@@ -23,16 +22,16 @@ use Rattle.model.specs.Table.{time_right_rule, lengths_right_rule, parameters_ri
 use Rattle.table.specs.Facts.{Fits, Positions, Ready}
 
 -- ---- tests of look-ups
-pub found : (r : Option ℕ) → not (is_found r) ≡ false → FoundAt r
+pub found : (r : Option ℕ) → not (is_some r) ≡ false → FoundAt r
 found r h = is_found_law r (not-false _ h)
 
-pub missed : (r : Option ℕ) → FoundAt r → not (is_found r) ≡ false
+pub missed : (r : Option ℕ) → FoundAt r → not (is_some r) ≡ false
 missed r f = found_row r f.is
 
-pub either_found : (r q : Option ℕ) → (not (is_found r) and not (is_found q)) ≡ false → r ≡ None → FoundAt q
+pub either_found : (r q : Option ℕ) → (not (is_some r) and not (is_some q)) ≡ false → r ≡ None → FoundAt q
 either_found r q h z = found q (second_fails _ _ h (missed_row r z))
 
-pub either_missed : (r q : Option ℕ) → (r ≡ None → FoundAt q) → (not (is_found r) and not (is_found q)) ≡ false
+pub either_missed : (r q : Option ℕ) → (r ≡ None → FoundAt q) → (not (is_some r) and not (is_some q)) ≡ false
 either_missed (Some k) q f = and_fails_left _ _ refl
 either_missed None q f = and_fails_right _ _ (missed q (f refl))
 

@@ -8,6 +8,7 @@ ghost use Rattle.format.specs.Fcb.{fcb_bytes, random_of_rule};
 ghost use Rattle.chains.specs.Chain.{Findable};
 ghost use Rattle.targets.specs.Target.{TargetOf, over_last_rule, missing_code, arrived_slot_rule, arrived_count_rule, go_to_rule};
 
+use format::Found;
 use model::{Code, Plan};
 
 // Where a record call goes: the extent, the record in it, and cr afterwards.
@@ -23,7 +24,7 @@ fn random_of(fcb: &[u8]) -> usize
     requires { length fcb.now ≡ fcb_bytes }
     ensures { (result ≡ random_of_rule fcb.now) × (result < 16777216) }
 {
-    lists::wide(fcb[33]) + 256 * lists::wide(fcb[34]) + 65536 * lists::wide(fcb[35])
+    lists::three(fcb, 33)
 }
 
 // The target of a record call.
@@ -82,7 +83,7 @@ pub fn target_entry(
     fcb: &[u8],
     e: usize,
     extent: usize,
-) -> Option<usize>
+) -> Found
     requires { (find_file_rule eight_inch (entry_at eight_inch image.now) user fcb.now 1 (extent_of fcb.now) ≡ Some e)
         × Findable eight_inch image.now chain.now user fcb.now }
     ensures { result ≡ find_file_rule eight_inch (entry_at eight_inch image.now) user fcb.now 1 extent }

@@ -4,4 +4,4 @@ use Rattle.daybook.proofs.at_record.Goals as goal
 
 pub returns : goal.returns
 unfolding at_record_rule
-returns c = c.put.ensures
+returns c = c.put_three.ensures

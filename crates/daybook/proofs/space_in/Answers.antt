@@ -1,8 +1,7 @@
 -- `daybook::space_in` meets its contract: three bytes, lowest first.
-use native.Mathlib.Omega.{arith}
 use Rattle.picking.specs.Picker.{space_in_rule}
 use Rattle.daybook.proofs.space_in.Goals as goal
 
 pub returns : goal.returns
 unfolding space_in_rule
-returns c = omega arith
+returns c = c.three.ensures.0

@@ -1,8 +1,7 @@
 -- `targets::random_of` meets its contract: three bytes, each below 256.
-use native.Mathlib.Omega.{arith}
 use Rattle.format.specs.Fcb.{random_of_rule}
 use Rattle.targets.proofs.random_of.Goals as goal
 
 pub returns : goal.returns
 unfolding random_of_rule
-returns c = (omega arith, omega arith)
+returns c = c.three.ensures
