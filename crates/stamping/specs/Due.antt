@@ -4,7 +4,7 @@ use Rattle.std.specs.Bool.{then_some}
 use Rattle.std.proofs.Common.{ap, ◌∙◌, ne_eqb, inl, inr}
 use Rattle.std.proofs.Math.Path.{sym}
 use Rattle.std.proofs.Math.Bool.{not}
-use mathlib.Core.List.{List, [], ◌∷◌, ◌++◌, append-nil}
+use mathlib.Core.List.{List, [], ◌++◌, append-nil}
 use Rattle.lists.specs.Cases.{split, bool_cases}
 use Rattle.lists.specs.Tests.{◌and◌, and_both, and_fails_left, and_fails_right}
 use Rattle.format.specs.Diskette.{Bytes, Geometry}
@@ -15,7 +15,7 @@ use Rattle.facts.specs.Found.{FoundAt, at_not_nothing}
 use Rattle.model.specs.declared.Asked.{Asked}
 use Rattle.model.specs.declared.Session.{Session}
 use Rattle.model.specs.declared.Kind.{Kind}
-use Rattle.model.specs.declared.Kind.TheVariants.{Unlisted, Quiet, Search, User, Settle, Close, Delete, Create, Rename, Read, Write}
+use Rattle.model.specs.declared.Kind.TheVariants.{Unlisted, Quiet, Search, User, Settle, Delete, Rename, Read, Write}
 use Rattle.model.specs.Kinds.{kind_of, same, of_record}
 use Rattle.model.specs.Lent.{Lent, rows_of, protected}
 use Rattle.model.specs.Closing.{close_changes_rule}
