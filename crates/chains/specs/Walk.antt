@@ -45,15 +45,15 @@ module _ (G : Geometry) (d : Rows) (test : ℕ → Bool) (k n : ℕ) (low : k < 
             rw z at (eqb-true _ _ (last_holds (has_key d k) m (omega arith)));
       }
 
-  walk_used : (e : ℕ) → Walk d test k n (e + 1) → used (d e) ≡ true
+  pub walk_used : (e : ℕ) → Walk d test k n (e + 1) → used (d e) ≡ true
   walk_used e w = key_tells d e k low (w.key e refl)
 
   module _ (m : ℕ) (chain : Bytes) (s : Chained G d m chain) where
     -- it begins at the last entry of the key, or at the link of the entry before which it ends
-    walk_all : m ≡ n → Walk d test k n (get_or chain k 0)
+    pub walk_all : m ≡ n → Walk d test k n (get_or chain k 0)
     walk_all q = walk_to m (get_or chain k 0) (omega arith) (s.last k low) (λ g a r. absurd (omega arith))
 
-    walk_before : n < m → used (d n) ≡ true → key_of (d n) ≡ k → Walk d test k n (get_or chain (key_count + n) 0)
+    pub walk_before : n < m → used (d n) ≡ true → key_of (d n) ≡ k → Walk d test k n (get_or chain (key_count + n) 0)
     walk_before h u q =
         walk_to n (get_or chain (key_count + n) 0) (omega arith) (s.link n h u ∙ ap (λ (x : ℕ). last_below (has_key d x) n) q) (λ g a r. absurd (omega arith))
 
@@ -65,14 +65,14 @@ module _ (G : Geometry) (d : Rows) (test : ℕ → Bool) (k n : ℕ) (low : k < 
           let same : key_of (d e) ≡ k = sym (key_used d e u) ∙ w.key e refl in
           s.link e (omega arith) u ∙ ap (λ (x : ℕ). last_below (has_key d x) e) same
 
-      walk_more : test e ≡ false → Walk d test k n (get_or chain (key_count + e) 0)
+      pub walk_more : test e ≡ false → Walk d test k n (get_or chain (key_count + e) 0)
       walk_more t =
           let high = w.high in
           walk_to e (get_or chain (key_count + e) 0) (omega arith) linked
           (λ g a r. split (lt_or_le g (e + 1)) (λ z. let q : e ≡ g = omega arith in ap test (sym q) ∙ t) (λ z. w.passed g z r))
 
       -- each step goes further back
-      walk_less : get_or chain (key_count + e) 0 < e + 1
+      pub walk_less : get_or chain (key_count + e) 0 < e + 1
       walk_less = let b : get_or chain (key_count + e) 0 ≤ e = rw linked (last_high (has_key d k) e) in omega arith
 
 -- ---- whether entry e is alone: the test is that of the rows before it
@@ -80,7 +80,7 @@ module _ (G : Geometry) (d : Rows) (e : ℕ) where
   abbrev pub same_as : ℕ → Bool
   same_as g = same_file_rule G (d e) (d g)
 
-  same_only : (single : (x : ℕ) → run_of G x ≡ x) (g : ℕ) → same_as g ≡ true → key_in d g ≡ key_of (d e)
+  pub same_only : (single : (x : ℕ) → run_of G x ≡ x) (g : ℕ) → same_as g ≡ true → key_in d g ≡ key_of (d e)
   same_only single g t = key_used d g (same_used_right G (d e) (d g) t) ∙ sym (key_same G single (d e) (d g) (same_elim G (d e) (d g) t))
 
   -- the walk from the entry's own link
@@ -119,7 +119,7 @@ abbrev pub Sought : Geometry → Rows → ℕ → Bytes → ℕ → ℕ → ℕ 
 Sought G d user s q ext f = Walk d (file_test G d user s q ext) (file_key_rule user s q ext) G.entries f
 
 module _ (G : Geometry) (d : Rows) (user : ℕ) (s : Bytes) (q ext : ℕ) (real : user ≤ 15) where
-  file_only : (single : (x : ℕ) → run_of G x ≡ x) (g : ℕ) → file_test G d user s q ext g ≡ true → key_in d g ≡ file_key_rule user s q ext
+  pub file_only : (single : (x : ℕ) → run_of G x ≡ x) (g : ℕ) → file_test G d user s q ext g ≡ true → key_in d g ≡ file_key_rule user s q ext
   file_only single g t =
       key_used d g (file_used G user s q ext (d g) t real)
       ∙ key_asked (d g) user s q ext (file_user G user s q ext (d g) t) (file_like G user s q ext (d g) t)

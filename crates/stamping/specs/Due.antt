@@ -1,10 +1,13 @@
 -- What is due is what the call makes, call by call.
+use types.Run.{OneOf, miss}
+use denote.Enum.Declared.{tag_of}
+use Rattle.model.specs.contracts.Kind.{the_type}
 use Rattle.std.specs.Prelude.{◌≡◌, refl, Bool, true, false, cond, ℕ, ◌≤◌, ◌⊎◌, None, Option, Some}
 use Rattle.std.specs.Bool.{then_some}
 use Rattle.std.proofs.Common.{ap, ◌∙◌, ne_eqb, inl, inr}
 use Rattle.std.proofs.Math.Path.{sym}
 use Rattle.std.proofs.Math.Bool.{not}
-use mathlib.Core.List.{List, [], ◌++◌, append-nil}
+use mathlib.Core.List.{List, [], ◌∷◌, ◌++◌, append-nil}
 use Rattle.lists.specs.Cases.{split, bool_cases}
 use Rattle.lists.specs.Tests.{◌and◌, and_both, and_fails_left, and_fails_right}
 use Rattle.format.specs.Diskette.{Bytes, Geometry}
@@ -15,7 +18,7 @@ use Rattle.facts.specs.Found.{FoundAt, at_not_nothing}
 use Rattle.model.specs.declared.Asked.{Asked}
 use Rattle.model.specs.declared.Session.{Session}
 use Rattle.model.specs.declared.Kind.{Kind}
-use Rattle.model.specs.declared.Kind.TheVariants.{Unlisted, Quiet, Search, User, Settle, Delete, Rename, Read, Write}
+use Rattle.model.specs.declared.Kind.TheVariants.{Unlisted, Quiet, Search, User, Settle, Close, Delete, Create, Rename, Read, Write}
 use Rattle.model.specs.Kinds.{kind_of, same, of_record}
 use Rattle.model.specs.Lent.{Lent, rows_of, protected}
 use Rattle.model.specs.Closing.{close_changes_rule}
@@ -162,6 +165,21 @@ module _ (G : Geometry) (asked : Asked) (l : Lent) (s : Session) where
       let w : new ≡ Some f.place = at ∙ f.is in
       rw (is, w) (new_due_law G (calling 22 asked) l s f.place ∙ rw f.is)
 
+-- ---- the kinds of calls that stamp nothing, by their places in the enum
+pub stampless : (G : Geometry) (asked : Asked) (l : Lent) (s : Session) (k : Kind) → OneOf (2 ∷ 3 ∷ 4 ∷ 6 ∷ 8 ∷ 0 ∷ []) (tag_of the_type k) → stamps_by G asked l s k ≡ []
+stampless G asked l s Unlisted h = refl
+stampless G asked l s Quiet h = absurd (miss (2 ∷ 3 ∷ 4 ∷ 6 ∷ 8 ∷ 0 ∷ []) 1 tt h)
+stampless G asked l s Search h = refl
+stampless G asked l s User h = refl
+stampless G asked l s Settle h = refl
+stampless G asked l s Close h = absurd (miss (2 ∷ 3 ∷ 4 ∷ 6 ∷ 8 ∷ 0 ∷ []) 5 tt h)
+stampless G asked l s Delete h = refl
+stampless G asked l s Create h = absurd (miss (2 ∷ 3 ∷ 4 ∷ 6 ∷ 8 ∷ 0 ∷ []) 7 tt h)
+stampless G asked l s Rename h = refl
+stampless G asked l s Read h = absurd (miss (2 ∷ 3 ∷ 4 ∷ 6 ∷ 8 ∷ 0 ∷ []) 9 tt h)
+stampless G asked l s Write h = absurd (miss (2 ∷ 3 ∷ 4 ∷ 6 ∷ 8 ∷ 0 ∷ []) 10 tt h)
+
+-- the same, of the kinds themselves
 -- ---- the kinds of calls that stamp nothing
 pub stampless_kind : (G : Geometry) (asked : Asked) (l : Lent) (s : Session) (k : Kind)
     → (k ≡ Search) ⊎ (k ≡ User) ⊎ (k ≡ Settle) ⊎ (k ≡ Delete) ⊎ (k ≡ Rename) ⊎ (k ≡ Unlisted) → stamps_by G asked l s k ≡ []
