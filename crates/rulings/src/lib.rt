@@ -48,6 +48,7 @@ fn rule_read(
 }
 
 // Whether t1' is set in the FCB's entry or in the target's.
+#[tactic(auto, using(lists::specs::Tests::short_circuits), unfolding(crate::specs::Ruling::guarded))]
 fn is_guarded(image: &[u8], e: usize, target: Option<usize>) -> bool
     requires { Long eight_inch image.now × (e < eight_inch.entries) × Among eight_inch.entries target }
     ensures { result ≡ guarded (entry_at eight_inch image.now) e target }

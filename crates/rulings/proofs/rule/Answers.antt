@@ -1,5 +1,5 @@
 -- Each way out is a row that the four calls share; then the rows of a read or of a write decide.
-use mathlib.Core.Path.{◌≡◌, sym, ◌∙◌}
+use mathlib.Core.Path.{sym, ◌∙◌}
 use Prim.Native.Nat.{◌<◌}
 use Rattle.format.specs.Diskette.{eight_inch}
 use Rattle.model.specs.Lent.{lend}
