@@ -39,7 +39,9 @@ pub fn current_entry(image: &[u8], map: &[u16], chain: &[u8], user: u8, fcb: &[u
     if !fcb_right(fcb) {
         return None;
     }
-    let e = chains::find_file(image, chain, user, fcb, 1, entries::extent(fcb))?;
+    let Some(e) = chains::find_file(image, chain, user, fcb, 1, entries::extent(fcb)) else {
+        return None;
+    };
     let row = rows::row(image, e);
     let fits = slots_own(row, fcb)
         || slots::slots_fit(map, e, entries::slots(row), entries::slots(fcb));

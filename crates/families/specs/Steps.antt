@@ -1,6 +1,5 @@
 -- Calls 19 and 23: the answer that each of their rows gives, and what is left where none of them holds.
-use Rattle.std.specs.Prelude.{◌≡◌, refl, Bool, true, false, ℕ, None, Option, Some}
-use Rattle.std.specs.Option.{is_some}
+use Rattle.std.specs.Prelude.{◌≡◌, refl, Bool, true, false, ℕ, None, Some}
 use Rattle.std.proofs.Math.Path.{ap}
 use Rattle.std.proofs.Math.Bool.{not}
 use Rattle.format.specs.Diskette.{Bytes, Geometry}
@@ -22,14 +21,14 @@ use Rattle.table.specs.Own.{calling}
 use Rattle.table.specs.OwnStep.{own_step, refuses_own, carries_own}
 
 -- ---- the test of a row that asks for a name, by what was looked up
-found_some : (r : Option ℕ) → is_some r ≡ is_some r
-found_some (Some e) = refl
-found_some None = refl
-
 module _ (G : Geometry) (l : Lent) (wild : Bool) (user q : ℕ) where
-  pub named_some : (r : Option ℕ) → r ≡ find_named_rule G (rows_of G l) wild user l.fcb q → any_named G l wild user q ≡ is_some r
+  pub some_named : (e : ℕ) → find_named_rule G (rows_of G l) wild user l.fcb q ≡ Some e → any_named G l wild user q ≡ true
   unfolding any_named
-  named_some r h = rw (← h) (found_some r)
+  some_named e h = ap is_some h
+
+  pub none_named : find_named_rule G (rows_of G l) wild user l.fcb q ≡ None → any_named G l wild user q ≡ false
+  unfolding any_named
+  none_named h = ap is_some h
 
 -- ---- 19
 module _ (G : Geometry) (asked : Asked) (l : Lent) (s : Session) (r : Answer) where

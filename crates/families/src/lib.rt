@@ -65,15 +65,15 @@ pub fn rename_file(image: &mut [u8], fcb: &[u8], session: Session) -> Answer
         return answers::refuse(Code::BadName, session);
     }
     let user = session.user;
-    if lookups::find_named(image, false, user, fcb, 1).is_none() {
+    let Some(_) = lookups::find_named(image, false, user, fcb, 1) else {
         return answers::refuse(Code::Failed, session);
-    }
+    };
     if any_read_only(image, false, user, fcb) {
         return answers::refuse(Code::ReadOnly, session);
     }
-    if lookups::find_named(image, false, user, fcb, 17).is_some() {
+    let None = lookups::find_named(image, false, user, fcb, 17) else {
         return answers::refuse(Code::Exists, session);
-    }
+    };
     rename_entries(image, user, fcb);
     answers::done(0, session)
 }
@@ -89,9 +89,9 @@ pub fn delete_file(image: &mut [u8], map: &mut [u16], fcb: &[u8], session: Sessi
         return answers::refuse(Code::BadName, session);
     }
     let user = session.user;
-    if lookups::find_named(image, true, user, fcb, 1).is_none() {
+    let Some(_) = lookups::find_named(image, true, user, fcb, 1) else {
         return answers::refuse(Code::Failed, session);
-    }
+    };
     if any_read_only(image, true, user, fcb) {
         return answers::refuse(Code::ReadOnly, session);
     }

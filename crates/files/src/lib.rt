@@ -40,9 +40,9 @@ pub fn make_file(image: &mut [u8], fcb: &mut [u8], session: Session, chain: &[u8
     if !asking::asks_right(fcb) {
         return answers::refuse(Code::BadName, session);
     }
-    if asking::find_asked(image, chain, session.user, fcb).is_some() {
+    let None = asking::find_asked(image, chain, session.user, fcb) else {
         return answers::refuse(Code::Exists, session);
-    }
+    };
     let Some(e) = lookups::find_empty(image) else {
         return answers::refuse(Code::Failed, session);
     };
@@ -82,9 +82,9 @@ pub fn file_size(image: &[u8], fcb: &mut [u8], session: Session) -> Answer
     if !names::name_right(false, fcb, 1) {
         return answers::refuse(Code::BadName, session);
     }
-    if lookups::find_named(image, false, session.user, fcb, 1).is_none() {
+    let Some(_) = lookups::find_named(image, false, session.user, fcb, 1) else {
         return answers::refuse(Code::Failed, session);
-    }
+    };
     let size = largest_size(image, session.user, fcb);
     lists::put_three(fcb, 33, size);
     answers::done(0, session)

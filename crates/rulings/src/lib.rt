@@ -42,17 +42,25 @@ fn rule_read(
     requires { Long eight_inch image.now × (length fcb.now ≡ fcb_bytes) × (j < slot_count) × Among eight_inch.entries target }
     ensures { result ≡ read_from eight_inch (entry_at eight_inch image.now) fcb.now number e j at target }
 {
-    let t = target.ok_or(targets::missing(number, Code::NoExtent))?;
+    let Some(t) = target else {
+        return Err(targets::missing(number, Code::NoExtent));
+    };
     read_to(image, fcb, e, t, j, at)
 }
 
 // Whether t1' is set in the FCB's entry or in the target's.
+#[tactic(auto, using(lists::specs::Tests::short_circuits), unfolding(crate::specs::Ruling::guarded))]
 fn is_guarded(image: &[u8], e: usize, target: Found) -> bool
     requires { Long eight_inch image.now × (e < eight_inch.entries) × Among eight_inch.entries target }
     ensures { result ≡ guarded (entry_at eight_inch image.now) e target }
 {
-    entries::is_read_only(rows::row(image, e))
-        || target.is_some_and(|t| entries::is_read_only(rows::row(image, t)))
+    if entries::is_read_only(rows::row(image, e)) {
+        return true;
+    }
+    let Some(t) = target else {
+        return false;
+    };
+    entries::is_read_only(rows::row(image, t))
 }
 
 // The block for a slot: its own, or the first free one where it has none.
@@ -73,8 +81,12 @@ fn write_new(image: &[u8], map: &[u16], code: Code, e: usize) -> Result<Plan, Co
     requires { Long eight_inch image.now × (length map.now ≡ eight_inch.blocks) }
     ensures { result ≡ write_new_rule eight_inch (entry_at eight_inch image.now) map.now code e }
 {
-    let t = lookups::find_empty(image).ok_or(code)?;
-    let b = notes::first_free(map).ok_or(Code::DiskFull)?;
+    let Some(t) = lookups::find_empty(image) else {
+        return Err(code);
+    };
+    let Some(b) = notes::first_free(map) else {
+        return Err(Code::DiskFull);
+    };
     Ok(Plan::Make(e, t, b))
 }
 
@@ -95,7 +107,9 @@ fn write_to(
     let Some(t) = target else {
         return write_new(image, map, code, e);
     };
-    let b = block_for(map, targets::arrived_slot(image, fcb, e, t, j)).ok_or(Code::DiskFull)?;
+    let Some(b) = block_for(map, targets::arrived_slot(image, fcb, e, t, j)) else {
+        return Err(Code::DiskFull);
+    };
     Ok(targets::go_to(e, t, b))
 }
 
@@ -142,7 +156,9 @@ pub fn rule(
     if targets::over_last(number, extent) {
         return Err(Code::BadRecord);
     }
-    let e = current::current_entry(image, map, chain, user, fcb).ok_or(Code::NotCurrent)?;
+    let Some(e) = current::current_entry(image, map, chain, user, fcb) else {
+        return Err(Code::NotCurrent);
+    };
     let found = targets::target_entry(image, chain, user, fcb, e, extent);
     let j = entries::slot_for(extent, at);
     if calls::writes(number) {

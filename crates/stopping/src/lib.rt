@@ -26,6 +26,7 @@ fn move_changes(plan: Plan, image: &[u8], fcb: &[u8]) -> bool
 }
 
 // Whether a session stops a plan: a protected one that of a move that changes an entry.
+#[tactic(auto, using(lists::specs::Tests::short_circuits))]
 pub fn stops(session: Session, plan: Plan, image: &[u8], fcb: &[u8]) -> bool
     requires { Long eight_inch image.now × (length fcb.now ≡ fcb_bytes) × OnDisk eight_inch plan }
     ensures { (map buffer : Bytes)

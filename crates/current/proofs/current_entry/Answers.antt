@@ -14,19 +14,19 @@ use Rattle.current.proofs.current_entry.Goals as goal
 pub returns-then-not-fcb_right : goal.returns-then-not-fcb_right
 returns-then-not-fcb_right c = sym (current_wrong _ _ _ _ _ (sym c.if-not-fcb_right.ensures))
 
-pub returns-in_err-e : goal.returns-in_err-e
-returns-in_err-e c =
-    c.from_residual.ensures
-    ∙ sym (current_missing _ _ _ _ _ (sym c.if-not-fcb_right.ensures) (sym (rw c.extent.ensures.0 at c.in_err-e.ensures)))
+pub returns-in_default : goal.returns-in_default
+returns-in_default c =
+    let missing = rw c.extent.ensures.0 at c.find_file.ensures in
+    sym (current_missing _ _ _ _ _ (sym c.if-not-fcb_right.ensures) (sym missing ∙ c.in_default.is))
 
 pub row-row-requires : goal.row-row-requires
 row-row-requires c =
-    let low : c.in_ok-e.e < eight_inch.entries = (file_says _ _ _ _ _ _ _ (sym c.in_ok-e.ensures)).below in
+    let low : c.in-Some.e < eight_inch.entries = (file_says _ _ _ _ _ _ _ (sym c.in-Some.ensures)).below in
     search rules
 
 pub slots_fit-fits-requires : goal.slots_fit-fits-requires
 slots_fit-fits-requires c =
-    let low : c.in_ok-e.e < eight_inch.entries = (file_says _ _ _ _ _ _ _ (sym c.in_ok-e.ensures)).below in
+    let low : c.in-Some.e < eight_inch.entries = (file_says _ _ _ _ _ _ _ (sym c.in-Some.ensures)).below in
     search rules
 
 -- slots that are the entry's own fit
@@ -35,7 +35,7 @@ returns c =
     let d = entry_at eight_inch c.args.image.now in
     let m = c.args.map.now in
     let fcb = c.args.fcb.now in
-    let e = c.in_ok-e.e in
+    let e = c.in-Some.e in
     let fits : c.if-slots_own.fits ≡ slots_fit_rule eight_inch m e (slots_of (d e)) (slots_of fcb) =
     elim c.if-slots_own.branch [
       | then-slots_own w ↦ w.fits-is ∙ w.if-slots_own.true
@@ -45,4 +45,4 @@ returns c =
     in
     c.then_some.ensures
     ∙ current_by eight_inch d m c.args.user fcb e c.if-slots_own.fits (sym c.if-not-fcb_right.ensures)
-    (sym (rw c.extent.ensures.0 at c.in_ok-e.ensures)) fits
+    (sym (rw c.extent.ensures.0 at c.in-Some.ensures)) fits

@@ -10,23 +10,21 @@ use Rattle.model.specs.Table.{any_named}
 use Rattle.table.specs.First.{◌&◌, here, later}
 use Rattle.table.specs.Own.{calling}
 use Rattle.table.specs.OwnStep.{refuses_own, quiet_own}
-use Rattle.files.proofs.Found.{found_some}
+use Rattle.facts.specs.Found.{found_row, missed_row}
 use Rattle.files.proofs.file_size.Goals as goal
 
 pub returns-then-not-name_right : goal.returns-then-not-name_right
 returns-then-not-name_right c asked map buffer =
     refuses_own eight_inch (calling 35 asked) _ _ BadName _ (here (ap not (sym c.if-not-name_right.ensures)) refl) c.refuse.ensures
 
-pub returns-then-is_none : goal.returns-then-is_none
+pub returns-in_default : goal.returns-in_default
 unfolding any_named
-returns-then-is_none c asked map buffer =
-    let none = found_some _ _ c.find_named.ensures ∙ c.if-is_none.ensures in
-    refuses_own eight_inch (calling 35 asked) _ _ Failed _ (later (ap not (sym c.if-not-name_right.ensures)) (here (ap not none) refl))
-    c.refuse-then-is_none.ensures
+returns-in_default c asked map buffer =
+    refuses_own eight_inch (calling 35 asked) _ _ Failed _ (later (ap not (sym c.if-not-name_right.ensures)) (here (missed_row _ (sym c.find_named.ensures ∙ c.in_default.is)) refl))
+    c.refuse-in_default.ensures
 
 pub returns : goal.returns
 unfolding any_named sized kind_of told
 returns c asked map buffer =
-    let some = found_some _ _ c.find_named.ensures ∙ c.if-is_none.ensures in
-    quiet_own eight_inch (calling 35 asked) _ _ _ refl (ap not (sym c.if-not-name_right.ensures) & ap not some & tt)
+    quiet_own eight_inch (calling 35 asked) _ _ _ refl (ap not (sym c.if-not-name_right.ensures) & found_row _ (sym c.in-Some.ensures) & tt)
     (rw (c.done.ensures, c.put_three.ensures, c.largest_size-size.ensures))
