@@ -100,5 +100,15 @@ pub fn call(
     if number == 13 {
         return plain::log_in(map, &seen.marks, session);
     }
-    ready_call(kind, asked, image, map, fcb, buffer, session, &seen.chain, seen.label)
+    ready_call(
+        kind,
+        asked,
+        image,
+        map,
+        fcb,
+        buffer,
+        session,
+        &seen.chain,
+        seen.label,
+    )
 }

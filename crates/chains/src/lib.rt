@@ -75,14 +75,7 @@ pub fn take_key(image: &[u8], e: usize, r: &[u8], chain: &mut [u8]) -> bool
 }
 
 // The entry of this user, name and extent: only those of its key are looked at.
-pub fn find_file(
-    image: &[u8],
-    chain: &[u8],
-    user: u8,
-    s: &[u8],
-    q: usize,
-    ext: usize,
-) -> Found
+pub fn find_file(image: &[u8], chain: &[u8], user: u8, s: &[u8], q: usize, ext: usize) -> Found
     requires { Long eight_inch image.now × (q + name_bytes ≤ length s.now) × (user ≤ 15)
         × Indexed eight_inch (entry_at eight_inch image.now) chain.now }
     ensures { result ≡ find_file_rule eight_inch (entry_at eight_inch image.now) user s.now q ext }

@@ -1,5 +1,5 @@
 -- Calls 19 and 23: the answer that each of their rows gives, and what is left where none of them holds.
-use Rattle.std.specs.Prelude.{◌≡◌, refl, Bool, true, false, ℕ, None, Some}
+use Rattle.std.specs.Prelude.{◌≡◌, refl, Bool, true, false, ℕ, None, Some, is_some}
 use Rattle.std.proofs.Math.Path.{ap}
 use Rattle.std.proofs.Math.Bool.{not}
 use Rattle.format.specs.Diskette.{Bytes, Geometry}

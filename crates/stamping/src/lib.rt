@@ -54,7 +54,13 @@ impl<'a> Before<'a> {
     fn current_entry(&self) -> Found
         ensures { result ≡ current eight_inch (entry_at eight_inch self.now.image.now) self.now.map.now self.now.session.user self.now.fcb.now }
     {
-        current::current_entry(self.image, self.map, self.chain, self.session.user, self.fcb)
+        current::current_entry(
+            self.image,
+            self.map,
+            self.chain,
+            self.session.user,
+            self.fcb,
+        )
     }
 
     // 15: access of the entry opened, on a session whose protection is lifted.
@@ -69,10 +75,7 @@ impl<'a> Before<'a> {
             return Due::NONE;
         }
         let first = asking::find_asked(self.image, self.chain, self.session.user, self.fcb);
-        Due {
-            first,
-            ..Due::NONE
-        }
+        Due { first, ..Due::NONE }
     }
 
     // The quiet calls: only 15 stamps.
@@ -126,10 +129,7 @@ impl<'a> Before<'a> {
                 ..Due::NONE
             };
         }
-        Due {
-            new,
-            ..Due::NONE
-        }
+        Due { new, ..Due::NONE }
     }
 
     // A record call that moves from entry e to another extent: update of the entry that it closes; and the stamps of the entry that it makes,
@@ -142,7 +142,14 @@ impl<'a> Before<'a> {
     {
         let target = targets::target_of(self.asked.number, self.fcb);
         let update = self.updated(e);
-        let None = chains::find_file(self.image, self.chain, self.session.user, self.fcb, 1, target.extent) else {
+        let None = chains::find_file(
+            self.image,
+            self.chain,
+            self.session.user,
+            self.fcb,
+            1,
+            target.extent,
+        ) else {
             return Due {
                 update,
                 ..Due::NONE
@@ -183,8 +190,12 @@ impl<'a> Before<'a> {
             Kind::Close => self.close_due(),
             Kind::Create => self.create_due(),
             Kind::Read | Kind::Write => self.record_due(),
-            Kind::Search | Kind::User | Kind::Settle | Kind::Delete | Kind::Rename | Kind::Unlisted =>
-                Due::NONE,
+            Kind::Search
+            | Kind::User
+            | Kind::Settle
+            | Kind::Delete
+            | Kind::Rename
+            | Kind::Unlisted => Due::NONE,
         }
     }
 }

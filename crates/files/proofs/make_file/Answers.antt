@@ -2,7 +2,7 @@
 use mathlib.Core.Path.{refl, sym, ap, ◌∙◌}
 use Prim.Native.Nat.{◌<◌}
 use Rattle.format.specs.Diskette.{eight_inch}
-use Rattle.format.specs.Found.{is_found}
+use Rattle.std.specs.Prelude.{is_some}
 use Rattle.facts.specs.Find.{empty_says}
 use Rattle.facts.specs.Found.{found_row, missed_row}
 use Rattle.model.specs.declared.Code.TheVariants.{BadName, Failed, Exists}
@@ -23,13 +23,13 @@ returns-then-not-asks_right c asked map buffer =
 pub returns-in_default : goal.returns-in_default
 returns-in_default c asked map buffer =
     let p = asked_right _ (sym c.if-not-asks_right.ensures) in
-    let there = ap is_found (sym (c.find_asked.ensures map buffer) ∙ c.in_default.is) in
+    let there = ap is_some (sym (c.find_asked.ensures map buffer) ∙ c.in_default.is) in
     refuses_own eight_inch (calling 22 asked) _ _ Exists _ (later p.name (later p.ex (here there refl))) c.refuse-in_default.ensures
 
 pub returns-in_default-find_empty : goal.returns-in_default-find_empty
 returns-in_default-find_empty c asked map buffer =
     let p = asked_right _ (sym c.if-not-asks_right.ensures) in
-    let new = ap is_found (sym (c.in-None.ensures map buffer)) in
+    let new = ap is_some (sym (c.in-None.ensures map buffer)) in
     refuses_own eight_inch (calling 22 asked) _ _ Failed _
     (later p.name (later p.ex (later new (here (missed_row _ (sym c.find_empty.ensures ∙ c.in_default-find_empty.is)) refl)))) c.refuse-in_default-find_empty.ensures
 
@@ -41,7 +41,7 @@ pub returns : goal.returns
 unfolding created created_at effect kind_of
 returns c asked map buffer =
     let p = asked_right _ (sym c.if-not-asks_right.ensures) in
-    let new = ap is_found (sym (c.in-None.ensures map buffer)) in
+    let new = ap is_some (sym (c.in-None.ensures map buffer)) in
     let free = sym c.in-Some.ensures in
     carries_own eight_inch (calling 22 asked) _ _ _ (p.name & p.ex & new & found_row _ free & tt)
     (rw (free, c.done.ensures, c.store_row.ensures, c.copy_fields.ensures, c.made_row-row.ensures))
