@@ -1,14 +1,12 @@
 -- A part of a list, and a list with a part replaced.
 use Rattle.std.specs.Prelude.{◌≡◌, refl, ◌⊎◌, List, ◌++◌, set, take, replicate}
 use Rattle.std.proofs.Math.Path.{ap}
-use Rattle.std.proofs.Common.{sym, ◌∙◌, inl, inr, append_assoc, append-nil, zero-add, length-set, length-append, length-drop, get_or-set_same, get_or-set_other, length-take-le, get_or-take, drop_at, ext_get_or}
+use Rattle.std.proofs.Common.{sym, ◌∙◌, inl, inr, append_assoc, append-nil, zero-add, add-one, length-set, length-append, length-drop, get_or-set_same, get_or-set_other, length-take-le, get_or-take, drop_at, ext_get_or}
 use Prim.Native.Nat.{ℕ, ◌+◌, ◌-◌, ◌≤◌, ◌<◌}
 use native.Mathlib.Omega.{arith}
 use Rattle.std.proofs.Math.ListN.{length, drop, get_or, length-take, get_or-append}
 use Rattle.std.proofs.lemmas.List.{length-replicate, get_or-replicate}
-use Rattle.std.proofs.Math.Seq.{drop-length, take-length, get_or-drop, get_or-append-add, take_at}
-use Rattle.std.proofs.lemmas.Slice.{put_mid-paste}
-use borrow.Rule.Slice.PartMut.{put_mid}
+use Rattle.std.proofs.Math.Seq.{drop-length, paste, paste-suc, take-length, get_or-drop, get_or-append-add, take_at}
 use Rattle.lists.specs.Cases.{split, lt_or_le, eq_or_ne}
 
 -- the n elements of xs from `at` on
@@ -145,13 +143,23 @@ pub splice_whole : (xs ys : List ℕ) → length xs ≡ length ys → splice xs 
 unfolding splice
 splice_whole xs ys e = rw zero-add (rw (← e, drop-length xs) (append-nil ys))
 
--- ---- a write to the part from `at` to e, of what is zs, as code makes it
-pub splice_write : (xs ys zs : List ℕ) (at e : ℕ) → ys ≡ zs → e ≡ at + length zs → put_mid at (e - at) xs ys ≡ splice xs at zs
-unfolding splice
-splice_write xs ys zs at e q h =
-    put_mid-paste at (e - at) xs ys zs (length zs) q (omega arith) refl ∙ rw (take-length, append_assoc)
+-- ---- a loop that copies ys into xs from `at` on: its turn and its end
+pub paste_more : (d l s : List ℕ) (at i : ℕ) → at + length s ≤ length d → i < length s → l ≡ paste d at s i → set l (at + i) (get_or s i 0) ≡ paste d at s (i + 1)
+paste_more d l s at i fits h e = rw (e, add-one, paste-suc d at s i 0 (omega arith) h)
 
--- ---- n copies of one value
+pub paste_all : (d l s : List ℕ) (at i : ℕ) → i ≡ length s → l ≡ paste d at s i → l ≡ splice d at s
+unfolding splice
+paste_all d l s at i h e = rw (e, h, take-length, append_assoc)
+
+-- a copy out of src, written as a copy over the whole of dst
+pub splice_part : (src dst out : List ℕ) (at e : ℕ) → at + length dst ≤ length src → e ≡ at + length dst → out ≡ splice dst 0 (take (e - at) (drop at src)) → out ≡ part src at (length dst)
+unfolding part
+splice_part src dst out at e room he h =
+    let n : e - at ≡ length dst = omega arith in
+    let l : length dst ≡ length (take (length dst) (drop at src)) = simp (length-take, length-drop) (omega arith) in
+    h ∙ ap (λ (k : ℕ). splice dst 0 (take k (drop at src))) n ∙ splice_whole dst (take (length dst) (drop at src)) l
+
+-- ---- n copies of one value, and the loop that writes them into xs from `at` on
 unfoldable pub copies : ℕ → ℕ → List ℕ
 copies n v = replicate n v
 
@@ -163,13 +171,10 @@ pub get_d_copies : (n v i : ℕ) → i < n → get_or (copies n v) i 0 ≡ v
 unfolding copies
 get_d_copies n v i h = get_or-replicate n i v 0 h
 
--- a write of them to the part from `at` on
-pub splice_fill : (xs ys : List ℕ) (at n v : ℕ) → at + n ≤ length xs → ys ≡ replicate (length (take (at + n - at) (drop at xs))) v
-    → put_mid at (at + n - at) xs ys ≡ splice xs at (copies n v)
-unfolding copies
-splice_fill xs ys at n v fits h =
-    let l : length (take (at + n - at) (drop at xs)) ≡ n = ap length (take_part xs at (at + n) n refl) ∙ length_part xs at n fits in
-    splice_write xs ys (copies n v) at (at + n) (h ∙ ap (λ (k : ℕ). replicate k v) l) (omega (arith, length_copies n v))
+pub fill_more : (d l : List ℕ) (at n v i : ℕ) → at + n ≤ length d → i < n → l ≡ paste d at (copies n v) i → set l (at + i) v ≡ paste d at (copies n v) (i + 1)
+fill_more d l at n v i fits h e =
+    let k : length (copies n v) ≡ n = length_copies n v in
+    ap (λ (x : ℕ). set l (at + i) x) (sym (get_d_copies n v i h)) ∙ paste_more d l (copies n v) at i (omega arith) (omega arith) e
 
 -- what stands where after it
 module _ (xs : List ℕ) (at n v : ℕ) (fits : at + n ≤ length xs) where

@@ -4,13 +4,14 @@
 ghost use Rattle.std.specs.Prelude.{◌≡◌, [], ◌∷◌, ◌+◌, ◌*◌, ◌/◌, ◌%◌, ◌≤◌, ◌<◌, length, get_or};
 ghost use Rattle.lists.specs.Splice.{splice, part, copies};
 
-// Copies all of src into dst, from `at` on.
+// Copies all of src into dst, from `at` on. A loop, and not the library's copy: the archive calls nothing of the C library.
 pub fn put(dst: &mut [u8], at: usize, src: &[u8])
     requires { at + length src.now ≤ length dst.old }
     ensures { dst.new ≡ splice dst.old at src.now }
 {
-    let end = at + src.len();
-    dst[at..end].copy_from_slice(src);
+    for i in 0..src.len() {
+        dst[at + i] = src[i];
+    }
 }
 
 // Fills dst from src, from `at` on.
@@ -19,16 +20,17 @@ pub fn get(src: &[u8], at: usize, dst: &mut [u8])
     ensures { dst.new ≡ part src.now at (length dst.old) }
 {
     let end = at + dst.len();
-    dst.copy_from_slice(&src[at..end]);
+    put(dst, 0, &src[at..end]);
 }
 
-// Sets n bytes of dst, from `at` on, to v.
+// Sets n bytes of dst, from `at` on, to v; a loop for the same reason.
 pub fn fill(dst: &mut [u8], at: usize, n: usize, v: u8)
     requires { at + n ≤ length dst.old }
     ensures { dst.new ≡ splice dst.old at (copies n v) }
 {
-    let end = at + n;
-    dst[at..end].fill(v);
+    for i in 0..n {
+        dst[at + i] = v;
+    }
 }
 
 // A byte as a number. Where code needs a byte's bound it calls this, and not a cast, which would ask for that bound on the spot.

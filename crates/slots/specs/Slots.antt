@@ -1,13 +1,12 @@
 -- The slots of an FCB against an entry's, one by one: each is the entry's, or holds a block that is pending for it.
-use Rattle.std.specs.Prelude.{◌≡◌, Bool, true, ℕ, ◌≤◌, ◌<◌, eqb, get_or, length}
+use Rattle.std.specs.Prelude.{◌≡◌, Bool, true, ℕ, ◌+◌, ◌≤◌, ◌<◌, eqb, get_or, length}
 use Rattle.std.proofs.Math.Path.{sym}
 use Rattle.std.proofs.Common.{ap, ◌∙◌, arith}
 use Rattle.std.proofs.Math.ListN.{get_or-eq_default}
 use borrow.Author.Tests.{eqb-true, eq-eqb, ne_eqb}
 use Rattle.lists.specs.Cases.{split, lt_or_le}
 use Rattle.lists.specs.Tests.{and_left, and_right, and_both, and_then, or_then, or_left, or_right, or_cases}
-use Rattle.lists.specs.Below.{all_below, all_at, all_intro, all_none, all_next}
-use Rattle.lists.specs.Fold.{fold_below, fold_builds}
+use Rattle.lists.specs.Below.{all_below, all_at, all_intro, all_next}
 use Rattle.std.specs.Int.Bits.{bit_or, bit_xor}
 use Rattle.lists.specs.Bits.{or_zero, xor_zero}
 use Rattle.format.specs.Diskette.{Bytes, Geometry, slot_bytes, slot_count, eight_inch}
@@ -69,11 +68,7 @@ module _ (G : Geometry) (es fs : Bytes) (l : length es ≤ slot_bytes) (k : leng
   unfolding slots_fit_rule slot_fits_rule
   same_slots_fit map e = all_intro (slot_fits_rule G map e es fs) slot_count (λ j h. or_left _ _ (eq-eqb _ _ (same_slot j)))
 
--- the bits in which the slots differ, or-ed to those before: none stands where all slots so far are the same
-abbrev pub differing : Bytes → Bytes → ℕ → ℕ → ℕ
-differing es fs d j = bit_or d (bit_xor (get_or fs j 0) (get_or es j 0))
-
-pub none_differs : (es fs : Bytes) (n : ℕ) → eqb (fold_below (differing es fs) 0 n) 0 ≡ all_below (λ (k : ℕ). eqb (get_or fs k 0) (get_or es k 0)) n
-none_differs es fs n =
-    fold_builds (λ (j d : ℕ). eqb d 0 ≡ all_below (λ (k : ℕ). eqb (get_or fs k 0) (get_or es k 0)) j) (differing es fs) 0 n (sym (all_none _))
-    (λ j d h e. or_zero d _ ∙ rw (e, xor_zero (get_or fs j 0) (get_or es j 0)) (sym (all_next _ j)))
+-- a turn of the loop that or-s the bits in which slots differ
+pub same_more : (es fs : Bytes) (d j : ℕ) → eqb d 0 ≡ all_below (λ (k : ℕ). eqb (get_or fs k 0) (get_or es k 0)) j
+    → eqb (bit_or d (bit_xor (get_or fs j 0) (get_or es j 0))) 0 ≡ all_below (λ (k : ℕ). eqb (get_or fs k 0) (get_or es k 0)) (j + 1)
+same_more es fs d j h = or_zero d _ ∙ rw (h, xor_zero (get_or fs j 0) (get_or es j 0)) (sym (all_next _ j))

@@ -26,7 +26,11 @@ pub fn same(es: &[u8], fs: &[u8]) -> bool
     requires { (slot_count ≤ length es.now) × (slot_count ≤ length fs.now) }
     ensures { result ≡ slots_same_rule es.now fs.now }
 {
-    (0..format::SLOTS).fold(0, |differ, j| differ | fs[j] ^ es[j]) == 0
+    let mut differ = 0;
+    for j in 0..format::SLOTS {
+        differ |= fs[j] ^ es[j];
+    }
+    differ == 0
 }
 
 // Whether every slot of an FCB is the entry's.

@@ -1,11 +1,10 @@
--- All of dst is overwritten with a part of src.
-use mathlib.Core.Path.{refl, ◌∙◌}
+use mathlib.Core.Path.{refl}
 use Prim.Native.Nat.{◌+◌}
 use lib.ListN.{length}
-use Rattle.lists.specs.Splice.{take_part}
+use Rattle.lists.specs.Splice.{splice_part}
 use Rattle.lists.proofs.get.Goals as goal
 
 pub returns : goal.returns
 returns c =
-    let a = c.args in
-    c.copy_from_slice.ensures.after ∙ take_part a.src.now a.at (a.at + length a.dst.now) (length a.dst.now) refl
+    let a = c in
+    splice_part a.args.src.now a.args.dst.now c.put.new.dst a.args.at (a.args.at + length a.args.dst.now) a.requires refl c.put.ensures
