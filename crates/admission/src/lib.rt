@@ -9,6 +9,7 @@ ghost use Rattle.model.specs.Table.{time_right_rule, lengths_right_rule, paramet
 use model::{Asked, Session};
 
 // Whether each of the four buffers has its length.
+#[tactic(auto, using(lists::specs::Tests::short_circuits), unfolding(model::specs::Table::lengths_right_rule, format::specs::Diskette::is_long))]
 fn lengths_right(image: &[u8], map: &[u16], fcb: &[u8], buffer: &[u8]) -> bool
     ensures { result ≡ lengths_right_rule eight_inch (lend image.now map.now fcb.now buffer.now) }
 {
@@ -25,6 +26,7 @@ fn lengths_right(image: &[u8], map: &[u16], fcb: &[u8], buffer: &[u8]) -> bool
 }
 
 // Whether hour and minute of the time that came with the call are in BCD.
+#[tactic(auto, unfolding(model::specs::Table::time_right_rule))]
 fn time_right(asked: Asked) -> bool
     ensures { result ≡ time_right_rule asked }
 {
@@ -32,6 +34,7 @@ fn time_right(asked: Asked) -> bool
 }
 
 // Whether lengths, the session's user and place, the time, and byte 0 of an FCB that is used are in range.
+#[tactic(auto, using(lists::specs::Tests::short_circuits, crate::specs::Parameters::fcb_length), unfolding(model::specs::Table::parameters_right_rule))]
 pub fn parameters_right(
     asked: Asked,
     image: &[u8],

@@ -25,6 +25,7 @@ pub fn start(chain: &mut [u8])
 }
 
 // Whether two used rows are of one file.
+#[tactic(auto, using(crate::specs::Walk::asks_same))]
 fn same_file(r: &[u8], t: &[u8]) -> bool
     requires { (entry_bytes ≤ length r.now) × (entry_bytes ≤ length t.now) × (used r.now ≡ true) × (used t.now ≡ true) }
     ensures { result ≡ same_file_rule eight_inch r.now t.now }

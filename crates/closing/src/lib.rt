@@ -29,6 +29,7 @@ pub fn close_entry(image: &mut [u8], map: &mut [u16], e: usize, fcb: &[u8])
 }
 
 // f5' and f6' in the FCB are cleared.
+#[tactic(auto, unfolding(model::specs::Closing::closed_fcb))]
 fn clear_attributes(fcb: &mut [u8])
     requires { length fcb.old ≡ fcb_bytes }
     ensures { fcb.new ≡ closed_fcb fcb.old }
@@ -38,6 +39,7 @@ fn clear_attributes(fcb: &mut [u8])
 }
 
 // Call 16, once the disk and the parameters are known to be right. The transfer buffer is not touched.
+#[tactic(auto, using(crate::specs::Laws::close_low))]
 pub fn close_file(
     image: &mut [u8],
     map: &mut [u16],

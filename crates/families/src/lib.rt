@@ -19,6 +19,7 @@ use format::ENTRIES;
 use model::{Answer, Code, Session};
 
 // Whether a row is named by the FCB, and its t1' is set.
+#[tactic(auto, using(lists::specs::Tests::and_first, lists::specs::Tests::and_fails_right))]
 fn guards(wild: bool, user: u8, fcb: &[u8], r: &[u8]) -> bool
     requires { (length fcb.now ≡ fcb_bytes) × (entry_bytes ≤ length r.now) }
     ensures { result ≡ (named wild user fcb.now 1 r.now and read_only r.now) }
@@ -35,6 +36,7 @@ fn any_read_only(image: &[u8], wild: bool, user: u8, fcb: &[u8]) -> bool
 }
 
 // Gives an entry the new name, where it has the old one.
+#[tactic(auto, unfolding(model::specs::Calls::changed_row))]
 fn rename_entry(image: &mut [u8], e: usize, user: u8, fcb: &[u8])
     requires { Long eight_inch image.old × (e < eight_inch.entries) × (length fcb.now ≡ fcb_bytes) }
     ensures { image.new ≡ changed_row eight_inch (named false user fcb.now 1) (renamed_row_rule fcb.now) image.old e }

@@ -10,6 +10,7 @@ ghost use Rattle.fresh.specs.Note.{told_note_rule};
 ghost use Rattle.maps.specs.Told.{difference_count, area_right_rule};
 
 // Whether a note is pending for a used entry.
+#[tactic(auto, using(notes::specs::Held::holder_low))]
 fn held_by_used(n: u16, image: &[u8]) -> bool
     requires { Long eight_inch image.now }
     ensures { result ≡ held_by_used_rule eight_inch (entry_at eight_inch image.now) n }
@@ -21,6 +22,7 @@ fn held_by_used(n: u16, image: &[u8]) -> bool
 }
 
 // Whether block b has a note that is right.
+#[tactic(auto, using(lists::specs::Tests::short_circuits, crate::specs::Told::right_area, crate::specs::Told::right_recorded, crate::specs::Told::right_spare))]
 fn note_right(b: usize, n: u16, marks: &[u8], image: &[u8]) -> bool
     requires { (length marks.now ≡ mark_count) × Long eight_inch image.now × (b < eight_inch.blocks) }
     ensures { Marked eight_inch (entry_at eight_inch image.now) marks.now
@@ -75,6 +77,7 @@ fn differences(map: &[u16], marks: &[u8]) -> u16
 
 // Whether the map is right for the image whose listed blocks are marked. Most maps are the fresh one: only where notes differ from it,
 // as pending ones do, is each asked for by itself.
+#[tactic(auto, using(crate::specs::Told::area_wrong, crate::specs::Told::same_right))]
 pub fn map_right(map: &[u16], marks: &[u8], image: &[u8]) -> bool
     requires { (length map.now ≡ eight_inch.blocks) × (length marks.now ≡ mark_count) × Long eight_inch image.now }
     ensures { Marked eight_inch (entry_at eight_inch image.now) marks.now

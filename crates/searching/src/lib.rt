@@ -15,6 +15,7 @@ use model::{Answer, Code, Session};
 
 // The first match from a place on: its directory record goes into the buffer, and the search goes on one past it. Without a match the
 // search is over.
+#[tactic(auto, using(hits::specs::Hits::hit_low))]
 fn first_match(
     image: &[u8],
     pattern: [u8; 12],
@@ -35,6 +36,7 @@ fn first_match(
 }
 
 // Whether an FCB's name and byte 12 may be searched for.
+#[tactic(auto, using(lists::specs::Tests::short_circuits), unfolding(crate::specs::Searches::pattern_right_rule))]
 fn pattern_right(fcb: &[u8]) -> bool
     requires { length fcb.now ≡ fcb_bytes }
     ensures { result ≡ pattern_right_rule fcb.now }

@@ -1,5 +1,4 @@
 -- `assured::one_call` meets its contract: what is the step of the model is one or the other, and keeps the frame.
-use borrow.Author.Rules.{rules}
 use Rattle.assured.specs.Demands.{told, framed}
 use Rattle.assured.proofs.one_call.Goals as goal
 

@@ -1,6 +1,5 @@
 -- `assured::read_again` meets its contract: r0 to r2 are set, and the call is made.
 use mathlib.Core.Path.{ap, ◌∙◌}
-use borrow.Author.Rules.{rules}
 use Rattle.format.specs.Diskette.{Bytes, eight_inch}
 use Rattle.model.specs.Lent.{lend}
 use Rattle.model.specs.Step.{step}

@@ -1,6 +1,5 @@
 -- `assured::run_protected` meets its contract: the script is run on the session whose protection was set.
 use mathlib.Core.Path.{ap, ◌∙◌}
-use borrow.Author.Rules.{rules}
 use Rattle.format.specs.Diskette.{eight_inch}
 use Rattle.model.specs.declared.Session.{Session}
 use Rattle.demands.specs.Runs.{disk_of, run}

@@ -1,6 +1,5 @@
 -- `assured::wrote` meets its contract: the kind of the call first, then what the answer says.
 use mathlib.Core.Path.{sym, ◌∙◌}
-use borrow.Author.Rules.{rules}
 use Rattle.lists.specs.Tests.{and_then, and_fails_left}
 use Rattle.assured.specs.Demands.{writes_answer}
 use Rattle.assured.proofs.wrote.Goals as goal

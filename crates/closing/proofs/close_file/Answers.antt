@@ -1,8 +1,6 @@
 -- The entry of the FCB decides, and a refusal comes before anything is written.
-use Prim.Native.Nat.{◌<◌}
-use borrow.Author.Rules.{rules}
 use Rattle.format.specs.Diskette.{eight_inch}
-use Rattle.closing.specs.Laws.{close_refused, close_low, close_carried}
+use Rattle.closing.specs.Laws.{close_refused, close_carried}
 use Rattle.closing.proofs.close_file.Goals as goal
 
 pub returns-in_default : goal.returns-in_default
@@ -11,14 +9,6 @@ returns-in_default c asked buffer =
     let found = c.current_entry in
     close_refused eight_inch a.image.now a.map.now a.fcb.now a.session found.result found.ensures asked buffer c.refuse.result
     c.in_default.is c.refuse.ensures
-
-pub close_entry-requires : goal.close_entry-requires
-close_entry-requires c =
-    let a = c.args in
-    let found = c.current_entry in
-    let low : c.in-Some.e < eight_inch.entries =
-    close_low eight_inch a.image.now a.map.now a.fcb.now a.session found.result found.ensures c.in-Some.e c.in-Some.is in
-    search rules
 
 pub returns : goal.returns
 returns c asked buffer =

@@ -2,10 +2,9 @@
 use Rattle.std.specs.Prelude.{Some}
 use mathlib.Core.Bool.{Bool, true}
 use mathlib.Core.Path.{◌≡◌, sym, ap, ◌∙◌}
-use Prim.Native.Nat.{ℕ, ◌%◌, ◌<◌}
+use Prim.Native.Nat.{ℕ, ◌%◌}
 use native.Mathlib.Omega.{arith}
 use lib.Dec.{ltb}
-use borrow.Author.Rules.{rules}
 use borrow.Author.Tests.{lt-ltb, le-ltb}
 use Rattle.lists.specs.Tests.{◌and◌, and_then, and_first, and_fails_left}
 use Rattle.format.specs.Diskette.{Bytes, eight_inch, slots_on}
@@ -29,12 +28,6 @@ returns-in_default c =
     let s = c in
     sym (held_none eight_inch s.args.n (usedIn s.args.image.now s.args.n) (λ e h. and_fails_left _ _ (le-ltb _ _ h))
     (sym c.holder.ensures ∙ c.in_default.is))
-
-pub row-requires : goal.row-requires
-row-requires c =
-    let known : holder_of eight_inch c.args.n ≡ Some c.in-Some.e = sym c.holder.ensures ∙ c.in-Some.is in
-    let low : c.in-Some.e < eight_inch.entries = holder_low eight_inch c.args.n c.in-Some.e known in
-    search rules
 
 pub returns : goal.returns
 unfolding held_by_used_rule held_for_rule used

@@ -1,12 +1,8 @@
 -- Each way out is one case of the definition: the search is over, or e is the first entry that the pattern hits, and a number of an entry.
 use mathlib.Core.Path.{sym, ◌∙◌}
-use Prim.Native.Nat.{◌<◌}
-use native.Mathlib.Omega.{arith}
 use Rattle.format.specs.Diskette.{eight_inch}
 use Rattle.model.specs.Lent.{lend}
-use Rattle.hits.specs.Hits.{hit_low}
 use Rattle.searching.specs.Searches.{answers_over, answers_found}
-use borrow.Author.Rules.{rules}
 use Rattle.searching.proofs.first_match.Goals as goal
 
 pub returns-in_default : goal.returns-in_default
@@ -14,15 +10,6 @@ returns-in_default c =
     let a = c.args in
     λ map fcb. answers_over eight_inch a.session (lend a.image.now map fcb a.buffer.now) a.pattern a.from c.refuse.result
     (sym c.find_hit.ensures ∙ c.in_default.is) c.refuse.ensures
-
-pub read_record-requires : goal.read_record-requires
-read_record-requires c = let low : c.in-Some.e < eight_inch.entries = hit_low _ _ _ _ _ _ c.in-Some.ensures in search rules
-
-pub overflow_add-e : goal.overflow_add-e
-overflow_add-e c = let low : c.in-Some.e < eight_inch.entries = hit_low _ _ _ _ _ _ c.in-Some.ensures in omega arith
-
-pub overflow_cast-e : goal.overflow_cast-e
-overflow_cast-e c = let low : c.in-Some.e < eight_inch.entries = hit_low _ _ _ _ _ _ c.in-Some.ensures in omega arith
 
 pub returns : goal.returns
 returns c =
