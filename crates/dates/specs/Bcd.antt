@@ -105,11 +105,11 @@ pair_sixes = 7378585041211097088
 abbrev pub pair_eights : ℕ
 pair_eights = 9838113388281462784
 
-pub time_tells : (hour minute : ℕ) → hour < 256 → minute < 256 → eqb (fault time_sixes time_eights (hour + 256 * minute)) 0 ≡ (bcd hour and bcd minute)
+pub time_tells : (hour minute : ℕ) → hour < 256 → minute < 256 → eqb (fault time_sixes time_eights (hour + minute * 256)) 0 ≡ (bcd hour and bcd minute)
 unfolding sixes eights six eight lanes all_below ◌and◌ ◌or◌
 time_tells hour minute h m =
     let f : ℕ → ℕ = λ (i : ℕ). cond (eqb i 0) hour minute in
-    let q : hour + 256 * minute ≡ lanes 2 f = omega arith in
+    let q : hour + minute * 256 ≡ lanes 2 f = omega arith in
     ap (λ (w : ℕ). eqb (fault time_sixes time_eights w) 0) q
     ∙ lanes_tell 2 (λ (i : ℕ). true) f (λ i l. cond_either (λ (x : ℕ). x < 256) (eqb i 0) (λ t. h) (λ t. m))
 

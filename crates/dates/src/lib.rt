@@ -17,19 +17,20 @@ pub const ACCESS: u8 = 64;
 
 // A 6, and an 8, for each digit of hour and minute: of a time, as two bytes, and of two stamps that stand one after the other. Where a digit's
 // 8 comes with its 4 or its 2, six added to these carries into the 8, and only there.
-const TIME_SIXES: usize = 0x6666;
+const TIME_SIXES: u16 = 0x6666;
 
-const TIME_EIGHTS: usize = 0x8888;
+const TIME_EIGHTS: u16 = 0x8888;
 
 const PAIR_SIXES: u64 = 0x6666000066660000;
 
 const PAIR_EIGHTS: u64 = 0x8888000088880000;
 
 // Whether hour and minute are two decimal digits each. Both are looked at together.
+#[tactic(auto, using(crate::specs::Bcd::time_tells), unfolding(crate::specs::Bcd::fault))]
 pub fn time_right(hour: u8, minute: u8) -> bool
     ensures { result ≡ (bcd hour and bcd minute) }
 {
-    let w = lists::wide(hour) + 256 * lists::wide(minute);
+    let w = u16::from_le_bytes([hour, minute]);
     (w & TIME_SIXES) + TIME_SIXES & w & TIME_EIGHTS == 0
 }
 
