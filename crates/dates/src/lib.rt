@@ -52,31 +52,21 @@ pub fn asks(r: &[u8], what: u8) -> bool
 }
 
 // Whether a row is a label that is right: its own two stamps, and not create and access both asked for.
+#[tactic(auto, using(lists::specs::Tests::short_circuits), unfolding(format::specs::Dates::is_label, format::specs::Dates::asks_create, format::specs::Dates::asks_access, format::specs::Dates::label_right_rule))]
 pub fn label_right(r: &[u8]) -> bool
     requires { entry_bytes ≤ length r.now }
     ensures { result ≡ label_right_rule r.now }
 {
-    if r[0] != 0x20 {
-        return false;
-    }
-    if pair_fault(r, 24) != 0 {
-        return false;
-    }
-    if asks(r, CREATE) {
-        return !asks(r, ACCESS);
-    }
-    true
+    r[0] == 0x20 && pair_fault(r, 24) == 0 && !(asks(r, CREATE) && asks(r, ACCESS))
 }
 
 // Whether a row is a date entry that is right: two stamps for each of the three entries before it.
+#[tactic(auto, using(lists::specs::Tests::short_circuits, crate::specs::Bcd::three_tell), unfolding(format::specs::Dates::is_dates, format::specs::Dates::dates_right_rule))]
 pub fn dates_right(r: &[u8]) -> bool
     requires { entry_bytes ≤ length r.now }
     ensures { result ≡ dates_right_rule r.now }
 {
-    if r[0] != 0x21 {
-        return false;
-    }
-    pair_fault(r, 1) | pair_fault(r, 11) | pair_fault(r, 21) == 0
+    r[0] == 0x21 && pair_fault(r, 1) | pair_fault(r, 11) | pair_fault(r, 21) == 0
 }
 
 // Whether the disk has date entries: the first position for one tells.
