@@ -2,6 +2,7 @@
 #![tactic(auto)]
 
 ghost use Rattle.std.specs.Prelude.{◌≡◌};
+ghost use Rattle.model.specs.Calls.{entry_number};
 ghost use Rattle.model.specs.Codes.{says_of};
 ghost use Rattle.model.specs.Lent.{ended, searching, with_user, answer_of};
 ghost use Rattle.model.specs.Step.{refused_session};
@@ -91,4 +92,18 @@ pub fn done(a: u8, session: Session) -> Answer
     ensures { result ≡ answer_of (Code.Accepted a) (ended session) }
 {
     accept(a, end_search(session))
+}
+
+// An entry's number, as A has it: its place in its record.
+pub fn entry_number(e: usize) -> u8
+    ensures { result ≡ entry_number e }
+{
+    (e % format::ENTRIES_PER_RECORD) as u8
+}
+
+// A call carried out on an entry, which ends a search: A is the entry's number.
+pub fn done_at(e: usize, session: Session) -> Answer
+    ensures { result ≡ answer_of (Code.Accepted (entry_number e)) (ended session) }
+{
+    done(entry_number(e), session)
 }

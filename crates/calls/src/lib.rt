@@ -74,14 +74,12 @@ pub fn moves_record(number: u8) -> bool
 }
 
 // Whether an answer to a call says that it was accepted.
+#[tactic(auto, using(lists::specs::Tests::short_circuits), unfolding(table::specs::Accepted::accepted_answer))]
 pub fn accepted(number: u8, answer: Answer) -> bool
     ensures { result ≡ accepted_answer number answer }
 {
-    if answer.h != 0 {
-        return false;
-    }
     if moves_record(number) {
-        return answer.a == 0;
+        return answer.h == 0 && answer.a == 0;
     }
-    answer.a != 255
+    answer.h == 0 && answer.a != 255
 }

@@ -56,5 +56,5 @@ pub fn close_file(
     };
     close_entry(image, map, e, fcb);
     clear_attributes(fcb);
-    answers::done((e % format::ENTRIES_PER_RECORD) as u8, session)
+    answers::done_at(e, session)
 }

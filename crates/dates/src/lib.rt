@@ -17,19 +17,20 @@ pub const ACCESS: u8 = 64;
 
 // A 6, and an 8, for each digit of hour and minute: of a time, as two bytes, and of two stamps that stand one after the other. Where a digit's
 // 8 comes with its 4 or its 2, six added to these carries into the 8, and only there.
-const TIME_SIXES: usize = 0x6666;
+const TIME_SIXES: u16 = 0x6666;
 
-const TIME_EIGHTS: usize = 0x8888;
+const TIME_EIGHTS: u16 = 0x8888;
 
 const PAIR_SIXES: u64 = 0x6666000066660000;
 
 const PAIR_EIGHTS: u64 = 0x8888000088880000;
 
 // Whether hour and minute are two decimal digits each. Both are looked at together.
+#[tactic(auto, using(crate::specs::Bcd::time_tells), unfolding(crate::specs::Bcd::fault))]
 pub fn time_right(hour: u8, minute: u8) -> bool
     ensures { result ≡ (bcd hour and bcd minute) }
 {
-    let w = lists::wide(hour) + 256 * lists::wide(minute);
+    let w = u16::from_le_bytes([hour, minute]);
     (w & TIME_SIXES) + TIME_SIXES & w & TIME_EIGHTS == 0
 }
 
@@ -51,31 +52,21 @@ pub fn asks(r: &[u8], what: u8) -> bool
 }
 
 // Whether a row is a label that is right: its own two stamps, and not create and access both asked for.
+#[tactic(auto, using(lists::specs::Tests::short_circuits), unfolding(format::specs::Dates::is_label, format::specs::Dates::asks_create, format::specs::Dates::asks_access, format::specs::Dates::label_right_rule))]
 pub fn label_right(r: &[u8]) -> bool
     requires { entry_bytes ≤ length r.now }
     ensures { result ≡ label_right_rule r.now }
 {
-    if r[0] != 0x20 {
-        return false;
-    }
-    if pair_fault(r, 24) != 0 {
-        return false;
-    }
-    if asks(r, CREATE) {
-        return !asks(r, ACCESS);
-    }
-    true
+    r[0] == 0x20 && pair_fault(r, 24) == 0 && !(asks(r, CREATE) && asks(r, ACCESS))
 }
 
 // Whether a row is a date entry that is right: two stamps for each of the three entries before it.
+#[tactic(auto, using(lists::specs::Tests::short_circuits, crate::specs::Bcd::three_tell), unfolding(format::specs::Dates::is_dates, format::specs::Dates::dates_right_rule))]
 pub fn dates_right(r: &[u8]) -> bool
     requires { entry_bytes ≤ length r.now }
     ensures { result ≡ dates_right_rule r.now }
 {
-    if r[0] != 0x21 {
-        return false;
-    }
-    pair_fault(r, 1) | pair_fault(r, 11) | pair_fault(r, 21) == 0
+    r[0] == 0x21 && pair_fault(r, 1) | pair_fault(r, 11) | pair_fault(r, 21) == 0
 }
 
 // Whether the disk has date entries: the first position for one tells.

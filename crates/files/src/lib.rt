@@ -12,7 +12,7 @@ ghost use Rattle.table.specs.OwnStep.{own_step};
 ghost use Rattle.chains.specs.Chain.{Findable};
 ghost use Rattle.model.specs.declared.Asked.{Asked};
 
-use format::{ENTRIES, ENTRIES_PER_RECORD};
+use format::ENTRIES;
 use model::{Answer, Code, Session};
 
 // 15: the FCB takes the entry of its name and of the extent that byte 12 gives.
@@ -28,7 +28,7 @@ pub fn open_file(image: &[u8], fcb: &mut [u8], session: Session, chain: &[u8]) -
         return answers::refuse(Code::Failed, session);
     };
     entering::enter(fcb, rows::copy_row(image, e));
-    answers::done((e % ENTRIES_PER_RECORD) as u8, session)
+    answers::done_at(e, session)
 }
 
 // 22: the first empty entry becomes the new file's, and the FCB takes it.
@@ -49,7 +49,7 @@ pub fn make_file(image: &mut [u8], fcb: &mut [u8], session: Session, chain: &[u8
     let row = entering::made_row(session.user, fcb);
     rows::store_row(image, e, row);
     entering::copy_fields(fcb, row);
-    answers::done((e % ENTRIES_PER_RECORD) as u8, session)
+    answers::done_at(e, session)
 }
 
 // The larger of a size and that of an entry, where the entry is of the file.

@@ -1,4 +1,4 @@
-// Copies of byte slices, numbers of three bytes, a byte as a number, and in specs/ the general laws of lists and tests that every other crate cites.
+// Copies of byte slices, numbers of three bytes, and in specs/ the general laws of lists and tests that every other crate cites.
 #![tactic(auto)]
 
 ghost use Rattle.std.specs.Prelude.{◌≡◌, [], ◌∷◌, ◌+◌, ◌*◌, ◌/◌, ◌%◌, ◌≤◌, ◌<◌, length, get_or};
@@ -33,19 +33,12 @@ pub fn fill(dst: &mut [u8], at: usize, n: usize, v: u8)
     }
 }
 
-// A byte as a number. Where code needs a byte's bound it calls this, and not a cast, which would ask for that bound on the spot.
-pub fn wide(x: u8) -> usize
-    ensures { (result ≡ x) × (result < 256) }
-{
-    usize::from(x)
-}
-
 // The number that three bytes make from `at` on, the first lowest.
 pub fn three(src: &[u8], at: usize) -> usize
     requires { at + 3 ≤ length src.now }
     ensures { (result ≡ get_or src.now at 0 + 256 * get_or src.now (at + 1) 0 + 65536 * get_or src.now (at + 2) 0) × (result < 16777216) }
 {
-    wide(src[at]) + 256 * wide(src[at + 1]) + 65536 * wide(src[at + 2])
+    usize::from(src[at]) + 256 * usize::from(src[at + 1]) + 65536 * usize::from(src[at + 2])
 }
 
 // Writes a number in three bytes from `at` on, the lowest first.

@@ -26,7 +26,7 @@ pub fn take_number(marks: &mut [u8], b: u8) -> u8
     requires { length marks.old ≡ mark_count }
     ensures { (result ≡ get_or marks.old b 0) × (marks.new ≡ mark_number marks.old b) }
 {
-    let at = lists::wide(b);
+    let at = usize::from(b);
     let old = marks[at];
     marks[at] = b;
     old

@@ -47,10 +47,7 @@ fn ends_later(row: &[u8], fcb: &[u8]) -> bool
     requires { (entry_bytes ≤ length row.now) × (entry_bytes ≤ length fcb.now) }
     ensures { result ≡ ends_later_rule row.now fcb.now }
 {
-    if entries::count_of(fcb) == 0 {
-        return false;
-    }
-    entries::end_of(row) < entries::end_of(fcb)
+    entries::count_of(fcb) != 0 && entries::end_of(row) < entries::end_of(fcb)
 }
 
 // A row takes the FCB's end where that is later, and else stays as it is.
@@ -107,14 +104,12 @@ pub fn record_blocks(map: &mut [u16], es: [u8; 16], fs: [u8; 16])
 
 // Whether a close is seen to leave a row as it is, as most do that a move begins with: the FCB's slots are the row's, and its end is no
 // later.
+#[tactic(auto, using(lists::specs::Tests::short_circuits), unfolding(crate::specs::Merging::close_keeps_rule))]
 pub fn close_keeps(row: &[u8], fcb: &[u8]) -> bool
     requires { (entry_bytes ≤ length row.now) × (entry_bytes ≤ length fcb.now) }
     ensures { result ≡ close_keeps_rule row.now fcb.now }
 {
-    if !current::slots_own(row, fcb) {
-        return false;
-    }
-    !ends_later(row, fcb)
+    current::slots_own(row, fcb) && !ends_later(row, fcb)
 }
 
 // Whether some slot takes the FCB's block.
@@ -125,12 +120,10 @@ fn takes_any(es: [u8; 16], fs: [u8; 16]) -> bool
 }
 
 // Whether a close changes a row: exactly, for a stamp goes by it.
+#[tactic(auto, using(lists::specs::Tests::or_right, lists::specs::Tests::or_first), unfolding(model::specs::Closing::close_changes_rule))]
 pub fn close_changes(row: &[u8], fcb: &[u8]) -> bool
     requires { (entry_bytes ≤ length row.now) × (entry_bytes ≤ length fcb.now) }
     ensures { result ≡ close_changes_rule eight_inch row.now fcb.now }
 {
-    if ends_later(row, fcb) {
-        return true;
-    }
-    takes_any(entries::slots(row), entries::slots(fcb))
+    ends_later(row, fcb) || takes_any(entries::slots(row), entries::slots(fcb))
 }

@@ -32,7 +32,7 @@ fn first_match(
     };
     disk::read_record(image, e / ENTRIES_PER_RECORD, buffer);
     let next = answers::search_from(session, pattern, (e + 1) as u16);
-    answers::accept((e % ENTRIES_PER_RECORD) as u8, next)
+    answers::accept(answers::entry_number(e), next)
 }
 
 // Whether an FCB's name and byte 12 may be searched for.

@@ -7,17 +7,13 @@ ghost use Rattle.format.specs.Fcb.{slot_fits_rule, slots_fit_rule};
 ghost use Rattle.slots.specs.Slots.{slots_same_rule};
 
 // Whether slot j of an FCB is entry e's, or holds a block that is pending for it where the entry has none.
+#[tactic(auto, using(lists::specs::Tests::short_circuits), unfolding(format::specs::Fcb::slot_fits_rule, format::specs::Entries::slot_in))]
 fn slot_fits(map: &[u16], e: usize, es: [u8; 16], fs: [u8; 16], j: usize) -> bool
     requires { (e < eight_inch.entries) × (j < slot_count) }
     ensures { result ≡ slot_fits_rule eight_inch map.now e es fs j }
 {
-    if fs[j] == es[j] {
-        return true;
-    }
-    if es[j] != 0 {
-        return false;
-    }
-    notes::note_at(map, usize::from(fs[j])) == notes::pending_note(e, j)
+    fs[j] == es[j]
+        || (es[j] == 0 && notes::note_at(map, usize::from(fs[j])) == notes::pending_note(e, j))
 }
 
 // Whether sixteen slots are the same in both: the bits in which they differ are or-ed together. Both are lent, so that a compiler takes

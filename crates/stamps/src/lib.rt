@@ -59,11 +59,11 @@ fn put_stamp(image: &mut [u8], e: usize, which: Which, stamp: [u8; 4])
 }
 
 // The time that is handed in, as a stamp.
+#[tactic(auto, unfolding(model::specs::Stamps::time_stamp_rule))]
 fn time_stamp(asked: Asked) -> [u8; 4]
     ensures { result ≡ time_stamp_rule asked }
 {
-    let low = (asked.day % 256) as u8;
-    let high = (asked.day / 256) as u8;
+    let [low, high] = asked.day.to_le_bytes();
     [low, high, asked.hour, asked.minute]
 }
 

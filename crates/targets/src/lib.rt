@@ -1,7 +1,7 @@
 // Where the record calls 20, 21, 33 and 34 go: the target, its entry, and its slot and count as the FCB will have them there.
 #![tactic(auto)]
 
-ghost use Rattle.std.specs.Prelude.{◌≡◌, ◌<◌, max, length, Some};
+ghost use Rattle.std.specs.Prelude.{◌≡◌, ◌<◌, length, Some};
 ghost use Rattle.format.specs.Diskette.{eight_inch, Long, slot_count};
 ghost use Rattle.format.specs.Entries.{entry_at, extent_of, find_file_rule};
 ghost use Rattle.format.specs.Fcb.{fcb_bytes, random_of_rule};
@@ -92,13 +92,6 @@ pub fn target_entry(
         return Some(e);
     }
     chains::find_file(image, chain, user, fcb, 1, extent)
-}
-
-// The larger of two counts.
-pub fn larger(x: u8, y: u8) -> u8
-    ensures { result ≡ max x y }
-{
-    x.max(y)
 }
 
 // Slot j as the FCB has it once it has come from entry e to entry t.

@@ -15,6 +15,6 @@ returns c asked buffer =
     let a = c.args in
     let found = c.current_entry in
     let closed = c.close_entry in
-    close_carried eight_inch a.image.now a.map.now a.fcb.now a.session found.result found.ensures asked buffer c.in-Some.e c.done.result
-    closed.new.image closed.new.map c.clear_attributes.new.fcb c.in-Some.is c.done.ensures closed.ensures.0 closed.ensures.1
+    close_carried eight_inch a.image.now a.map.now a.fcb.now a.session found.result found.ensures asked buffer c.in-Some.e c.done_at.result
+    closed.new.image closed.new.map c.clear_attributes.new.fcb c.in-Some.is c.done_at.ensures closed.ensures.0 closed.ensures.1
     c.clear_attributes.ensures

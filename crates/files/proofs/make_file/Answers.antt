@@ -44,4 +44,4 @@ returns c asked map buffer =
     let new = ap is_some (sym (c.in-None.ensures map buffer)) in
     let free = sym c.in-Some.ensures in
     carries_own eight_inch (calling 22 asked) _ _ _ (p.name & p.ex & new & found_row _ free & tt)
-    (rw (free, c.done.ensures, c.store_row.ensures, c.copy_fields.ensures, c.made_row-row.ensures))
+    (rw (free, c.done_at.ensures, c.store_row.ensures, c.copy_fields.ensures, c.made_row-row.ensures))

@@ -36,4 +36,4 @@ returns c asked map buffer =
     let p = asked_right _ (sym c.if-not-asks_right.ensures) in
     let e = sym (c.in-Some.ensures map buffer) in
     quiet_own eight_inch (calling 15 asked) _ _ _ refl (p.name & p.ex & found_row _ e & tt)
-    (rw (e, c.done.ensures, c.enter.ensures, c.copy_row.ensures, ← asked_own eight_inch run_own _ _ _ e))
+    (rw (e, c.done_at.ensures, c.enter.ensures, c.copy_row.ensures, ← asked_own eight_inch run_own _ _ _ e))

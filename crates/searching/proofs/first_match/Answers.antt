@@ -16,4 +16,4 @@ returns c =
     let a = c.args in
     λ map fcb. answers_found eight_inch a.session (lend a.image.now map fcb a.buffer.now) a.pattern a.from
     c.in-Some.e c.accept.result c.search_from-next.result c.read_record.new.buf
-    (sym c.in-Some.ensures) c.accept.ensures c.search_from-next.ensures c.read_record.ensures
+    (sym c.in-Some.ensures) (rw c.entry_number.ensures at c.accept.ensures) c.search_from-next.ensures c.read_record.ensures
