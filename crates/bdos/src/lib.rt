@@ -11,39 +11,41 @@ ghost use Rattle.model.specs.Step.{step};
 ghost use Rattle.dates.specs.Label.{Labelled};
 ghost use Rattle.chains.specs.Chain.{Indexed};
 ghost use Rattle.table.specs.Facts.{Ready};
+ghost use Rattle.records.specs.Held.{held, outcome_on, StillLent};
 ghost use Rattle.table.specs.Protection.{Unchanging};
 
 use consistent::Seen;
 use model::{Answer, Asked, Code, Kind, Session};
+use records::Buffers;
 
 // A call other than 13 that the first three rows have passed; of a protected session, one that does not change the disk. Its own function and, on a
 // disk with date entries, its stamps, which are told from the state as it came and put once the call is done.
 fn passed_call(
     kind: Kind,
     asked: Asked,
-    image: &mut [u8],
-    map: &mut [u16],
-    fcb: &mut [u8],
-    buffer: &mut [u8],
+    lent: &mut Buffers,
     session: Session,
     chain: &[u8],
     label: Option<usize>,
 ) -> Answer
     requires { (kind ≡ kind_of asked.number) × (is_call asked.number ≡ true) × (asked.number ≡ 13 → ⊥)
-        × Ready eight_inch asked (lend image.old map.old fcb.old buffer.old) session
+        × Ready eight_inch asked (held lent.old) session
         × Unchanging session asked.number
-        × Indexed eight_inch (entry_at eight_inch image.old) chain.now
-        × Labelled (entry_at eight_inch image.old) eight_inch.entries label }
-    ensures { outcome result image.new map.new fcb.new buffer.new
-        ≡ step eight_inch asked (lend image.old map.old fcb.old buffer.old) session }
+        × Indexed eight_inch (entry_at eight_inch lent.old.image.now) chain.now
+        × Labelled (entry_at eight_inch lent.old.image.now) eight_inch.entries label }
+    ensures still_lent { StillLent lent.old lent.new }
+    ensures comes_to { outcome_on lent.new result ≡ step eight_inch asked (held lent.old) session }
 {
+    let image = &mut *lent.image;
+    let map = &mut *lent.map;
+    let fcb = &mut *lent.fcb;
     let dated = dates::is_dated(image);
     let due = stamping::due(dated, kind, asked, image, map, fcb, session, chain, label);
-    let answer = dispatch::own_call(kind, asked, image, map, fcb, buffer, session, chain);
+    let answer = dispatch::own_call(kind, asked, lent, session, chain);
     if !dated {
         return answer;
     }
-    stamps::put_accepted(image, asked, answer, due);
+    stamps::put_accepted(lent.image, asked, answer, due);
     answer
 }
 
@@ -52,25 +54,22 @@ fn passed_call(
 fn ready_call(
     kind: Kind,
     asked: Asked,
-    image: &mut [u8],
-    map: &mut [u16],
-    fcb: &mut [u8],
-    buffer: &mut [u8],
+    lent: &mut Buffers,
     session: Session,
     chain: &[u8],
     label: Option<usize>,
 ) -> Answer
     requires { (kind ≡ kind_of asked.number) × (is_call asked.number ≡ true) × (asked.number ≡ 13 → ⊥)
-        × Ready eight_inch asked (lend image.old map.old fcb.old buffer.old) session
-        × Indexed eight_inch (entry_at eight_inch image.old) chain.now
-        × Labelled (entry_at eight_inch image.old) eight_inch.entries label }
-    ensures { outcome result image.new map.new fcb.new buffer.new
-        ≡ step eight_inch asked (lend image.old map.old fcb.old buffer.old) session }
+        × Ready eight_inch asked (held lent.old) session
+        × Indexed eight_inch (entry_at eight_inch lent.old.image.now) chain.now
+        × Labelled (entry_at eight_inch lent.old.image.now) eight_inch.entries label }
+    ensures still_lent { StillLent lent.old lent.new }
+    ensures comes_to { outcome_on lent.new result ≡ step eight_inch asked (held lent.old) session }
 {
     if protection::refuses(kind, session) {
         return answers::refuse(Code::Protected, session);
     }
-    passed_call(kind, asked, image, map, fcb, buffer, session, chain, label)
+    passed_call(kind, asked, lent, session, chain, label)
 }
 
 // One call, whatever it is handed: any number, lengths, bytes and session.
@@ -100,15 +99,11 @@ pub fn call(
     if number == 13 {
         return plain::log_in(map, &seen.marks, session);
     }
-    ready_call(
-        kind,
-        asked,
+    let mut lent = Buffers {
         image,
         map,
         fcb,
         buffer,
-        session,
-        &seen.chain,
-        seen.label,
-    )
+    };
+    ready_call(kind, asked, &mut lent, session, &seen.chain, seen.label)
 }

@@ -6,11 +6,12 @@ use Rattle.format.specs.Diskette.{eight_inch}
 use Rattle.model.specs.declared.Asked.{Asked}
 use Rattle.model.specs.declared.Session.{Session}
 use Rattle.model.specs.declared.Kind.{Kind}
-use Rattle.model.specs.declared.Kind.TheVariants.{Unlisted}
+use Rattle.model.specs.declared.Kind.TheVariants.{Unlisted, Read}
 use Rattle.model.specs.Kinds.{Listed, calls, line_in, kind_of, same}
 use Rattle.model.specs.Lent.{Lent, Outcome}
 use Rattle.table.specs.Own.{calling, same_self}
-use Rattle.table.specs.OwnStep.{own_step, own_at}
+use Rattle.table.specs.OwnStep.{own_step, ready_step, ready_own, own_at}
+use Rattle.table.specs.Protection.{Unchanging, not_reader, unread_spared}
 use Rattle.calls.specs.Arms.{None, passes, rest}
 
 line_number : (n : ℕ) (cs : List Listed) → (line_in n cs).number ≡ n
@@ -43,3 +44,20 @@ other_of k last c p u q ne = last_of k (Unit {0}) last (c ∷ []) p u q (tt, ne)
 pub at_number : {o : Outcome} {n : ℕ} (asked : Asked) (l : Lent) (s : Session) → asked.number ≡ n → ((a : Asked) → o ≡ own_step eight_inch (calling n a) l s)
     → o ≡ own_step eight_inch asked l s
 at_number {o} {n} asked l s q h = h asked ∙ own_at eight_inch asked l s n q
+
+-- ---- what its own function promises of a call that the protection has passed is what is asked of it
+module _ (asked : Asked) (l : Lent) (s : Session) {o : Outcome} (passed : Unchanging s asked.number) (k : Kind) (is : kind_of asked.number ≡ k) where
+  -- where it is no read, which the protection may stop
+  pub of_kind : same k Read ≡ false → o ≡ own_step eight_inch asked l s → o ≡ ready_step eight_inch asked l s
+  of_kind spared h =
+      h ∙ sym (ready_own eight_inch asked l s (unread_spared eight_inch asked l s passed (not_reader asked.number k is spared)))
+
+  -- where the kind has one call alone
+  pub of_only : (n : ℕ) → same k Read ≡ false → passes (is_last k n) [] calls ≡ true → same Unlisted k ≡ false
+      → ((a : Asked) → o ≡ own_step eight_inch (calling n a) l s) → o ≡ ready_step eight_inch asked l s
+  of_only n spared p u h = of_kind spared (at_number asked l s (only_of k n p u is) h)
+
+  -- where it has one more, which is ruled out
+  pub of_other : (n c : ℕ) → same k Read ≡ false → passes (is_last k n) (c ∷ []) calls ≡ true → same Unlisted k ≡ false → (asked.number ≡ c → ⊥)
+      → ((a : Asked) → o ≡ own_step eight_inch (calling n a) l s) → o ≡ ready_step eight_inch asked l s
+  of_other n c spared p u ne h = of_kind spared (at_number asked l s (other_of k n c p u is ne) h)

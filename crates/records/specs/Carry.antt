@@ -85,6 +85,12 @@ arrived_own {G} S ext l (Make e t b) long hf w own =
     extent_entered l.fcb next ext (omega arith) (omega arith) ∙ sym (extent_next row ext whole)
     ∙ ap extent_of (sym (entry_stored S shut kept t w.1 next full))
 
+-- and so they have in the buffers that the arrival left
+pub come_own : {G : Geometry} (S : Sound G) (ext : ℕ) (l : Lent) (p : Plan) → Long G l.drive.image → length l.fcb ≡ fcb_bytes → OnDisk G p
+    → OwnExtent G l.drive.image l.fcb ext p → (left : Lent) → left ≡ arrived G ext l p
+    → extent_of left.fcb ≡ extent_of (entry_at G left.drive.image (entry_of p))
+come_own S ext l p long hf w own left came = rw came (arrived_own S ext l p long hf w own)
+
 -- ---- what a plan has a record call do: arrive, then read or write
 module _ (G : Geometry) (s : Session) (l : Lent) (n : ℕ) where
   reading_by : (p : Plan) → reading G s l n p ≡ read_at G s l n (block_of p) (arrived G (target_extent n l.fcb) l p)

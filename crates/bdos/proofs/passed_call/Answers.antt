@@ -13,18 +13,18 @@ due-due-requires c =
       λ t. record { right = p.3.image_right; dates = sym c.is_dated-dated.ensures ∙ t; labelled = p.6 },
     )
 
-pub returns-then-not-dated : goal.returns-then-not-dated
-returns-then-not-dated c =
+pub returns-then-not-dated-clause-comes_to : goal.returns-then-not-dated-clause-comes_to
+returns-then-not-dated-clause-comes_to c =
     let s = c in
-    step_plain eight_inch s.args.asked _ s.args.session s.requires.1 s.requires.3 _ _ _ _ _ c.own_call-answer.ensures
+    step_plain eight_inch s.args.asked _ s.args.session s.requires.1 s.requires.3 _ _ _ _ _ c.own_call-answer.ensures.comes_to
     (made_undated eight_inch s.args.asked _ s.args.session (sym c.is_dated-dated.ensures ∙ c.if-not-dated.true))
 
 pub put_accepted-requires : goal.put_accepted-requires
-put_accepted-requires c = (c.own_call-answer.auto.image ∙ c.requires.3.fits.image_long, c.due-due.ensures.0)
+put_accepted-requires c = (c.own_call-answer.ensures.still_lent.image_kept ∙ c.requires.3.fits.image_long, c.due-due.ensures.0)
 
-pub returns : goal.returns
-returns c =
+pub returns-clause-comes_to : goal.returns-clause-comes_to
+returns-clause-comes_to c =
     let s = c in
     let t = c.if-not-dated.false in
-    step_stamped eight_inch s.args.asked _ s.args.session s.requires.1 s.requires.3 _ _ _ _ _ c.own_call-answer.ensures
-    (sym c.is_dated-dated.ensures ∙ t) _ (c.due-due.ensures.1 s.args.buffer.now t) _ c.put_accepted.ensures
+    step_stamped eight_inch s.args.asked _ s.args.session s.requires.1 s.requires.3 _ _ _ _ _ c.own_call-answer.ensures.comes_to
+    (sym c.is_dated-dated.ensures ∙ t) _ (c.due-due.ensures.1 s.args.lent.now.buffer.now t) _ c.put_accepted.ensures

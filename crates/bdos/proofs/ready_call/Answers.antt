@@ -7,8 +7,8 @@ use Rattle.table.proofs.Early.{stopped_step}
 use Rattle.table.specs.Protection.{changer_stopped}
 use Rattle.bdos.proofs.ready_call.Goals as goal
 
-pub returns-then-refuses : goal.returns-then-refuses
-returns-then-refuses c =
+pub returns-then-refuses-clause-comes_to : goal.returns-then-refuses-clause-comes_to
+returns-then-refuses-clause-comes_to c =
     let s = c in
     let held = sym (c.refuses.ensures s.args.asked.number (sym s.requires.0)) ∙ c.if-refuses.true in
     stopped_step eight_inch s.args.asked _ s.args.session _ s.requires.1 s.requires.3
@@ -20,6 +20,3 @@ passed_call-requires c =
     let p = s.requires in
     let free = sym (c.refuses.ensures s.args.asked.number (sym p.0)) ∙ c.if-refuses.false in
     (p.0, p.1, p.2, p.3, λ t. second_fails _ _ free t, p.4, p.5)
-
-pub returns : goal.returns
-returns c = c.passed_call.ensures

@@ -10,15 +10,17 @@ use Rattle.table.specs.OwnStep.{quiet_own}
 use Rattle.dispatch.specs.Numbers.{last_of, at_number}
 use Rattle.dispatch.proofs.quiet_call.Goals as goal
 
-pub returns-in-15 : goal.returns-in-15
-returns-in-15 c = at_number _ _ _ c.in-15.is (λ a. c.open_file.ensures a _ _)
+pub returns-in-15-clause-comes_to : goal.returns-in-15-clause-comes_to
+returns-in-15-clause-comes_to c = at_number _ _ _ c.in-15.is (λ a. c.open_file.ensures a _ _)
 
-pub returns-in-35 : goal.returns-in-35
-returns-in-35 c = at_number _ _ _ c.in-35.is (λ a. c.file_size.ensures a _ _)
+pub returns-in-35-clause-comes_to : goal.returns-in-35-clause-comes_to
+returns-in-35-clause-comes_to c = at_number _ _ _ c.in-35.is (λ a. c.file_size.ensures a _ _)
 
-pub returns-in-36 : goal.returns-in-36
-returns-in-36 c = at_number _ _ _ c.in-36.is (λ a. c.random_record.ensures a _ _ _)
+pub returns-in-36-clause-comes_to : goal.returns-in-36-clause-comes_to
+returns-in-36-clause-comes_to c = at_number _ _ _ c.in-36.is (λ a. c.random_record.ensures a _ _ _)
 
-pub returns-in_default : goal.returns-in_default
+pub returns-in_default-clause-comes_to : goal.returns-in_default-clause-comes_to
 unfolding kind_of told
-returns-in_default c = let m = c in let q = m.requires.0 in at_number _ _ _ (last_of Quiet _ 46 (15 ∷ 35 ∷ 36 ∷ []) refl refl q m.in_default.in_default-own.rest) (λ a. quiet_own eight_inch (calling 46 a) _ _ _ refl tt (c.free_space.ensures _ _))
+returns-in_default-clause-comes_to c = 
+    at_number _ _ _ (last_of Quiet _ 46 (15 ∷ 35 ∷ 36 ∷ []) refl refl c.requires.0 c.in_default.in_default-own.rest)
+    (λ a. quiet_own eight_inch (calling 46 a) _ _ _ refl tt (c.free_space.ensures _ _))

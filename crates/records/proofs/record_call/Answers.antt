@@ -3,9 +3,9 @@ use mathlib.Core.Path.{sym}
 use Rattle.format.specs.Diskette.{eight_inch}
 use Rattle.disk.specs.Eight.{eight_sound}
 use Rattle.facts.specs.Naming.{run_own}
-use Rattle.model.specs.Lent.{lend}
 use Rattle.table.specs.Protection.{record_reads}
 use Rattle.rulings.specs.Bounds.{Sure, ruling_sure}
+use Rattle.records.specs.Held.{held}
 use Rattle.records.specs.Carry.{record_refused, record_stopped, record_carried}
 use Rattle.records.proofs.record_call.Goals as goal
 
@@ -13,9 +13,9 @@ pub stops-requires : goal.stops-requires
 stops-requires c =
     let a = c.args in
     let p = c.requires in
-    let sure : Sure eight_inch a.asked.number a.image.now a.fcb.now c.in-Ok.plan =
-    ruling_sure eight_sound run_own a.asked.number (lend a.image.now a.map.now a.fcb.now a.buffer.now) a.session p.5.image_long p.0 p.2 p.5.user_low
-    c.in-Ok.plan (sym (c.in-Ok.ensures a.buffer.now)) in
+    let sure : Sure eight_inch a.asked.number a.lent.now.image.now a.lent.now.fcb.now c.in-Ok.plan =
+    ruling_sure eight_sound run_own a.asked.number (held a.lent.now) a.session p.5.image_long p.0 p.2 p.5.user_low
+    c.in-Ok.plan (sym (c.in-Ok.ensures a.lent.now.buffer.now)) in
     (p.5.image_long, p.5.fcb_long, sure.on_disk)
 
 pub follow-requires : goal.follow-requires
@@ -23,33 +23,32 @@ follow-requires c =
     let a = c.args in
     let p = c.requires in
     let t = c.target_of-target.ensures in
-    let sure : Sure eight_inch a.asked.number a.image.now a.fcb.now c.in-Ok.plan =
-    ruling_sure eight_sound run_own a.asked.number (lend a.image.now a.map.now a.fcb.now a.buffer.now) a.session p.5.image_long p.0 p.2 p.5.user_low
-    c.in-Ok.plan (sym (c.in-Ok.ensures a.buffer.now)) in
+    let sure : Sure eight_inch a.asked.number a.lent.now.image.now a.lent.now.fcb.now c.in-Ok.plan =
+    ruling_sure eight_sound run_own a.asked.number (held a.lent.now) a.session p.5.image_long p.0 p.2 p.5.user_low
+    c.in-Ok.plan (sym (c.in-Ok.ensures a.lent.now.buffer.now)) in
     (rw t.extent sure.extent, rw t.at sure.at, rw t.after sure.after, sure.on_disk, rw (← t.extent) at sure.own, (p.5.image_long, p.0, p.5.fcb_long, p.1))
 
 -- the protection stops it
-pub returns-then-stops : goal.returns-then-stops
-returns-then-stops c =
+pub returns-then-stops-clause-comes_to : goal.returns-then-stops-clause-comes_to
+returns-then-stops-clause-comes_to c =
     let a = c.args in
     let p = c.requires in
-    record_stopped eight_inch a.asked (lend a.image.now a.map.now a.fcb.now a.buffer.now) a.session c.refuse-then-stops.result p.3
-    (λ t. record_reads a.asked.number p.3 (p.4 t)) c.in-Ok.plan (sym (c.in-Ok.ensures a.buffer.now))
-    (sym (c.if-stops.ensures a.map.now a.buffer.now)) c.refuse-then-stops.ensures
+    record_stopped eight_inch a.asked (held a.lent.now) a.session c.refuse-then-stops.result p.3
+    (λ t. record_reads a.asked.number p.3 (p.4 t)) c.in-Ok.plan (sym (c.in-Ok.ensures a.lent.now.buffer.now))
+    (sym (c.if-stops.ensures a.lent.now.map.now a.lent.now.buffer.now)) c.refuse-then-stops.ensures
 
 -- its ruling refuses it
-pub returns-in-Err : goal.returns-in-Err
-returns-in-Err c =
+pub returns-in-Err-clause-comes_to : goal.returns-in-Err-clause-comes_to
+returns-in-Err-clause-comes_to c =
     let a = c.args in
     let p = c.requires in
-    record_refused eight_inch a.asked (lend a.image.now a.map.now a.fcb.now a.buffer.now) a.session c.refuse.result p.3
-    (λ t. record_reads a.asked.number p.3 (p.4 t)) c.in-Err.code (sym (c.in-Err.ensures a.buffer.now)) c.refuse.ensures
+    record_refused eight_inch a.asked (held a.lent.now) a.session c.refuse.result p.3
+    (λ t. record_reads a.asked.number p.3 (p.4 t)) c.in-Err.code (sym (c.in-Err.ensures a.lent.now.buffer.now)) c.refuse.ensures
 
-pub returns-else-stops : goal.returns-else-stops
-returns-else-stops c =
+pub returns-else-stops-clause-comes_to : goal.returns-else-stops-clause-comes_to
+returns-else-stops-clause-comes_to c =
     let a = c.args in
     let p = c.requires in
-    let left = c.follow.new in
-    record_carried eight_inch a.asked (lend a.image.now a.map.now a.fcb.now a.buffer.now) a.session c.done.result p.3
-    (λ t. record_reads a.asked.number p.3 (p.4 t)) c.in-Ok.plan c.target_of-target.result (lend left.image left.map left.fcb left.buffer)
-    (sym (c.in-Ok.ensures a.buffer.now)) (sym (c.if-stops.ensures a.map.now a.buffer.now)) c.target_of-target.ensures c.done.ensures c.follow.ensures
+    record_carried eight_inch a.asked (held a.lent.now) a.session c.done.result p.3
+    (λ t. record_reads a.asked.number p.3 (p.4 t)) c.in-Ok.plan c.target_of-target.result (held c.follow.new.lent)
+    (sym (c.in-Ok.ensures a.lent.now.buffer.now)) (sym (c.if-stops.ensures a.lent.now.map.now a.lent.now.buffer.now)) c.target_of-target.ensures c.done.ensures c.follow.ensures.comes_to
