@@ -38,7 +38,7 @@ pub fn set_user(s: Session, user: u8) -> Session
     Session { user, ..s }
 }
 
-// A code's line: A, H, and whether a search is over with it, as document 01 has them.
+// A code's line: A, H, and whether a search is over with it, as document 01 has them: the third says nothing of the other two.
 #[derive(Clone, Copy)]
 struct Line(u8, u8, bool);
 

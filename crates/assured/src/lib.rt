@@ -16,14 +16,14 @@ ghost use Rattle.assured.specs.Demands.{log_in, writes_answer, target_set, Told,
 use model::{Answer, Asked, Session};
 use targets::Target;
 
-// What a run comes to: whether its first call was accepted, and the session that it left.
+// What a run comes to: whether its first call was accepted, and the session that it left, which there is either way.
 #[derive(Clone, Copy)]
 pub struct Ran {
     pub accepted: bool,
     pub session: Session,
 }
 
-// What a write and a read after it come to: whether a write was accepted, and what the last call made answered.
+// What a write and a read after it come to: whether a write was accepted, and what the last call made answered, which there is either way.
 #[derive(Clone, Copy)]
 pub struct ReadBack {
     pub accepted: bool,

@@ -16,7 +16,7 @@ ghost use Rattle.records.specs.Held.{held, outcome_on, StillLent};
 use model::{Answer, Asked, Code, Kind, Session};
 use records::Buffers;
 
-// The quiet calls, each by its number.
+// The quiet calls, each by its number. They are handed different buffers, so they are named in a match and not in a table.
 fn quiet_call(asked: Asked, lent: &mut Buffers, session: Session, chain: &[u8]) -> Answer
     requires { (kind_of asked.number ≡ Quiet) × Fits eight_inch (held lent.old) session
         × Indexed eight_inch (entry_at eight_inch lent.old.image.now) chain.now }
@@ -48,6 +48,7 @@ fn search_call(asked: Asked, lent: &mut Buffers, session: Session) -> Answer
 }
 
 // Every call but 13, once the first three rows of the table have passed it; of a protected session, one that does not change the disk. Its kind is handed in.
+// The kinds are all there are and their calls are handed different buffers: a match names them.
 pub fn own_call(
     kind: Kind,
     asked: Asked,

@@ -38,7 +38,7 @@ pub enum Pick {
     Other(u8, u8),
 }
 
-// What a run tells, and whether it handed out the word.
+// What a run tells, and whether it handed out the word: that stands in the bytes lent for it, so there is no value beside the test.
 #[derive(Clone, Copy)]
 pub struct Told {
     pub pick: Pick,

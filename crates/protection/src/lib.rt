@@ -9,7 +9,7 @@ ghost use Rattle.model.specs.Table.{changers};
 
 use model::{Kind, Session};
 
-// The session with its protection lifted, until it is set again; all else stays.
+// The session with its protection lifted, until it is set again; all else stays. Lifting and setting are two, as hosts call them.
 pub fn lift(s: Session) -> Session
     ensures { result ≡ lift s }
 {

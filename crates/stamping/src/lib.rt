@@ -179,7 +179,7 @@ impl<'a> Before<'a> {
         self.move_due(e)
     }
 
-    // The stamps of a call by its kind.
+    // The stamps of a call by its kind; a match, which is held against the list of kinds.
     fn kind_due(&self, kind: Kind) -> Due
         requires { kind ≡ kind_of self.now.asked.number }
         ensures { Puttable eight_inch result × ((buffer : Bytes)
