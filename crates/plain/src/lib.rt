@@ -42,6 +42,7 @@ pub fn user_number(asked: Asked, session: Session) -> Answer
 }
 
 // Whether ex, s2 and cr are in range.
+#[tactic(auto, using(lists::specs::Tests::short_circuits), unfolding(model::specs::Table::position_right_rule))]
 fn position_right(fcb: &[u8]) -> bool
     requires { length fcb.now ≡ fcb_bytes }
     ensures { result ≡ position_right_rule fcb.now }
@@ -64,6 +65,7 @@ pub fn random_record(fcb: &mut [u8], session: Session) -> Answer
 }
 
 // 46: the records of the free blocks into the buffer's first three bytes.
+#[tactic(auto, unfolding(model::specs::Calls::space))]
 pub fn free_space(map: &[u16], buffer: &mut [u8], session: Session) -> Answer
     requires { (length map.now ≡ eight_inch.blocks) × (length buffer.old ≡ record_bytes) }
     ensures { (image fcb : Bytes) → let l = lend image map.now fcb buffer.old in
