@@ -47,7 +47,8 @@ fn search_call(asked: Asked, lent: &mut Buffers, session: Session) -> Answer
     searching::search_next(image, lent.buffer, session)
 }
 
-// Every call but 13, once the first three rows of the table have passed it; of a protected session, one that does not change the disk. Its kind is handed in.
+// Every call but 13, once the first three rows of the table have passed it; of a protected session, one that does not change the disk. Its kind is
+// handed in.
 pub fn own_call(
     kind: Kind,
     asked: Asked,
