@@ -47,8 +47,8 @@ fn search_call(asked: Asked, lent: &mut Buffers, session: Session) -> Answer
     searching::search_next(image, lent.buffer, session)
 }
 
-// Every call but 13, once the first three rows of the table have passed it; of a protected session, one that does not change the disk. Its kind is handed in.
-// The kinds are all there are and their calls are handed different buffers: a match names them.
+// Every call but 13, once the first three rows of the table have passed it; of a protected session, one that does not change the disk. Its kind is
+// handed in. The kinds are all there are and their calls are handed different buffers: a match names them.
 pub fn own_call(
     kind: Kind,
     asked: Asked,

@@ -5,10 +5,14 @@ use Rattle.std.proofs.Math.Path.{sym}
 use Rattle.std.proofs.Common.{ap, ◌∙◌, arith}
 use Rattle.std.proofs.Math.Bool.{true, false}
 use Rattle.lists.specs.Tests.{◌and◌}
-use Rattle.format.specs.Diskette.{Bytes, Geometry, Sound, Long, entry_bytes}
+use Rattle.format.specs.Diskette.{Bytes, Geometry, eight_inch, Sound, Long, entry_bytes}
 use Rattle.format.specs.Entries.{entry_at, extent_of, slot_for_rule}
 use Rattle.format.specs.Fcb.{fcb_bytes}
+use Rattle.format.specs.Consistent.{consistent}
+use Rattle.disk.specs.Eight.{eight_sound}
 use Rattle.facts.specs.Long.{long_on}
+use Rattle.facts.specs.Naming.{run_own}
+use Rattle.chains.specs.Chain.{Findable}
 use Rattle.rows.specs.Entries.{entry_stored}
 use Rattle.fields.specs.Images.{length_closed_image, length_row_closed}
 use Rattle.fields.specs.Entering.{extent_entered}
@@ -34,7 +38,7 @@ use Rattle.table.specs.Plans.{entry_of}
 use Rattle.targets.specs.declared.Target.{Target}
 use Rattle.targets.specs.Target.{TargetOf}
 use Rattle.rulings.specs.Ruling.{ruling}
-use Rattle.rulings.specs.Bounds.{OnDisk, OwnExtent}
+use Rattle.rulings.specs.Bounds.{OnDisk, OwnExtent, Sure, ruling_sure}
 use Rattle.rulings.specs.Own.{own_record}
 use Rattle.rulings.specs.Stopped.{refuse_spared, follow_stopped, follow_spared}
 
@@ -90,6 +94,13 @@ pub come_own : {G : Geometry} (S : Sound G) (ext : ℕ) (l : Lent) (p : Plan) �
     → OwnExtent G l.drive.image l.fcb ext p → (left : Lent) → left ≡ arrived G ext l p
     → extent_of left.fcb ≡ extent_of (entry_at G left.drive.image (entry_of p))
 come_own S ext l p long hf w own left came = rw came (arrived_own S ext l p long hf w own)
+
+-- a plan that a ruling on a right disk makes is within the disk's bounds
+pub plan_sure : (n : ℕ) (l : Lent) (s : Session) {chain : Bytes} → length l.drive.map ≡ eight_inch.blocks → consistent eight_inch l.drive.image ≡ true
+    → Findable eight_inch l.drive.image chain s.user l.fcb → (p : Plan) → Ok p ≡ ruling eight_inch n s.user l
+    → Sure eight_inch n l.drive.image l.fcb p
+plan_sure n l s long right f p ruled =
+    ruling_sure eight_sound run_own n l s f.image_long long right f.user_low p (sym ruled)
 
 -- ---- what a plan has a record call do: arrive, then read or write
 module _ (G : Geometry) (s : Session) (l : Lent) (n : ℕ) where

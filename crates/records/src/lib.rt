@@ -22,7 +22,8 @@ ghost use Rattle.records.specs.Held.{held, outcome_on, StillLent};
 use model::{Answer, Asked, Code, Plan, Session};
 use targets::Target;
 
-// The four buffers that a call is lent, as they pass from function to function.
+// The four buffers that a call is lent, as they pass from function to function. A field that is only read is handed on as `&mut` too where another
+// is lent beside it: Rattle has no rule for a `&` there.
 #[derive(Drop)]
 pub struct Buffers<'a> {
     pub image: &'a mut [u8],

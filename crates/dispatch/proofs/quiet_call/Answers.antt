@@ -21,6 +21,6 @@ returns-in-36-clause-comes_to c = at_number _ _ _ c.in-36.is (λ a. c.random_rec
 
 pub returns-in_default-clause-comes_to : goal.returns-in_default-clause-comes_to
 unfolding kind_of told
-returns-in_default-clause-comes_to c = 
+returns-in_default-clause-comes_to c =
     at_number _ _ _ (last_of Quiet _ 46 (15 ∷ 35 ∷ 36 ∷ []) refl refl c.requires.0 c.in_default.in_default-own.rest)
     (λ a. quiet_own eight_inch (calling 46 a) _ _ _ refl tt (c.free_space.ensures _ _))
