@@ -98,6 +98,7 @@ pub fn done(a: u8, session: Session) -> Answer
 pub fn entry_number(e: usize) -> u8
     ensures { result ≡ entry_number e }
 {
+    // The number fits: the cast loses nothing.
     (e % format::ENTRIES_PER_RECORD) as u8
 }
 

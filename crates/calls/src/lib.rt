@@ -9,7 +9,7 @@ ghost use Rattle.table.specs.Accepted.{accepted_answer};
 
 use model::{Answer, Kind};
 
-// The kind of a number; one that is not there is of no call.
+// The kind of a number; one that is not there is of no call. Each arm is a single number, so that this is one look-up.
 pub fn kind_of(number: u8) -> Kind
     ensures { result ≡ kind_of number }
 {

@@ -33,7 +33,8 @@ fn same_file(r: &[u8], t: &[u8]) -> bool
     lookups::is_file(t[0], t, 1, entries::extent(t), r)
 }
 
-// The entry that a number of the chains names, where it is not 0.
+// The entry that a number of the chains names, where it is not 0. Links are numbers in fixed memory, as there is no heap; each says where the
+// next look is, so a walk is a `while let`.
 fn linked(chain: &[u8], at: usize) -> Found
     requires { at < length chain.now }
     ensures { past result ≡ get_or chain.now at 0 }
@@ -71,6 +72,7 @@ pub fn take_key(image: &[u8], e: usize, r: &[u8], chain: &mut [u8]) -> bool
 {
     let k = keys::key(r);
     chain[KEYS + e] = chain[k];
+    // The number fits: the cast loses nothing.
     chain[k] = (e + 1) as u8;
     is_alone(image, e, r, chain)
 }

@@ -43,7 +43,7 @@ fn pair_fault(r: &[u8], at: usize) -> u64
     (w & PAIR_SIXES) + PAIR_SIXES & w & PAIR_EIGHTS
 }
 
-// Whether a label asks for the stamps of a bit.
+// Whether a label asks for the stamps of a bit. Any bit may be asked for: the promise holds of every one.
 pub fn asks(r: &[u8], what: u8) -> bool
     requires { (entry_bytes ≤ length r.now) × (0 < what) }
     ensures { result ≡ asks_bit what r.now }

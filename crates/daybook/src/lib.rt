@@ -58,6 +58,7 @@ fn digit_at(n: u16, ten: u16) -> u8
     requires { 0 < ten }
     ensures { result ≡ digit n ten }
 {
+    // The number fits: the cast loses nothing.
     (48 + n / ten % 10) as u8
 }
 
@@ -150,7 +151,7 @@ pub fn tells_day(year: u16, day: u16, answer: Answer, bytes: [u8; 128]) -> bool
     record_accepted(answer) && has_stamp(year, day, bytes)
 }
 
-// Whether A and H are these.
+// Whether A and H are these: they, and not codes, are what the calls' contracts speak of.
 pub fn is_code(a: u8, h: u8, answer: Answer) -> bool
     ensures { (l : Lent) → result ≡ is_code a h (said answer l) }
 {

@@ -55,6 +55,7 @@ pub fn next_row(row: [u8; 32], ext: usize) -> [u8; 32]
 {
     let mut r = [0u8; 32];
     lists::put(&mut r, 0, &row[0..12]);
+    // The numbers fit: the casts lose nothing.
     r[12] = (ext % 32) as u8;
     r[14] = (ext / 32) as u8;
     r

@@ -11,7 +11,8 @@ ghost use Rattle.heads.specs.Head.{fields_right_rule, row_right_rule, head_fault
 use faults::HEAD_BYTES;
 
 // What each byte may be, from the user to rc: the bits that count, the lowest and the highest number that they may make, and one
-// between that they may not. The specs of `faults` show that these are the rules.
+// between that they may not. The specs of `faults` show that these are the rules. Four tables side by side: all sixteen bytes are taken at
+// once only where each table is an array of bytes.
 const COUNTED: [u8; HEAD_BYTES] = [
     255, 127, 127, 127, 127, 127, 127, 127, 127, 127, 127, 127, 255, 0, 255, 0,
 ];

@@ -14,7 +14,7 @@ pub fn half(r: &[u8], at: usize) -> u64
     u64::from(u32::from_le_bytes([r[at], r[at + 1], r[at + 2], r[at + 3]]))
 }
 
-// Eight bytes from `at` on, the first lowest.
+// Eight bytes from `at` on, the first lowest. Two halves, for one load of each.
 #[tactic(auto, using(crate::specs::Lanes::word_sum, crate::specs::Lanes::word_bytes))]
 pub fn word(r: &[u8], at: usize) -> u64
     requires { at + 8 ≤ length r.now }

@@ -46,6 +46,7 @@ pub fn put_three(dst: &mut [u8], at: usize, n: usize)
     requires { at + 3 ≤ length dst.old }
     ensures { dst.new ≡ splice dst.old at (n % 256 ∷ (n / 256 % 256 ∷ (n / 65536 % 256 ∷ []))) }
 {
+    // The numbers fit: the casts lose nothing.
     let bytes = [
         (n % 256) as u8,
         (n / 256 % 256) as u8,

@@ -25,6 +25,7 @@ pub fn pending_note(e: usize, j: usize) -> u16
     requires { (e < eight_inch.entries) × (j < slot_count) }
     ensures { result ≡ pending_for e j }
 {
+    // The number fits: the cast loses nothing.
     (PENDING + PLACES * e + j) as u16
 }
 

@@ -32,6 +32,7 @@ pub fn set_written(fcb: &mut [u8], count: u8, j: usize, b: usize, r: usize, cr: 
     requires { (length fcb.old ≡ fcb_bytes) × (j < slot_count) × (b < eight_inch.blocks) × (r < extent_records) × (cr ≤ extent_records) }
     ensures { fcb.new ≡ written_fcb eight_inch fcb.old count j b r cr }
 {
+    // The numbers fit: the casts lose nothing.
     let rc = entries::count_of(fcb).max(count).max((r + 1) as u8);
     fcb[16 + j] = b as u8;
     fcb[15] = rc;

@@ -30,6 +30,7 @@ fn asked_at(script: &[usize], at: usize) -> Asked
     requires { at + 7 ≤ length script.now }
     ensures { result ≡ asked_at_rule script.now at }
 {
+    // The numbers fit: the casts lose nothing.
     Asked {
         number: (script[at] % 256) as u8,
         argument: (script[at + 1] % 256) as u8,

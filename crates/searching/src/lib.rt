@@ -31,6 +31,7 @@ fn first_match(
         return answers::refuse(Code::SearchOver, session);
     };
     disk::read_record(image, e / ENTRIES_PER_RECORD, buffer);
+    // The number fits: the cast loses nothing.
     let next = answers::search_from(session, pattern, (e + 1) as u16);
     answers::accept(answers::entry_number(e), next)
 }

@@ -17,6 +17,7 @@ pub fn read_at(image: &[u8], fcb: &mut [u8], buffer: &mut [u8], b: usize, r: usi
         ≡ have_read eight_inch b r cr (lend image.now map fcb.old buffer.old) }
 {
     disk::read_record(image, placing::place_in(b, r), buffer);
+    // The number fits: the cast loses nothing.
     fcb[32] = cr as u8;
 }
 
