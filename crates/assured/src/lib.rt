@@ -50,6 +50,7 @@ pub fn one_call(
 }
 
 // Whether an answer is that of a write that was accepted.
+#[tactic(auto, using(lists::specs::Tests::short_circuits), unfolding(crate::specs::Demands::writes_answer))]
 fn wrote(number: u8, answer: Answer) -> bool
     ensures { result ≡ writes_answer number answer }
 {
