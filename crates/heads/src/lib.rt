@@ -47,7 +47,7 @@ pub fn row_right(r: &[u8]) -> bool
     lanes::word(&faults, 0) | lanes::word(&faults, 8) == 0
 }
 
-// Whether a row or an FCB has a name, ex and s2 in range, whatever its byte 0 is.
+// Whether a row or an FCB has a name, ex and s2 in range, whatever its byte 0 is. Two functions: a parameter would say less than their names.
 #[tactic(auto, using(crate::specs::Head::fields_tell))]
 pub fn fields_right(r: &[u8]) -> bool
     requires { entry_bytes ≤ length r.now }

@@ -4,7 +4,7 @@
 ghost use Rattle.std.specs.Prelude.{◌≡◌, [], ◌∷◌, ◌+◌, ◌*◌, ◌/◌, ◌%◌, ◌≤◌, ◌<◌, length, get_or};
 ghost use Rattle.lists.specs.Splice.{splice, part, copies};
 
-// Copies all of src into dst, from `at` on. A loop, and not the library's copy: the archive calls nothing of the C library.
+// Copies all of src into dst, from `at` on. A loop, and not the library's copy: for that the archive would call the C library's.
 pub fn put(dst: &mut [u8], at: usize, src: &[u8])
     requires { at + length src.now ≤ length dst.old }
     ensures { dst.new ≡ splice dst.old at src.now }

@@ -59,7 +59,7 @@ fn make_next(lent: &mut Buffers, e: usize, t: usize, extent: usize)
     entering::enter(lent.fcb, row);
 }
 
-// The FCB comes to the target's extent, as the plan says.
+// The FCB comes to the target's extent, as the plan says: a match, since each kind of plan brings other entries.
 fn arrive(lent: &mut Buffers, plan: Plan, extent: usize)
     requires { Long eight_inch lent.old.image.now × (length lent.old.fcb.now ≡ fcb_bytes) × (extent < extents) × OnDisk eight_inch plan
         × OwnExtent eight_inch lent.old.image.now lent.old.fcb.now extent plan }

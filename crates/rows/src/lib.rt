@@ -59,7 +59,7 @@ pub fn three_empty(four: &[u8]) -> bool
     (0..3).all(|i| four[i * ENTRY_BYTES] == 0xE5)
 }
 
-// Whether all four are, as in most records of a directory without date entries.
+// Whether all four are, as in most records of a directory without date entries. Two functions: a parameter would say less than their names.
 pub fn all_empty(four: &[u8]) -> bool
     requires { length four.now ≡ record_bytes }
     ensures { result ≡ all_below (λ (i : ℕ). empty (row_of four.now i)) entries_per_record }
