@@ -92,12 +92,19 @@ pub fn call(
     if !admission::parameters_right(asked, image, map, fcb, buffer, session) {
         return answers::refuse(Code::BadParameter, session);
     }
-    let mut seen = Seen::new();
+    let mut marks = [0u8; format::MARKS];
+    let mut chain = [0u8; chains::CHAIN_BYTES];
+    let mut seen = Seen {
+        marks: &mut marks,
+        chain: &mut chain,
+        label: None,
+        dates: 0,
+    };
     if !checking::disk_right(asked, image, map, &mut seen) {
         return answers::refuse(Code::BadDisk, session);
     }
     if number == 13 {
-        return plain::log_in(map, &seen.marks, session);
+        return plain::log_in(map, seen.marks, session);
     }
     let mut lent = Buffers {
         image,
@@ -105,5 +112,6 @@ pub fn call(
         fcb,
         buffer,
     };
-    ready_call(kind, asked, &mut lent, session, &seen.chain, seen.label)
+    let label = seen.label;
+    ready_call(kind, asked, &mut lent, session, seen.chain, label)
 }

@@ -1,2 +1,3 @@
 pub mod Dating
+pub mod Held
 pub mod Pass

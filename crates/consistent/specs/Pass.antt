@@ -42,8 +42,8 @@ entry_fits G d e =
 -- what stands after the first n entries, by what was seen of them
 pub record Passed (G : Geometry) (d : Rows) (n : ℕ) (s : Seen) : Type 0 where
   pub fits : all_below (entry_fits G d) n ≡ true
-  pub blocks : BlockMarks G d (slot_count * n) s.marks
-  pub chained : Chained G d n s.chain
+  pub blocks : BlockMarks G d (slot_count * n) s.marks.now
+  pub chained : Chained G d n s.chain.now
   pub labelled : Labelled d n s.label
   pub dating : Dating d n s.dates
 
@@ -177,9 +177,8 @@ module _ (G : Geometry) (d : Rows) (e : ℕ) where
 
 -- ---- what stands before the first entry, and after one more
 module _ (G : Geometry) (d : Rows) where
-  pub passed_none : (marks chain : Bytes) → BlockMarks G d 0 marks → Chained G d 0 chain
-      → Passed G d 0 record { marks = marks; chain = chain; label = None; dates = 0 }
-  passed_none marks chain m c = record { fits = all_none _; blocks = m; chained = c; labelled = labelled_start d; dating = dating_start d }
+  pub passed_none : (s : Seen) → BlockMarks G d 0 s.marks.now → Chained G d 0 s.chain.now → s.label ≡ None → s.dates ≡ 0 → Passed G d 0 s
+  passed_none s m c l k = record { fits = all_none _; blocks = m; chained = c; labelled = rw l (labelled_start d); dating = rw k (dating_start d) }
 
   module _ (e : ℕ) (s : Seen) (p : Passed G d e s) where
     -- an entry that is not used leaves marks and chain
@@ -187,8 +186,8 @@ module _ (G : Geometry) (d : Rows) where
         → Passed G d (e + 1) record { marks = s.marks; chain = s.chain; label = b; dates = k }
     unused_passed b k f u l t = record {
       fits = all_more _ e p.fits f;
-      blocks = marks_skip G d e s.marks u p.blocks;
-      chained = chained_skip G d e s.chain u p.chained;
+      blocks = marks_skip G d e s.marks.now u p.blocks;
+      chained = chained_skip G d e s.chain.now u p.chained;
       labelled = l;
       dating = t;
     }
@@ -225,17 +224,17 @@ module _ (G : Geometry) (d : Rows) where
         (λ q. entry_fails G d e h (label_fails G d e s.label z r q p.labelled (rw q at t)))
 
     -- an entry that is a file's, on a disk whose block numbers are one byte
-    pub passed_used : (narrow : (r : Bytes) (j : ℕ) → j < slot_count → slot_of G r j ≡ get_or r (16 + j) 0) (marks chain : Bytes) → row_right_rule (d e) ≡ true
-        → ((j : ℕ) → j < slot_count → slot_of G (d e) j < mark_count) → entry_fits G d e ≡ true → marks ≡ mark_slots s.marks (d e) slot_count
-        → Chained G d (e + 1) chain → Passed G d (e + 1) record { marks = marks; chain = chain; label = s.label; dates = s.dates }
-    passed_used narrow marks chain r bytes f q l =
+    pub passed_used : (narrow : (r : Bytes) (j : ℕ) → j < slot_count → slot_of G r j ≡ get_or r (16 + j) 0) (t : Seen) → row_right_rule (d e) ≡ true
+        → ((j : ℕ) → j < slot_count → slot_of G (d e) j < mark_count) → entry_fits G d e ≡ true → t.marks.now ≡ mark_slots s.marks.now (d e) slot_count
+        → Chained G d (e + 1) t.chain.now → t.label ≡ s.label → t.dates ≡ s.dates → Passed G d (e + 1) t
+    passed_used narrow t r bytes f q l same as_many =
         let u = row_used (d e) r in
         record {
           fits = all_more _ e p.fits f;
-          blocks = rw q (marks_row G d narrow e s.marks u bytes p.blocks);
+          blocks = rw q (marks_row G d narrow e s.marks.now u bytes p.blocks);
           chained = l;
-          labelled = labelled_skip d e _ (used_no_label (d e) u) p.labelled;
-          dating = dating_skip d e _ (used_no_dates (d e) u) p.dating;
+          labelled = rw same (labelled_skip d e _ (used_no_label (d e) u) p.labelled);
+          dating = rw as_many (dating_skip d e _ (used_no_dates (d e) u) p.dating);
         }
 
   -- entries that are all empty
@@ -246,7 +245,7 @@ module _ (G : Geometry) (d : Rows) where
       rw q at (passed_empty (m + n) s (passed_empties m n (λ i l. h i (omega arith)) s p) (h n (omega arith)))
 
   -- ---- what stands at the end: a look-up can go by the chains
-  pub passed_all : (s : Seen) → Passed G d G.entries s → Indexed G d s.chain
+  pub passed_all : (s : Seen) → Passed G d G.entries s → Indexed G d s.chain.now
   unfolding entry_fits
   passed_all s p = record {
     chained = p.chained;

@@ -23,7 +23,7 @@ disk_right-requires c =
 pub returns-then-not-disk_right : goal.returns-then-not-disk_right
 returns-then-not-disk_right c =
     disk_step eight_inch _ _ _ _ (called _ c.is_listed.ensures c.kind_of-kind.ensures ∙ c.if-not-is_listed.false)
-    (sym c.parameters_right.ensures ∙ c.if-not-parameters_right.false) (sym (c.disk_right.ensures.0 _ _) ∙ c.if-not-disk_right.true)
+    (sym c.parameters_right.ensures ∙ c.if-not-parameters_right.false) (sym (c.disk_right.ensures.tells.0 _ _) ∙ c.if-not-disk_right.true)
     c.refuse-then-not-disk_right.ensures
 
 pub log_in-requires : goal.log_in-requires
@@ -35,17 +35,17 @@ returns-then-number-eq13 c =
     let a = c.args.asked in
     let right = c.if-not-disk_right.false in
     log_in_step eight_inch a _ _ c.if-number-eq13.true (called _ c.is_listed.ensures c.kind_of-kind.ensures ∙ c.if-not-is_listed.false)
-    (ready_of eight_inch _ _ _ (sym c.parameters_right.ensures ∙ c.if-not-parameters_right.false) (sym (c.disk_right.ensures.0 _ _) ∙ right))
-    _ _ _ _ _ (c.log_in.ensures a _ _ _ (c.disk_right.ensures.1 right).0)
+    (ready_of eight_inch _ _ _ (sym c.parameters_right.ensures ∙ c.if-not-parameters_right.false) (sym (c.disk_right.ensures.tells.0 _ _) ∙ right))
+    _ _ _ _ _ (c.log_in.ensures a _ _ _ (c.disk_right.ensures.tells.1 right).0)
 
 pub ready_call-requires : goal.ready_call-requires
 ready_call-requires c =
     let right = c.if-not-disk_right.false in
-    let seen = c.disk_right.ensures.1 right in (
+    let seen = c.disk_right.ensures.tells.1 right in (
       c.kind_of-kind.ensures,
       called _ c.is_listed.ensures c.kind_of-kind.ensures ∙ c.if-not-is_listed.false,
       c.if-number-eq13.false,
-      ready_of eight_inch _ _ _ (sym c.parameters_right.ensures ∙ c.if-not-parameters_right.false) (sym (c.disk_right.ensures.0 _ _) ∙ right),
+      ready_of eight_inch _ _ _ (sym c.parameters_right.ensures ∙ c.if-not-parameters_right.false) (sym (c.disk_right.ensures.tells.0 _ _) ∙ right),
       seen.1,
       seen.2,
     )

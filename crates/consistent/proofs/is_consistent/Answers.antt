@@ -13,36 +13,36 @@ use Rattle.lists.specs.Cases.{clash}
 use borrow.Author.Tests.{eq-eqb}
 use borrow.Author.Rules.{rules}
 use Prim.Native.Nat.{◌*◌}
-use mathlib.Core.Path.{◌≡◌, sym, ◌∙◌}
+use mathlib.Core.Path.{◌≡◌, refl, sym, ◌∙◌}
 use native.Mathlib.Omega.{arith}
 use Rattle.consistent.proofs.is_consistent.Goals as goal
 
-known : (d : Rows) (s : Seen) → Passed eight_inch d eight_inch.entries s → Marked eight_inch d s.marks × Indexed eight_inch d s.chain × Labelled d eight_inch.entries s.label
-known d s p = (marks_end eight_inch d s.marks (omega arith) (omega arith) p.blocks, passed_all eight_inch d s p, p.labelled)
+known : (d : Rows) (s : Seen) → Passed eight_inch d eight_inch.entries s → Marked eight_inch d s.marks.now × Indexed eight_inch d s.chain.now × Labelled d eight_inch.entries s.label
+known d s p = (marks_end eight_inch d s.marks.now (omega arith) (omega arith) p.blocks, passed_all eight_inch d s p, p.labelled)
 
 pub loop-d-init : goal.loop-d-init
 loop-d-init c =
     let d = entry_at eight_inch c.args.image.now in let m = c.start_marks in
-    let marks = marks_start eight_inch d c.args.seen.now.marks (search rules) (omega arith) (omega arith) (omega arith) in
-    passed_none eight_inch d _ _ (rw m.ensures marks) (c.start.ensures d)
+    let marks = marks_start eight_inch d c.args.seen.now.marks.now (search rules) (omega arith) (omega arith) (omega arith) in
+    (passed_none eight_inch d _ (rw m.ensures marks) (c.start.ensures d) refl refl, search rules)
 
-pub returns-then-not-take_record : goal.returns-then-not-take_record
+pub returns-then-not-take_record-clause-tells : goal.returns-then-not-take_record-clause-tells
 unfolding consistent
-returns-then-not-take_record c = (sym (c.take_record.ensures.1 c.if-not-take_record.true), λ t. clash (sym t))
+returns-then-not-take_record-clause-tells c = (sym (c.take_record.ensures.takes.1 c.if-not-take_record.true), λ t. clash (sym t))
 
-pub returns-then-seen-eq0 : goal.returns-then-seen-eq0
+pub returns-then-seen-eq0-clause-tells : goal.returns-then-seen-eq0-clause-tells
 unfolding consistent
-returns-then-seen-eq0 c =
+returns-then-seen-eq0-clause-tells c =
     let d = entry_at eight_inch c.args.image.now in let s = c.loop-d.seen in
     let q : entries_per_record * c.loop-d.d ≡ 64 = omega arith in
-    let passed : Passed eight_inch d 64 s = rw q at c.loop-d.invariant in
+    let passed : Passed eight_inch d 64 s = rw q at c.loop-d.invariant.0 in
     let none = c.if-seen-eq0.true in
     (eq-eqb _ _ none ∙ sym (passed_undated eight_inch d eight_sound s passed none), λ t. known d s passed)
 
-pub returns-else-seen-eq0 : goal.returns-else-seen-eq0
+pub returns-else-seen-eq0-clause-tells : goal.returns-else-seen-eq0-clause-tells
 unfolding consistent
-returns-else-seen-eq0 c =
+returns-else-seen-eq0-clause-tells c =
     let d = entry_at eight_inch c.args.image.now in let s = c.loop-d.seen in
     let q : entries_per_record * c.loop-d.d ≡ 64 = omega arith in
-    let passed : Passed eight_inch d 64 s = rw q at c.loop-d.invariant in
+    let passed : Passed eight_inch d 64 s = rw q at c.loop-d.invariant.0 in
     (sym (passed_dated eight_inch d eight_sound s passed c.if-seen-eq0.false), λ t. known d s passed)

@@ -1,4 +1,5 @@
 -- The loop keeps what stands after the entries before row i.
+use Rattle.consistent.specs.Held.{StillLent}
 use Rattle.consistent.specs.Pass.{Passed}
 use Rattle.format.specs.Entries.{entry_at}
 use Rattle.format.specs.Diskette.{eight_inch, entries_per_record}
@@ -6,4 +7,4 @@ use Prim.Native.Nat.{◌+◌, ◌*◌}
 use Rattle.consistent.proofs.take_record.Given as goal
 
 abbrev pub invariant-loop-i : goal.invariant-loop-i
-invariant-loop-i l = Passed eight_inch (entry_at eight_inch l.image) (entries_per_record * l.d + l.i) l.seen
+invariant-loop-i l = Passed eight_inch (entry_at eight_inch l.image) (entries_per_record * l.d + l.i) l.seen × StillLent l.initial.seen l.seen
