@@ -1,5 +1,5 @@
 -- The disk as code holds it, in the words of the definitions.
-use Rattle.std.specs.Prelude.{◌≡◌}
+use Rattle.std.specs.Prelude.{◌≡◌, length}
 use Rattle.format.specs.Diskette.{Bytes}
 use Rattle.model.specs.declared.Answer.{Answer}
 use Rattle.model.specs.Lent.{Outcome, outcome}
@@ -13,10 +13,12 @@ held d = runs.disk_of d.image.now d.map.now d.session
 abbrev pub outcome_on : Disk → Answer → Bytes → Bytes → Outcome
 outcome_on d r fcb buffer = outcome r d.image.now d.map.now fcb buffer
 
--- image and map are those that were lent: who lent them sees what became of them
+-- image and map are those that were lent, each as long as it was: who lent them sees what became of them
 pub record StillLent (before after : Disk) : Type 0 where
   pub image : after.image.ghost_name ≡ before.image.ghost_name
   pub map : after.map.ghost_name ≡ before.map.ghost_name
+  pub image_kept : length after.image.now ≡ length before.image.now
+  pub map_kept : length after.map.now ≡ length before.map.now
 
 -- the session that the call left is the disk's
 pub left_on : (d : Disk) (r : Answer) (fcb buffer : Bytes) → d.session ≡ r.session → held d ≡ runs.left (outcome_on d r fcb buffer)
