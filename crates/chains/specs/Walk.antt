@@ -142,5 +142,5 @@ module _ (G : Geometry) (d : Rows) (user : ℕ) (s : Bytes) (q ext : ℕ) (real 
   pub find_hit_law : (chain : Bytes) (e : ℕ) → Indexed G d chain → e < G.entries → file_test G d user s q ext e ≡ true → find_file_rule G d user s q ext ≡ Some e
   find_hit_law chain e i h t = alone_found G d user real s q ext e h t (i.single e h)
 
-  pub find_end : (f : ℕ) → Sought G d user s q ext f → f ≡ 0 → find_file_rule G d user s q ext ≡ None
-  find_end f w z = no_file_is G d user s q ext (λ g l. w.passed g (omega arith) l)
+  pub find_end : (k f : ℕ) → Walk d (file_test G d user s q ext) k G.entries f → f ≡ 0 → find_file_rule G d user s q ext ≡ None
+  find_end k f w z = no_file_is G d user s q ext (λ g l. w.passed g (omega arith) l)

@@ -45,9 +45,14 @@ then_cond false e = refl
 
 module _ (G : Geometry) (d : Rows) (map : Bytes) (user : ℕ) (fcb : Bytes) where
   -- from the slots taken out and the test of them
-  pub current_by : (e : ℕ) (f : Bool) → fcb_right_rule fcb ≡ true → find_file_rule G d user fcb 1 (extent_of fcb) ≡ Some e
+  pub current_by : (e : ℕ) (es fs : Bytes) (f : Bool) → fcb_right_rule fcb ≡ true → find_file_rule G d user fcb 1 (extent_of fcb) ≡ Some e
+      → es ≡ slots_of (d e) → fs ≡ slots_of fcb → f ≡ slots_fit_rule G map e es fs → cond f (Some e) None ≡ current G d map user fcb
+  current_by e es fs f t q he hf h = rw (h, he, hf) (sym (current_fitting G d map user fcb e t q))
+
+  -- the same, as code answers by the library's method
+  pub current_then : (e : ℕ) (f : Bool) → fcb_right_rule fcb ≡ true → find_file_rule G d user fcb 1 (extent_of fcb) ≡ Some e
       → f ≡ slots_fit_rule G map e (slots_of (d e)) (slots_of fcb) → then_some f e ≡ current G d map user fcb
-  current_by e f t q h = then_cond f e ∙ rw h (sym (current_fitting G d map user fcb e t q))
+  current_then e f t q h = then_cond f e ∙ current_by e _ _ f t q refl refl h
 
   -- the entry of a current FCB is the first of its file
   pub current_file : (e : ℕ) → Current G d map user fcb e → FirstAt (file_test G d user fcb 1 (extent_of fcb)) 0 G.entries e

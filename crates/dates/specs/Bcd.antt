@@ -6,13 +6,13 @@ use Rattle.std.proofs.Common.{◌∙◌, arith}
 use Prim.Native.Nat.{ℕ, zero, suc, ◌+◌, ◌*◌, ◌%◌, ◌≤◌, ◌<◌}
 use Rattle.std.specs.Int.Bits.{bit_and, bit_or, and_le_l, and_le_r, and_zero_r}
 use borrow.Author.Tests.{eqb-true, eq-eqb}
-use Rattle.lists.specs.Cases.{bool_ext, cond_either}
-use Rattle.lists.specs.Tests.{◌and◌, ◌or◌, and_then, agree, agree_same}
+use Rattle.lists.specs.Cases.{bool_ext, refute, not_both, cond_either}
+use Rattle.lists.specs.Tests.{◌and◌, ◌or◌, and_left, and_right, and_both, and_then, agree, agree_same}
 use Rattle.lists.specs.Below.{all_below, all_at, all_intro}
 use Rattle.lists.specs.Bits.{or_zero}
 use Rattle.lanes.specs.Lanes.{lanes, bytes_at, word_at, lanes_and, lanes_zero, zero_lanes}
 use Rattle.format.specs.Diskette.{Bytes}
-use Rattle.format.specs.Dates.{is_dates, bcd, stamp_right, dates_right_rule}
+use Rattle.format.specs.Dates.{is_label, is_dates, bcd, stamp_right, asks_create, asks_access, label_right_rule, dates_right_rule}
 
 -- what is wrong with a number of bytes, where `sixes` has a 6 for each digit that counts and `eights` an 8: 0 where nothing is
 unfoldable pub fault : ℕ → ℕ → ℕ → ℕ
@@ -138,3 +138,14 @@ pub three_tell : (r : Bytes) (a b c : ℕ) → is_dates r ≡ true → eqb a 0 �
 unfolding dates_right_rule all_below ◌and◌
 three_tell r a b c i p q s =
     or_zero (bit_or a b) c ∙ ap (λ (x : Bool). x and eqb c 0) (or_zero a b) ∙ rw (p, q, s) (sym (and_then _ _ i))
+
+-- ---- a label: its own pair, and then what it asks
+module _ (r : Bytes) where
+  pub pair_fails : (stamp_right r 24 and stamp_right r 28) ≡ false → label_right_rule r ≡ false
+  unfolding label_right_rule
+  pair_fails h =
+      sym (refute _ (λ t. let s = and_right _ _ t in not_both _ (and_both _ _ (and_left _ _ s) (and_left _ _ (and_right _ _ s))) h))
+
+  pub asking_decides : is_label r ≡ true → (stamp_right r 24 and stamp_right r 28) ≡ true → label_right_rule r ≡ not (asks_create r and asks_access r)
+  unfolding label_right_rule
+  asking_decides i h = and_then _ _ i ∙ and_then _ _ (and_left _ _ h) ∙ and_then _ _ (and_right _ _ h)

@@ -1,9 +1,10 @@
 -- Laws of the picker's bytes.
-use Rattle.std.specs.Prelude.{◌≡◌, refl, true, false, Bool, ℕ, ◌%◌, ◌≤◌, List, [], ◌∷◌, length, take, set, get_or, eqb}
+use Rattle.std.specs.Prelude.{◌≡◌, refl, true, false, Bool, ℕ, ◌+◌, ◌%◌, ◌≤◌, List, [], ◌∷◌, length, take, set, get_or, eqb}
 use Rattle.std.proofs.Common.{zero-add, sym, ap, ◌∙◌, arith, length-take-le}
 use lib.Pointwise.{pointwise}
 use Rattle.std.specs.List.{list_all, zip, starts_with}
 use Rattle.std.proofs.lemmas.Bool.{eq-eqb, eqb-true}
+use borrow.Author.Tests.{ne_eqb}
 use Rattle.std.proofs.lemmas.List.{get_or-take}
 use Rattle.lists.specs.Cases.{bool_ext}
 use Rattle.lists.specs.Tests.{◌and◌, ◌or◌}
@@ -44,6 +45,16 @@ unfolding stamp_of_rule has_stamp_rule
 stamp_starts year day bytes l = starts_below (stamp_of_rule year day) bytes 9 refl (omega arith)
 
 -- ---- two names, byte by byte
+-- byte i of one name against that of another
+module _ (s r : Bytes) (i : ℕ) where
+  pub like_same : get_or s i 0 % 128 ≡ get_or r i 0 % 128 → byte_like_rule false (get_or s (0 + i) 0) (get_or r (0 + i) 0) ≡ true
+  unfolding byte_like_rule ◌or◌
+  like_same e = simp (zero-add, eq-eqb _ _ e)
+
+  pub like_differs : (get_or s i 0 % 128 ≡ get_or r i 0 % 128 → ⊥) → byte_like_rule false (get_or s (0 + i) 0) (get_or r (0 + i) 0) ≡ false
+  unfolding byte_like_rule ◌or◌ ◌and◌
+  like_differs e = simp (zero-add, ne_eqb _ _ e)
+
 abbrev pub alike : ℕ × ℕ → Bool
 alike z = eqb (z.0 % 128) (z.1 % 128)
 

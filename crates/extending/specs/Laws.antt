@@ -20,7 +20,17 @@ abbrev pub searches : Bool → Disk → Search
 searches found d = record { found = found; disk = d }
 
 module _ (G : Geometry) (t : Time) (w : Wanted) where
-  -- ---- one record looked at: a record that is not there has no year and day
+  -- ---- one record looked at: nothing is read where one was found, and a record that is not there has no year and day
+  pub look_over : (f : Bytes) (s : Search) (r : ℕ) → s.found ≡ true → s ≡ look G t w f s r
+  unfolding look
+  look_over f s r h = rw h
+
+  pub look_reads : (f : Bytes) (s : Search) (r : ℕ) (o : Outcome) → s.found ≡ false → o ≡ outcome_of G s.disk (reading t f r blank)
+      → (b : Bool) → b ≡ (accepted 33 o and has_stamp_rule w.year w.day o.lent.buffer) → record { found = b; disk = left o } ≡ look G t w f s r
+  unfolding look
+  look_reads f s r o h e b q = rw (h, ← e, q)
+
+  -- as code carries it
   pub tells_so : (d : Disk) (f : Bytes) (r : ℕ) (o : Outcome) (e : Disk) → e ≡ left o → o ≡ outcome_of G d (reading t f r blank)
       → (b : Bool) → b ≡ (accepted 33 o and has_stamp_rule w.year w.day o.lent.buffer)
       → searches b e ≡ tells G t w (outcome_of G d (reading t f r blank))

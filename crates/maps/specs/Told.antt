@@ -1,5 +1,5 @@
 -- What the marks of a directory tell of right notes, and what a map without differences from the fresh one is.
-use Rattle.std.specs.Prelude.{◌≡◌, Bool, true, false, not, ℕ, ◌+◌, ◌≤◌, ◌<◌, leb, get_or}
+use Rattle.std.specs.Prelude.{◌≡◌, Bool, true, false, not, cond, ℕ, ◌+◌, ◌≤◌, ◌<◌, leb, get_or}
 use Rattle.std.proofs.Math.Path.{sym, subst}
 use Rattle.std.proofs.Common.{ap, ◌∙◌, arith}
 use Rattle.std.specs.List.{count_by, range_with_len}
@@ -8,7 +8,7 @@ use borrow.Author.Tests.{lt-ltb, le-ltb, le-leb, lt-leb, eq-eqb, ne_eqb, eqb-tru
 use Rattle.lists.specs.Cases.{split, lt_or_le, not_both, refute}
 use Rattle.lists.specs.Tests.{◌and◌, ◌or◌, and_then, and_fails_left}
 use Rattle.lists.specs.Below.{all_below, all_at, all_intro}
-use Rattle.lists.specs.Count.{count_below, count_empty, count_zero}
+use Rattle.lists.specs.Count.{count_below, count_empty, count_next, count_zero}
 use Rattle.format.specs.Diskette.{Bytes, Geometry}
 use Rattle.format.specs.Entries.{Rows}
 use Rattle.facts.specs.Marks.{Marked}
@@ -59,9 +59,14 @@ module _ (G : Geometry) (map marks : Bytes) where
   unfolding differs
   past_differs b h = and_then _ _ (le-leb G.area b h)
 
-  no_area_differs : count_below (differs G map marks) G.area ≡ 0
+  pub no_area_differs : count_below (differs G map marks) G.area ≡ 0
   unfolding differs
   no_area_differs = count_empty (differs G map marks) G.area (λ b h. and_fails_left _ _ (lt-leb G.area b h))
+
+  -- and one by one, the note of a block more
+  pub difference_adds : (b n v : ℕ) → G.area ≤ b → n ≡ count_below (differs G map marks) b → v ≡ cond (not (eqb (note_at_rule map b) (told_note_rule (get_or marks b 0)))) 1 0
+      → n + v ≡ count_below (differs G map marks) (b + 1)
+  difference_adds b n v h q e = sym (count_next (differs G map marks) b ∙ rw (past_differs b h, q, e))
 
   pub untold_counted : (n : ℕ) → G.area + n ≡ G.blocks → count_by untold (range_with_len G.area n) ≡ difference_count G map marks
   unfolding difference_count

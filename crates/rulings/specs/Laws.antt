@@ -7,9 +7,9 @@ use Prim.Native.Nat.{ℕ, ◌≤◌, ◌<◌}
 use Rattle.std.proofs.Math.Dec.{eqb, ltb}
 use borrow.Author.Tests.{eq-eqb, ne_eqb, lt-ltb, le-ltb, not-true}
 use Rattle.lists.specs.Cases.{split, bool_cases, not_both}
-use Rattle.lists.specs.Tests.{and_right, and_fails_left, and_fails_right, and_both}
+use Rattle.lists.specs.Tests.{and_right, and_fails_left, and_fails_right, and_both, or_left, or_then}
 use Rattle.format.specs.Diskette.{Bytes, Geometry, extents}
-use Rattle.format.specs.Entries.{Rows, run_of, find_empty_rule}
+use Rattle.format.specs.Entries.{Rows, run_of, read_only, find_empty_rule}
 use Rattle.format.specs.Notes.{find_free}
 use Rattle.format.specs.Fcb.{current}
 use Rattle.facts.specs.Found.{found_cases, found_row, missed_row}
@@ -20,7 +20,7 @@ use Rattle.model.specs.declared.Code.TheVariants.{BadRecord, NotCurrent, ReadOnl
 use Rattle.model.specs.declared.Plan.{Plan}
 use Rattle.model.specs.declared.Plan.TheVariants.{Make}
 use Rattle.model.specs.Lent.{Lent, rows_of}
-use Rattle.model.specs.Target.{target_extent, target_record, target_slot, present_entry, stays, within, target_entry, block_there, count_there, record_there, target_block, read_only_there, plan_from, plan}
+use Rattle.model.specs.Target.{target_extent, target_record, target_slot, present_entry, stays, within, target_entry, block_there, count_there, record_there, target_block, read_only_in, read_only_there, plan_from, plan}
 use Rattle.model.specs.declared.Kind.TheVariants.{Write}
 use Rattle.model.specs.Kinds.{kind_of, same}
 use Rattle.model.specs.Table.{Row, when, first_row}
@@ -218,3 +218,12 @@ module _ (G : Geometry) (d : Rows) (fcb : Bytes) (e t j r : ℕ) where
       ap Ok (is ∙ ap (go_to_rule e t) s)
       ∙ sym (ap (λ (b : Bool). cond b (Ok (go_to_rule e t (arrived_slot_rule G d fcb e t j))) (Err NoRecord))
       (and_both _ _ y (ap not (ne_eqb _ _ (λ z. real (s ∙ z))))))
+
+module _ (d : Rows) (e : ℕ) (target : Option ℕ) where
+  pub guarded_here : read_only (d e) ≡ true → guarded d e target ≡ true
+  unfolding guarded
+  guarded_here h = or_left _ _ h
+
+  pub guarded_there : (r : Option ℕ) → read_only (d e) ≡ false → target ≡ r → guarded d e target ≡ read_only_in d r
+  unfolding guarded
+  guarded_there r h q = or_then _ _ h ∙ ap (read_only_in d) q

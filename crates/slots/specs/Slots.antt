@@ -3,13 +3,13 @@ use Rattle.std.specs.Prelude.{◌≡◌, Bool, true, ℕ, ◌+◌, ◌≤◌, �
 use Rattle.std.proofs.Math.Path.{sym}
 use Rattle.std.proofs.Common.{ap, ◌∙◌, arith}
 use Rattle.std.proofs.Math.ListN.{get_or-eq_default}
-use borrow.Author.Tests.{eqb-true, eq-eqb}
+use borrow.Author.Tests.{eqb-true, eq-eqb, ne_eqb}
 use Rattle.lists.specs.Cases.{split, lt_or_le}
-use Rattle.lists.specs.Tests.{and_left, and_right, and_both, or_left, or_right, or_cases}
+use Rattle.lists.specs.Tests.{and_left, and_right, and_both, and_then, or_then, or_left, or_right, or_cases}
 use Rattle.lists.specs.Below.{all_below, all_at, all_intro, all_next}
 use Rattle.std.specs.Int.Bits.{bit_or, bit_xor}
 use Rattle.lists.specs.Bits.{or_zero, xor_zero}
-use Rattle.format.specs.Diskette.{Bytes, Geometry, slot_bytes, slot_count}
+use Rattle.format.specs.Diskette.{Bytes, Geometry, slot_bytes, slot_count, eight_inch}
 use Rattle.format.specs.Entries.{slots_of, slot_in, slot_of}
 use Rattle.format.specs.Notes.{pending_for, note_at_rule}
 use Rattle.format.specs.Fcb.{slot_fits_rule, slots_fit_rule}
@@ -42,6 +42,13 @@ module _ (G : Geometry) (map : Bytes) (e : ℕ) (r fcb : Bytes) where
   pub slots_are : ((j : ℕ) → j < slot_count → SlotOk G map e r fcb j) → slots_fit_rule G map e (slots_of r) (slots_of fcb) ≡ true
   unfolding slots_fit_rule
   slots_are f = all_intro (slot_fits_rule G map e (slots_of r) (slots_of fcb)) slot_count (λ j h. slot_is j (f j h))
+
+-- on the 8-inch disk, slots that differ, where the entry's is 0: the note of the FCB's block decides
+pub slot_by_note : (map es fs : Bytes) (e j b n p : ℕ) → (get_or fs j 0 ≡ get_or es j 0 → ⊥) → get_or es j 0 ≡ 0
+    → b ≡ get_or fs j 0 → n ≡ note_at_rule map b → p ≡ pending_for e j → eqb n p ≡ slot_fits_rule eight_inch map e es fs j
+unfolding slot_fits_rule slot_in
+slot_by_note map es fs e j b n p x z hb hn hp =
+    rw (hn, hp, hb) (sym (or_then _ _ (ne_eqb _ _ x) ∙ and_then _ _ (eq-eqb _ _ z)))
 
 -- ---- the usual case: the slots of the FCB are the entry's, byte by byte
 unfoldable pub slots_same_rule : Bytes → Bytes → Bool

@@ -38,4 +38,4 @@ loop-next-preserved c =
 pub returns : goal.returns
 returns c =
     let a = c.args in let d = entry_at eight_inch a.image.now in
-    sym (find_end eight_inch d a.user a.s.now a.q a.ext c.requires.2 (past c.loop-next.next) c.loop-next.invariant (ap past c.in_default.is))
+    sym (find_end eight_inch d a.user a.s.now a.q a.ext c.requires.2 _ (past c.loop-next.next) c.loop-next.invariant (ap past c.in_default.is))

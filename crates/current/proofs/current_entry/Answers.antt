@@ -7,7 +7,7 @@ use Rattle.facts.specs.Current.{current_wrong, current_missing}
 use Rattle.facts.specs.Slots.{short_slots_of}
 use Rattle.slots.specs.Slots.{same_slots_fit}
 use Rattle.facts.specs.Find.{file_says}
-use Rattle.current.specs.Current.{current_by}
+use Rattle.current.specs.Current.{current_then}
 use Rattle.current.proofs.current_entry.Goals.{then-slots_own, else-slots_own}
 use Rattle.current.proofs.current_entry.Goals as goal
 
@@ -44,5 +44,5 @@ returns c =
     ]
     in
     c.then_some.ensures
-    ∙ current_by eight_inch d m c.args.user fcb e c.if-slots_own.fits (sym c.if-not-fcb_right.ensures)
+    ∙ current_then eight_inch d m c.args.user fcb e c.if-slots_own.fits (sym c.if-not-fcb_right.ensures)
     (sym (rw c.extent.ensures.0 at c.in-Some.ensures)) fits
