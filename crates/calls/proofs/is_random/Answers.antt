@@ -1,20 +1,29 @@
--- The two numbers, and those around them.
-use mathlib.Core.Path.{refl}
-use native.Mathlib.Omega.{arith}
-use Rattle.lists.specs.Tests.{◌and◌}
-use Rattle.lists.specs.Below.{all_below}
-use Rattle.model.specs.Kinds.{is_random_rule}
-use Rattle.calls.specs.Between.{all_say, none_say}
+-- Each arm is what its number's line says; no other line says so.
+use mathlib.Core.Path.{◌≡◌, refl, sym}
+use mathlib.Core.Bool.{false, not}
+use mathlib.Core.List.{List, [], ◌∷◌}
+use Prim.Native.Nat.{ℕ}
+use borrow.Author.Tests.{not-true}
+use Rattle.model.specs.Kinds.{Listed, calls, line_in, is_random_rule}
+use Rattle.calls.specs.Arms.{at, None, rest}
 use Rattle.calls.proofs.is_random.Goals as goal
 
-pub returns-in_default : goal.returns-in_default
-unfolding all_below ◌and◌ is_random_rule
-returns-in_default c = none_say is_random_rule 0 33 c.args.number (omega arith) (omega arith) refl
+abbrev numbers : List ℕ
+numbers = 33 ∷ 34 ∷ []
+
+arm : {n k : ℕ} → n ≡ k → (line_in k calls).random ≡ is_random_rule n
+unfolding is_random_rule
+arm q = at (λ (c : Listed). c.random) q
+
+others : (told : Type 0) (n : ℕ) → None told n numbers → false ≡ is_random_rule n
+unfolding is_random_rule
+others told n x = sym (not-true _ (rest (λ (c : Listed). not c.random) told n numbers refl refl x))
 
 pub returns-in-33 : goal.returns-in-33
-unfolding all_below ◌and◌ is_random_rule
-returns-in-33 c = all_say is_random_rule 33 2 c.args.number (omega arith) (omega arith) refl
+returns-in-33 c = arm c.in-33.is
 
-pub returns-in_default-2 : goal.returns-in_default-2
-unfolding all_below ◌and◌ is_random_rule
-returns-in_default-2 c = none_say is_random_rule 35 221 c.args.number (omega arith) (omega arith) refl
+pub returns-in-34 : goal.returns-in-34
+returns-in-34 c = arm c.in-34.is
+
+pub returns-in_default : goal.returns-in_default
+returns-in_default c = others _ _ c.in_default.in_default-own.rest

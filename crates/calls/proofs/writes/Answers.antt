@@ -6,8 +6,6 @@ use Prim.Native.Nat.{ℕ}
 use borrow.Author.Tests.{not-true}
 use Rattle.model.specs.Kinds.{Listed, calls, line_in, kind_of, same}
 use Rattle.model.specs.declared.Kind.TheVariants.{Write}
-use Rattle.std.proofs.Common.{inl, inr}
-use Rattle.lists.specs.Cases.{split}
 use Rattle.calls.specs.Arms.{at, None, rest}
 use Rattle.calls.proofs.writes.Goals as goal
 
@@ -23,7 +21,10 @@ unfolding kind_of
 others told n x = sym (not-true _ (rest (λ (c : Listed). not (same c.kind Write)) told n numbers refl refl x))
 
 pub returns-in-21 : goal.returns-in-21
-returns-in-21 c = split c.in-21.is (λ q. arm q) (λ q. arm q)
+returns-in-21 c = arm c.in-21.is
+
+pub returns-in-34 : goal.returns-in-34
+returns-in-34 c = arm c.in-34.is
 
 pub returns-in_default : goal.returns-in_default
-returns-in_default c = let none = c.in_default.in_default-own.rest.1 in others (Unit {0}) _ ((tt, λ q. none (inl q)), λ q. none (inr q))
+returns-in_default c = others _ _ c.in_default.in_default-own.rest
