@@ -1,3 +1,2 @@
 pub mod Apart
 pub mod Arms
-pub mod Between
